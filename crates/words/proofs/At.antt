@@ -1,0 +1,89 @@
+-- Bits as readings: what `|`, `&`, `!` and a single bit hold at a place, what makes a `Means`, and that a reading has one word.
+-- Assumes nothing.
+use mathlib.Core.Path.{_≡_, refl, sym, ap, _∙_, subst}
+use mathlib.Core.Logic.{_↔_, _⊎_, inl, inr}
+use Prim.Native.Nat.{ℕ, zero, suc, _+_, _-_, _*_, _/_, _%_, _^_, _≤_, _<_, min, max}
+use native.Mathlib.Nat.{lt-of-not-le, lt-of-lt-of-le, lt-suc-self}
+use native.Mathlib.Omega.{arith}
+use lib.Bits.{bitAnd, bitOr}
+use lib.Pow.{ones-lt, pow-lt, pow-mono}
+use Rattle.words.specs.Ltlf.{Reading}
+use Rattle.words.specs.Word.{bit, At, Wf, Means}
+use Rattle.words.proofs.Bits.{bit-lt, bit-shr, bit-and, bit-or, bit-not, bit-high, bit-ones, bit-one-below, bits-ext, clear-lt}
+
+-- a bit is set or not
+pub at-or-not : (x i : ℕ) → At x i ⊎ (At x i → ⊥)
+at-or-not x i = go (bit x i) refl
+  where
+    go : (b : ℕ) → bit x i ≡ b → At x i ⊎ (At x i → ⊥)
+    go zero e = inr (λ h. omega arith)
+    go (suc b) e = inl (omega (arith, bit-lt x i))
+
+pub not-at : (x i : ℕ) → (At x i → ⊥) → bit x i ≡ 0
+not-at x i h = omega (arith, bit-lt x i)
+
+pub at-or : (a b i : ℕ) → At (bitOr a b) i → At a i ⊎ At b i
+at-or a b i h = go (at-or-not a i)
+  where
+    go : At a i ⊎ (At a i → ⊥) → At a i ⊎ At b i
+    go (inl p) = inl p
+    go (inr p) = inr (omega (arith, bit-or a b i, bit-lt a i, bit-lt b i))
+
+pub or-left : (a b i : ℕ) → At a i → At (bitOr a b) i
+or-left a b i h = omega (arith, bit-or a b i, bit-lt b i)
+
+pub or-right : (a b i : ℕ) → At b i → At (bitOr a b) i
+or-right a b i h = omega (arith, bit-or a b i, bit-lt a i)
+
+pub at-and : (a b i : ℕ) → At (bitAnd a b) i → At a i × At b i
+at-and a b i h = omega (arith, bit-and a b i, bit-lt a i, bit-lt b i)
+
+pub and-at : (a b i : ℕ) → At a i → At b i → At (bitAnd a b) i
+and-at a b i h k = omega (arith, bit-and a b i)
+
+pub at-not : (m a i : ℕ) → i < m → a < 2 ^ m → At ((2 ^ m - 1) - a) i ↔ (At a i → ⊥)
+at-not m a i h l = (λ p q. omega (arith, bit-not m i a h l), λ p. omega (arith, bit-not m i a h l, bit-lt a i))
+
+pub at-one : (k i : ℕ) → At (2 ^ k) i → i ≡ k
+at-one k i h =
+    let low : k < suc i = lt-of-not-le λ g. omega (arith, bit-one-below k i g) in
+    let high : i < suc k = lt-of-not-le λ g. omega (arith, bit-high (suc k) (2 ^ k) i (pow-lt (lt-suc-self k)) g) in
+    omega arith
+
+-- a set bit stands below the length
+pub at-below : {n x : ℕ} → Wf n x → (i : ℕ) → At x i → i < n
+at-below w i h = lt-of-not-le λ g. omega (arith, w .clear i g)
+
+-- a well-formed word of n snapshots is below 2 ^ n
+pub wf-lt : {n x : ℕ} → Wf n x → x < 2 ^ n
+wf-lt {n} {x} w = clear-lt n x (w .clear)
+
+pub lt-wf : {n x : ℕ} → n ≤ 64 → x < 2 ^ n → Wf n x
+lt-wf {n} {x} s h = record { short = s; clear = λ i g. bit-high n x i h g }
+
+pub wf-word : {n x : ℕ} → Wf n x → x < 2 ^ 64
+wf-word w = lt-of-lt-of-le (wf-lt w) (pow-mono (w .short))
+
+pub means : {n r : ℕ} {f : Reading} → n ≤ 64 → ((i : ℕ) → At r i → (i < n) × f i) → ((i : ℕ) → i < n → f i → At r i) → Means n r f
+means {n} {r} s to from = record {
+  wf = record { short = s; clear = λ i h. not-at r i (λ p. let t = to i p in omega arith) };
+  holds = λ i h. (λ p. to i p .1, from i h);
+}
+
+-- a word masked to n bits
+pub masked : {n : ℕ} {f : Reading} (w : ℕ) → n ≤ 64 → ((i : ℕ) → i < n → At w i ↔ f i) → Means n (bitAnd w (2 ^ n - 1)) f
+masked {n} {f} w s e = means s (λ i h. to i (at-and w (2 ^ n - 1) i h)) (λ i h p. and-at w (2 ^ n - 1) i (e i h .1 p) (bit-ones n i h))
+  where
+    to : (i : ℕ) → At w i × At (2 ^ n - 1) i → (i < n) × f i
+    to i p =
+        let l : i < n = lt-of-not-le λ g. omega (arith, bit-high n (2 ^ n - 1) i (ones-lt n) g) in
+        (l, e i l .0 (p .0))
+
+-- a reading has one word
+pub means-unique : {n a b : ℕ} {f : Reading} → Means n a f → Means n b f → a ≡ b
+means-unique {n} {a} {b} p q =
+    bits-ext n a b (wf-lt (p .wf)) (wf-lt (q .wf)) (λ i h. same i h (at-or-not a i))
+  where
+    same : (i : ℕ) → i < n → At a i ⊎ (At a i → ⊥) → bit a i ≡ bit b i
+    same i h (inl t) = t ∙ sym (q .holds i h .1 (p .holds i h .0 t))
+    same i h (inr t) = not-at a i t ∙ sym (not-at b i (λ u. t (p .holds i h .1 (q .holds i h .0 u))))

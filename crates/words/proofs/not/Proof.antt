@@ -1,0 +1,12 @@
+-- `words::not` meets its contract.
+-- Assumes nothing.
+use native.Mathlib.Omega.{arith}
+use Rattle.words.proofs.Operators.{wide, not-means}
+use Rattle.words.proofs.not.Statement.{statement}
+use Rattle.words.proofs.not.Tie as tie
+
+returns : tie.Need-returns
+returns c = not-means (wide (omega arith)) (wide (omega arith))
+
+pub not-spec : {M : Type 1} → statement M
+not-spec = tie.close (tie.spec returns)

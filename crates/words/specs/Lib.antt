@@ -1,0 +1,3 @@
+-- What a reader must believe of words: the reading of LTL on finite traces, and a word as a row of bits.
+pub mod Ltlf
+pub mod Word

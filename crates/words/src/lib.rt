@@ -1,0 +1,92 @@
+// The operators of cs.rs on bare words. A word has no length to get wrong, so nothing here refuses: the operators that have to know where a
+// session ends are handed the mask of its snapshots. Each contract is a reading at all 64 positions, for any words and any mask.
+ghost use Prim.Native.Nat.{_<_};
+ghost use Rattle.words.specs.Ltlf.{Not, Or, And, Implies, Equiv, StrongNext, Finally, Globally, Until, Release};
+ghost use Rattle.words.specs.Word.{width, At, Means};
+
+pub fn or(x: u64, y: u64) -> u64
+    ensures { λ r. ⌜ Means width r (Or (At x) (At y)) ⌝ }
+{
+    x | y
+}
+
+pub fn and(x: u64, y: u64) -> u64
+    ensures { λ r. ⌜ Means width r (And (At x) (At y)) ⌝ }
+{
+    x & y
+}
+
+pub fn not(x: u64, mask: u64) -> u64
+    ensures { λ r. ⌜ Means width r (And (At mask) (Not (At x))) ⌝ }
+{
+    !x & mask
+}
+
+pub fn implies(x: u64, y: u64, mask: u64) -> u64
+    ensures { λ r. ⌜ Means width r (And (At mask) (Implies (At x) (At y))) ⌝ }
+{
+    (!x | y) & mask
+}
+
+pub fn equiv(x: u64, y: u64, mask: u64) -> u64
+    ensures { λ r. ⌜ Means width r (And (At mask) (Equiv (At x) (At y))) ⌝ }
+{
+    !(x ^ y) & mask
+}
+
+pub fn strong_next(x: u64) -> u64
+    ensures { λ r. ⌜ Means width r (StrongNext width (At x)) ⌝ }
+{
+    x >> 1
+}
+
+// Where the mask goes on at the next place, x has to hold there. So no bit is built by a shift of the length less one.
+pub fn weak_next(x: u64, mask: u64) -> u64
+    ensures { λ r. ⌜ Means width r (And (At mask) (Implies (StrongNext width (At mask)) (StrongNext width (At x)))) ⌝ }
+{
+    (!(mask >> 1) | (x >> 1)) & mask
+}
+
+pub fn finally(x: u64) -> u64
+    ensures { λ r. ⌜ Means width r (Finally width (At x)) ⌝ }
+{
+    let mut x = x;
+    x |= x >> 1;
+    x |= x >> 2;
+    x |= x >> 4;
+    x |= x >> 8;
+    x |= x >> 16;
+    x |= x >> 32;
+    x
+}
+
+pub fn globally(x: u64, mask: u64) -> u64
+    ensures { λ r. ⌜ Means width r (And (At mask) (Globally width (Implies (At mask) (At x)))) ⌝ }
+{
+    not(finally(not(x, mask)), mask)
+}
+
+pub fn until(x: u64, y: u64) -> u64
+    ensures { λ r. ⌜ Means width r (Until width (At x) (At y)) ⌝ }
+{
+    let mut x = x;
+    let mut y = y;
+    y |= x & (y >> 1);
+    x &= x >> 1;
+    y |= x & (y >> 2);
+    x &= x >> 2;
+    y |= x & (y >> 4);
+    x &= x >> 4;
+    y |= x & (y >> 8);
+    x &= x >> 8;
+    y |= x & (y >> 16);
+    x &= x >> 16;
+    y |= x & (y >> 32);
+    y
+}
+
+pub fn release(x: u64, y: u64, mask: u64) -> u64
+    ensures { λ r. ⌜ Means width r (And (At mask) (Release width (Implies (At mask) (At x)) (Implies (At mask) (At y)))) ⌝ }
+{
+    not(until(not(x, mask), not(y, mask)), mask)
+}
