@@ -1,0 +1,4 @@
+-- What a reader must believe of sequences and operators.
+pub mod Operators
+pub mod Refusals
+pub mod Sequence

@@ -1,0 +1,76 @@
+-- What the contracts say of a `CharSeq`, and the rows of the refusal table that operators give.
+-- Assumes nothing.
+use mathlib.Core.Path.{_≡_}
+use mathlib.Core.List.{List, [], _∷_, _++_}
+use Prim.Native.Nat.{ℕ, _<_, _≤_}
+use Rattle.words.specs.Ltlf.{Reading}
+use Rattle.words.specs.Word.{width, At, Wf, Means}
+use Rattle.sequence.specs.declared.CharSeq.{CharSeq}
+use Rattle.sequence.specs.declared.Answer.{Answer}
+use Rattle.sequence.specs.declared.Answer.the-variants.{Sequence, Refused}
+use Rattle.sequence.specs.Operators.{Unary, Binary, unaryCode, binaryCode, unaryReading, binaryReading}
+use Rattle.sequence.specs.Refusals.{Row, Decided}
+
+-- "A sequence is a length n and a 64-bit word"; "It is well formed if n is at most 64 and no bit at or above n is set"
+abbrev pub WellFormed : CharSeq → Type 0
+WellFormed s = Wf (s .length) (s .values)
+
+-- "A session accepts a formula if n > 0 and the formula holds at 0."
+abbrev pub Accepts : CharSeq → Type 0
+Accepts s = (0 < s .length) × At (s .values) 0
+
+-- r is the characteristic sequence of f at length n
+pub record Denotes (n : ℕ) (f : Reading) (r : CharSeq) : Type 0 where
+  pub length : r .length ≡ n
+  pub means : Means n (r .values) f
+
+-- ---- the rows
+
+-- "4: a length above 64"
+abbrev pub tooLong : CharSeq → Row
+tooLong s = record { number = 4; given = width < s .length }
+
+-- "5: a bit set at or above the length"
+abbrev pub bitAbove : CharSeq → Row
+bitAbove s = record { number = 5; given = (i : ℕ) × (s .length ≤ i) × At (s .values) i }
+
+-- "7: code not in its group (unary 0-4, binary 5-10)"
+abbrev pub notUnary : ℕ → Row
+notUnary code = record { number = 7; given = ((op : Unary) → unaryCode op ≡ code → ⊥) }
+
+abbrev pub notBinary : ℕ → Row
+notBinary code = record { number = 7; given = ((op : Binary) → binaryCode op ≡ code → ⊥) }
+
+-- "10: two sequences of unequal length"
+abbrev pub unequal : CharSeq → CharSeq → Row
+unequal s t = record { number = 10; given = (s .length ≡ t .length → ⊥) }
+
+-- the constructor: 4, then 5
+abbrev pub illFormed : CharSeq → List Row
+illFormed s = tooLong s ∷ bitAbove s ∷ []
+
+-- "at operators 7 first, then 4, 5 of the left, 4, 5 of the right, 10"
+abbrev pub unaryRows : ℕ → CharSeq → List Row
+unaryRows code s = notUnary code ∷ illFormed s
+
+abbrev pub binaryRows : ℕ → CharSeq → CharSeq → List Row
+binaryRows code s t = notBinary code ∷ (illFormed s ++ (illFormed t ++ (unequal s t ∷ [])))
+
+-- ---- the answers
+
+-- an answer by the rows, and where none is given a sequence as it is asked
+abbrev pub Answers : List Row → (CharSeq → Type 0) → Answer → Type 0
+Answers rows asked (Sequence s) = Decided rows 0 × asked s
+Answers rows asked (Refused k) = (0 < k) × Decided rows k
+
+-- the sequence of that length and word
+abbrev pub NewAnswer : ℕ → ℕ → Answer → Type 0
+NewAnswer n x a = Answers (illFormed (record { length = n; values = x })) (λ r. (r .length ≡ n) × (r .values ≡ x)) a
+
+-- the operator with that code, read on the sequence
+abbrev pub UnaryAnswer : ℕ → CharSeq → Answer → Type 0
+UnaryAnswer code s a = Answers (unaryRows code s) (λ r. (op : Unary) × (unaryCode op ≡ code) × Denotes (s .length) (unaryReading op (s .length) (At (s .values))) r) a
+
+abbrev pub BinaryAnswer : ℕ → CharSeq → CharSeq → Answer → Type 0
+BinaryAnswer code s t a =
+    Answers (binaryRows code s t) (λ r. (op : Binary) × (binaryCode op ≡ code) × Denotes (s .length) (binaryReading op (s .length) (At (s .values)) (At (t .values))) r) a
