@@ -1,5 +1,6 @@
 // Reads lines of a letter, a space and a file in hex, and writes what the session file reader makes of each. The letter says how much room is lent:
-// s, 3 marks, 3 lengths, 4 words, 6 unary and 7 binary codes, all 99 before, and written out after; l, room for the largest file.
+// s, 3 marks, 3 lengths, 4 words, 6 unary and 7 binary codes, all 99 before, and written out after; m, n, w, u, b, as much but for 1 mark, 1 length,
+// 1 word, 4 unary or 5 binary codes; l, room for the largest file.
 // A line that starts with # is copied.
 use session::file::ReadAnswer;
 ghost use mathlib.Core.Path.{_≡_};
@@ -94,13 +95,22 @@ fn show_words(list: &[u64]) {
     }
 }
 
-fn small(file: &[u8]) {
+fn small(file: &[u8], a: usize, b: usize, c: usize, d: usize, e: usize)
+    requires { ⌜ (a ≤ 3) × (b ≤ 3) × (c ≤ 4) × (d ≤ 6) × (e ≤ 7) ⌝ }
+{
     let mut marks = [99u8; 3];
     let mut lengths = [99u8; 3];
     let mut words = [99u64; 4];
     let mut unary = [99u8; 6];
     let mut binary = [99u8; 7];
-    let answer = session::file::read(file, &mut marks, &mut lengths, &mut words, &mut unary, &mut binary);
+    let answer = session::file::read(
+        file,
+        &mut marks[..a],
+        &mut lengths[..b],
+        &mut words[..c],
+        &mut unary[..d],
+        &mut binary[..e],
+    );
     show(answer);
     show_bytes(&marks);
     show_bytes(&lengths);
@@ -116,7 +126,14 @@ fn large(file: &[u8]) {
     let mut words = [99u64; 512];
     let mut unary = [99u8; 5];
     let mut binary = [99u8; 6];
-    let answer = session::file::read(file, &mut marks, &mut lengths, &mut words, &mut unary, &mut binary);
+    let answer = session::file::read(
+        file,
+        &mut marks,
+        &mut lengths,
+        &mut words,
+        &mut unary,
+        &mut binary,
+    );
     show(answer);
     io::write_all(1, b"\n");
 }
@@ -132,10 +149,14 @@ fn answer_line(line: &[u8]) {
     }
     let mut file = [0u8; 4500];
     let n = decode(&line[2..], &mut file);
-    if line[0] == b's' {
-        small(&file[..n]);
-    } else {
-        large(&file[..n]);
+    match line[0] {
+        b's' => small(&file[..n], 3, 3, 4, 6, 7),
+        b'm' => small(&file[..n], 1, 3, 4, 6, 7),
+        b'n' => small(&file[..n], 3, 1, 4, 6, 7),
+        b'w' => small(&file[..n], 3, 3, 1, 6, 7),
+        b'u' => small(&file[..n], 3, 3, 4, 4, 7),
+        b'b' => small(&file[..n], 3, 3, 4, 6, 5),
+        _ => large(&file[..n]),
     }
 }
 

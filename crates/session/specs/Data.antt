@@ -28,7 +28,7 @@ module _ (r m : ℕ) where
     abbrev pub bitAbove : Row
     bitAbove = record {
       number = 5;
-      given = (i : ℕ) × (i < r) × (p : ℕ) × (p < m) × (b : ℕ) × (getD lengths i 0 ≤ b) × At (getD words (i * m + p) 0) b
+      given = (i : ℕ) × (i < r) × (p : ℕ) × (p < m) × (b : ℕ) × (getD lengths i 0 ≤ b) × At (getD words (i * m + p) 0) b;
     }
 
     -- "6: a mark other than 0 or 1"

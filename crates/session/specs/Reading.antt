@@ -93,15 +93,15 @@ handedOut p l =
       answer = record {
         number = 0;
         values = length (p .sessions)
-          ∷ length (p .names)
-          ∷ length (section nameBytes (p .names))
-          ∷ length (p .unary)
-          ∷ length (p .binary)
-          ∷ p .constants
-          ∷ p .bound
-          ∷ []
+            ∷ length (p .names)
+            ∷ length (section nameBytes (p .names))
+            ∷ length (p .unary)
+            ∷ length (p .binary)
+            ∷ p .constants
+            ∷ p .bound
+            ∷ [];
       };
-      left = lent (over (marksOf p) (l .marks)) (over (lengthsOf p) (l .lengths)) (over (wordsOf p) (l .words)) (over (p .unary) (l .unary)) (over (p .binary) (l .binary))
+      left = lent (over (marksOf p) (l .marks)) (over (lengthsOf p) (l .lengths)) (over (wordsOf p) (l .words)) (over (p .unary) (l .unary)) (over (p .binary) (l .binary));
     }
 
 -- "The reader answers 8 before 3"; "A refusal .. writes nothing"

@@ -25,7 +25,10 @@ pub(crate) fn byte_within(file: &[u8], at: usize, lo: usize, hi: usize) -> Step
     if hi < b {
         return Step::Broken(at);
     }
-    Step::Read { value: b, next: at + 1 }
+    Step::Read {
+        value: b,
+        next: at + 1,
+    }
 }
 
 // How many bytes there are from an offset on.

@@ -51,7 +51,10 @@ fn code_at(file: &[u8], from: usize, count: usize, unary: bool) -> Step
         if seen_code(file, from, count, c) {
             return Step::Broken(at);
         }
-        return Step::Read { value: c as usize, next: at + 1 };
+        return Step::Read {
+            value: c as usize,
+            next: at + 1,
+        };
     }
     Step::Broken(at)
 }
@@ -73,7 +76,10 @@ fn codes_from(file: &[u8], from: usize, count: usize, unary: bool) -> Step
             }
         }
     }
-    Step::Read { value: count, next: from + i }
+    Step::Read {
+        value: count,
+        next: from + i,
+    }
 }
 
 pub(crate) fn codes_section(file: &[u8], at: usize, unary: bool) -> Step

@@ -47,7 +47,10 @@ fn tail_at(file: &[u8], at: usize) -> Tail
                     match bound {
                         Step::Read { value: _, next } => {
                             if next == file.len() {
-                                Tail::Read { constants: file[a], bound: file[b] }
+                                Tail::Read {
+                                    constants: file[a],
+                                    bound: file[b],
+                                }
                             } else {
                                 Tail::Broken(next)
                             }

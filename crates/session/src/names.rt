@@ -71,7 +71,10 @@ fn letter_at(file: &[u8], at: usize, i: usize) -> Step
     }
     let b = file[at];
     if fits_name(i, b) {
-        Step::Read { value: b as usize, next: at + 1 }
+        Step::Read {
+            value: b as usize,
+            next: at + 1,
+        }
     } else {
         Step::Broken(at)
     }
@@ -143,11 +146,17 @@ fn name_at(file: &[u8], at: usize, count: usize) -> Step
         Step::Read { value: n, next } => {
             let s = letters_from(file, next, n);
             match s {
-                Step::Read { value: _, next: end } => {
+                Step::Read {
+                    value: _,
+                    next: end,
+                } => {
                     if known_name(file, next, n, count) {
                         return Step::Broken(at);
                     }
-                    Step::Read { value: n, next: end }
+                    Step::Read {
+                        value: n,
+                        next: end,
+                    }
                 }
                 Step::Broken(o) => Step::Broken(o),
             }
@@ -175,7 +184,10 @@ fn names_from(file: &[u8], count: usize) -> Step
         }
         i += 1;
     }
-    Step::Read { value: count, next: p }
+    Step::Read {
+        value: count,
+        next: p,
+    }
 }
 
 // The names section at the start of a file: at most so many names.

@@ -31,7 +31,10 @@ fn word_step(file: &[u8], at: usize, n: usize) -> Step
     }
     let w = word_at(file, at);
     if is_clear(n, w) {
-        Step::Read { value: 0, next: at + 8 }
+        Step::Read {
+            value: 0,
+            next: at + 8,
+        }
     } else {
         Step::Broken(at)
     }
@@ -93,7 +96,10 @@ fn sessions_from(file: &[u8], at: usize, m: usize, count: usize) -> Step
         }
         i += 1;
     }
-    Step::Read { value: count, next: p }
+    Step::Read {
+        value: count,
+        next: p,
+    }
 }
 
 pub(crate) fn sessions_section(file: &[u8], at: usize, m: usize) -> Step
