@@ -65,21 +65,20 @@ fn codes_from(file: &[u8], from: usize, count: usize, unary: bool) -> Step
     ensures { λ r. ⌜ r ≡ stepOf length (each (code (groupOf unary)) count [] (now (file .entry)) from) ⌝ }
 {
     let mut i: usize = 0;
+    let mut p = from;
     while i < count {
         let s = code_at(file, from, i, unary);
         match s {
-            Step::Read { value: _, next: _ } => {
-                i += 1;
+            Step::Read { value: _, next } => {
+                p = next;
             }
             Step::Broken(o) => {
                 return Step::Broken(o);
             }
         }
+        i += 1;
     }
-    Step::Read {
-        value: count,
-        next: from + i,
-    }
+    Step::Read { value: count, next: p }
 }
 
 pub(crate) fn codes_section(file: &[u8], at: usize, unary: bool) -> Step
