@@ -68,9 +68,15 @@ abbrev pub NewAnswer : ℕ → ℕ → Answer → Type 0
 NewAnswer n x a = Answers (illFormed (record { length = n; values = x })) (λ r. (r .length ≡ n) × (r .values ≡ x)) a
 
 -- the operator with that code, read on the sequence
+abbrev pub UnaryRead : ℕ → CharSeq → CharSeq → Type 0
+UnaryRead code s r = (op : Unary) × (unaryCode op ≡ code) × Denotes (s .length) (unaryReading op (s .length) (At (s .values))) r
+
 abbrev pub UnaryAnswer : ℕ → CharSeq → Answer → Type 0
-UnaryAnswer code s a = Answers (unaryRows code s) (λ r. (op : Unary) × (unaryCode op ≡ code) × Denotes (s .length) (unaryReading op (s .length) (At (s .values))) r) a
+UnaryAnswer code s a = Answers (unaryRows code s) (UnaryRead code s) a
+
+-- the operator with that code, read on two sequences
+abbrev pub BinaryRead : ℕ → CharSeq → CharSeq → CharSeq → Type 0
+BinaryRead code s t r = (op : Binary) × (binaryCode op ≡ code) × Denotes (s .length) (binaryReading op (s .length) (At (s .values)) (At (t .values))) r
 
 abbrev pub BinaryAnswer : ℕ → CharSeq → CharSeq → Answer → Type 0
-BinaryAnswer code s t a =
-    Answers (binaryRows code s t) (λ r. (op : Binary) × (binaryCode op ≡ code) × Denotes (s .length) (binaryReading op (s .length) (At (s .values)) (At (t .values))) r) a
+BinaryAnswer code s t a = Answers (binaryRows code s t) (BinaryRead code s t) a
