@@ -1,22 +1,19 @@
--- The operators' rows, decided part by part; what passes them is well formed and of one length; and any two answers allowed for the same
--- input are equal.
+-- The operators' rows, decided part by part, and what passes them: well-formed sequences, and two of one length.
 -- Assumes nothing.
-use mathlib.Core.Path.{_≡_, refl, sym, ap, ap₂, _∙_, subst}
-use mathlib.Core.Logic.{_⊎_, inl, inr}
+use mathlib.Core.Path.{_≡_, refl, sym, subst}
+use mathlib.Core.Logic.{inr}
 use mathlib.Core.List.{List, [], _∷_, _++_}
-use Prim.Native.Nat.{ℕ, zero, suc, _-_, _≤_, _<_}
+use Prim.Native.Nat.{ℕ, _≤_, _<_}
 use native.Mathlib.Decide.{ℕ-discrete}
 use native.Mathlib.Omega.{arith}
 use lib.Dec.{lit<}
-use Rattle.words.specs.Ltlf.{Reading}
-use Rattle.words.specs.Word.{width, At, Wf, Means}
-use Rattle.words.proofs.At.{not-at, means-unique}
+use Rattle.words.specs.Word.{width}
+use Rattle.words.proofs.At.{not-at}
 use Rattle.sequence.specs.declared.CharSeq.{CharSeq}
-use Rattle.sequence.specs.declared.Answer.{Answer}
-use Rattle.sequence.specs.Operators.{Unary, Binary, unaryCode, binaryCode, unaryReading, binaryReading, not, weakNext, strongNext, finally, globally, or, and, until, release, implies, equiv}
+use Rattle.sequence.specs.Operators.{Unary, Binary, unaryCode, binaryCode}
 use Rattle.sequence.specs.Refusals.{Row, Decided, firstOf}
-use Rattle.sequence.specs.Sequence.{WellFormed, Denotes, notUnary, notBinary, unequal, illFormed, unaryRows, binaryRows, NewAnswer, UnaryRead, UnaryAnswer, BinaryRead, BinaryAnswer}
-use Rattle.sequence.proofs.Refusals.{Numbered, decided-both, decided-none, answers-unique}
+use Rattle.sequence.specs.Sequence.{WellFormed, notUnary, notBinary, unequal, illFormed, unaryRows, binaryRows}
+use Rattle.sequence.proofs.Refusals.{Numbered, decided-both, decided-none, decided-not}
 
 -- ---- the rows, part by part
 
@@ -59,71 +56,16 @@ binary-passed code s t d =
     let f = decided-none (unequal s t) [] one (e .1) in
     (a .0, b .0, e .0, elim (ℕ-discrete (s .length) (t .length)) [ yes q ↦ q | no q ↦ absurd (f .0 q) ])
 
--- ---- uniqueness
+-- ---- and back: what is well formed passes
 
--- a sequence is determined by its length and bits
-seq : ℕ → ℕ → CharSeq
-seq n x = record { length = n; values = x }
+passes : (s : CharSeq) (more : List Row) → WellFormed s → Decided more 0 → Decided (illFormed s ++ more) 0
+unfolding Decided
+passes s more w d = inr (λ h. omega (arith, w .short), inr (λ t. omega (arith, w .clear (t .0) (t .1)), d))
 
-same-seq : (s t : CharSeq) → s .length ≡ t .length → s .values ≡ t .values → s ≡ t
-unfolding seq
-same-seq s t p q = ap₂ seq p q
+pub unary-passes : (op : Unary) (s : CharSeq) → WellFormed s → Decided (unaryRows (unaryCode op) s) 0
+unfolding Decided
+unary-passes op s w = inr (λ h. h op refl, passes s [] w refl)
 
-pub denotes-unique : {n : ℕ} {f : Reading} (s t : CharSeq) → Denotes n f s → Denotes n f t → s ≡ t
-denotes-unique s t p q = same-seq s t (p .length ∙ sym (q .length)) (means-unique (p .means) (q .means))
-
--- a code has one operator
-unary-at : ℕ → Unary
-unary-at zero = not
-unary-at (suc zero) = weakNext
-unary-at (suc (suc zero)) = strongNext
-unary-at (suc (suc (suc zero))) = finally
-unary-at (suc (suc (suc (suc k)))) = globally
-
-binary-at : ℕ → Binary
-binary-at zero = or
-binary-at (suc zero) = and
-binary-at (suc (suc zero)) = until
-binary-at (suc (suc (suc zero))) = release
-binary-at (suc (suc (suc (suc zero)))) = implies
-binary-at (suc (suc (suc (suc (suc k))))) = equiv
-
-unary-back : (op : Unary) → unary-at (unaryCode op) ≡ op
-unfolding unary-at
-unary-back not = refl
-unary-back weakNext = refl
-unary-back strongNext = refl
-unary-back finally = refl
-unary-back globally = refl
-
-binary-back : (op : Binary) → binary-at (binaryCode op - 5) ≡ op
-unfolding binary-at
-binary-back or = refl
-binary-back and = refl
-binary-back until = refl
-binary-back release = refl
-binary-back implies = refl
-binary-back equiv = refl
-
-pub unary-one : (a b : Unary) → unaryCode a ≡ unaryCode b → a ≡ b
-unary-one a b e = sym (unary-back a) ∙ ap unary-at e ∙ unary-back b
-
-pub binary-one : (a b : Binary) → binaryCode a ≡ binaryCode b → a ≡ b
-binary-one a b e = sym (binary-back a) ∙ ap (λ (k : ℕ). binary-at (k - 5)) e ∙ binary-back b
-
-pub new-unique : (n x : ℕ) (a b : Answer) → NewAnswer n x a → NewAnswer n x b → a ≡ b
-new-unique n x a b p q = answers-unique _ _ (λ s t u v. same-seq s t (u .0 ∙ sym (v .0)) (u .1 ∙ sym (v .1))) a b p q
-
-pub unary-unique : (code : ℕ) (s : CharSeq) (a b : Answer) → UnaryAnswer code s a → UnaryAnswer code s b → a ≡ b
-unary-unique code s a b p q = answers-unique _ _ one a b p q
-  where
-    one : (r t : CharSeq) → UnaryRead code s r → UnaryRead code s t → r ≡ t
-    one r t u v = denotes-unique r t (u .2) (subst (λ (op : Unary). Denotes (s .length) (unaryReading op (s .length) (At (s .values))) t) (unary-one (v .0) (u .0) (v .1 ∙ sym (u .1))) (v .2))
-
-pub binary-unique : (code : ℕ) (s t : CharSeq) (a b : Answer) → BinaryAnswer code s t a → BinaryAnswer code s t b → a ≡ b
-binary-unique code s t a b p q = answers-unique _ _ one a b p q
-  where
-    one : (r r′ : CharSeq) → BinaryRead code s t r → BinaryRead code s t r′ → r ≡ r′
-    one r r′ u v =
-        denotes-unique r r′ (u .2)
-        (subst (λ (op : Binary). Denotes (s .length) (binaryReading op (s .length) (At (s .values)) (At (t .values))) r′) (binary-one (v .0) (u .0) (v .1 ∙ sym (u .1))) (v .2))
+pub binary-passes : (op : Binary) (s t : CharSeq) → WellFormed s → WellFormed t → s .length ≡ t .length → Decided (binaryRows (binaryCode op) s t) 0
+unfolding Decided
+binary-passes op s t w u e = inr (λ h. h op refl, passes s (illFormed t ++ (unequal s t ∷ [])) w (passes t (unequal s t ∷ []) u (decided-not (unequal s t) (λ n. n e))))

@@ -4,3 +4,7 @@ pub mod Leading
 pub mod Groups
 pub mod Table
 pub mod Answers
+pub mod Unique
+pub mod Computed
+pub mod Commuting
+pub mod Settled

@@ -4,3 +4,5 @@ pub mod Masked
 pub mod Refusals
 pub mod Sequence
 pub mod Table
+pub mod Commuting
+pub mod Settled

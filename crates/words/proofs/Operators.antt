@@ -32,7 +32,7 @@ masked v {m} w e =
     (λ i h p. and-at v m i (e i h .1 (p .1)) (p .0))
 
 -- `!x` on the machine
-abbrev inverse : ℕ → ℕ
+abbrev pub inverse : ℕ → ℕ
 inverse x = (2 ^ width - 1) - x
 
 at-inverse : {x : ℕ} → Wf width x → (i : ℕ) → i < width → At (inverse x) i ↔ Not (At x) i
@@ -93,7 +93,10 @@ weak-next-means {x} {m} w v = masked (bitOr (inverse (m / 2 ^ 1)) (x / 2 ^ 1)) v
 abbrev smear : ℕ → ℕ → ℕ
 smear d v = bitOr v (v / 2 ^ d)
 
-pub finally-means : {x : ℕ} → Wf width x → Means width (smear 32 (smear 16 (smear 8 (smear 4 (smear 2 (smear 1 x)))))) (Finally width (At x))
+abbrev pub finallyWord : ℕ → ℕ
+finallyWord x = smear 32 (smear 16 (smear 8 (smear 4 (smear 2 (smear 1 x)))))
+
+pub finally-means : {x : ℕ} → Wf width x → Means width (finallyWord x) (Finally width (At x))
 finally-means {x} w =
     let s₁ = some-double 1 _ (some-first x) in
     let s₂ = some-double 2 _ s₁ in
