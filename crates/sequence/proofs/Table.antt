@@ -2,12 +2,14 @@
 -- Assumes nothing.
 use mathlib.Core.Path.{_≡_, refl, sym, _∙_, subst}
 use mathlib.Core.List.{List, [], _∷_}
-use Prim.Native.Nat.{ℕ, zero, suc, _+_, _<_}
+use Prim.Native.Nat.{ℕ, zero, suc, _+_, _≤_, _<_}
 use native.Mathlib.Nat.{add-zero, zero-add, add-suc, suc-add, le-of-suc-le-suc, not-suc-le-zero}
+use lib.Dec.{lit≤}
 use lib.ListN.{length, getD}
 use Rattle.sequence.specs.declared.operators.Operator.{Operator}
+use Rattle.sequence.specs.Operators as ops
 use Rattle.sequence.specs.Operators.{not, weakNext, strongNext, finally, globally, or, and, until, release, implies, equiv}
-use Rattle.sequence.specs.Table.{Listed, unary, binary, unaryRow, binaryRow}
+use Rattle.sequence.specs.Table.{Listed, unary, binary, neither, unaryRow, binaryRow}
 
 -- the rows of a table whose first code is i
 abbrev Rows : ℕ → List Operator → Type 0
@@ -50,3 +52,24 @@ rows = (
 
 pub row-at : (d : Operator) (code : ℕ) → code < 11 → Listed code (getD operators code d)
 row-at d code h = subst (λ (m : ℕ). Listed m (getD operators code d)) (zero-add code) (at d operators 0 code rows h)
+
+-- a token lies within the bytes that hold it
+unary-fits : (op : ops.Unary) → unaryRow op .bytes ≤ length (unaryRow op .token)
+unary-fits not = lit≤ tt
+unary-fits weakNext = lit≤ tt
+unary-fits strongNext = lit≤ tt
+unary-fits finally = lit≤ tt
+unary-fits globally = lit≤ tt
+
+binary-fits : (op : ops.Binary) → binaryRow op .bytes ≤ length (binaryRow op .token)
+binary-fits or = lit≤ tt
+binary-fits and = lit≤ tt
+binary-fits until = lit≤ tt
+binary-fits release = lit≤ tt
+binary-fits implies = lit≤ tt
+binary-fits equiv = lit≤ tt
+
+pub token-fits : {code : ℕ} {r : Operator} → Listed code r → r .bytes ≤ length (r .token)
+token-fits (unary op e q) = rw q (unary-fits op)
+token-fits (binary op e q) = rw q (binary-fits op)
+token-fits (neither m n q) = rw q (lit≤ tt)
