@@ -3,6 +3,7 @@ use crate::bytes::Step;
 use crate::bytes::byte_within;
 use crate::bytes::bytes_left;
 use crate::bytes::word_at;
+use sequence::CharSeq;
 ghost use mathlib.Core.Path.{_≡_};
 ghost use mathlib.Core.List.{[]};
 ghost use Prim.Native.Nat.{ℕ, _+_, _^_, _≤_, _<_};
@@ -17,7 +18,8 @@ pub(crate) fn is_clear(n: usize, w: u64) -> bool
     requires { ⌜ n ≤ width ⌝ }
     ensures { λ r. ⌜ r ≡ ltb w (2 ^ n) ⌝ }
 {
-    u64::leading_zeros(w) as usize + n >= 64
+    let word = CharSeq { length: n, values: w };
+    word.is_well_formed()
 }
 
 // The word at an offset, of a session of length n.
