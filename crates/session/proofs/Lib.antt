@@ -12,3 +12,6 @@ pub mod Steps
 pub mod Walks
 pub mod Turns
 pub mod Sections
+pub mod Filling
+pub mod Positions
+pub mod Outcome

@@ -135,7 +135,7 @@ module _ (file : List ℕ) where
         codes-complete isBinary (at + length a + length b + length g) (p .binary) (record { some = omega arith; few = omega (arith, few-binary (p .binary) bs); fits = bs; spans = first file h k r3 }),
         settings-complete file (at + length a + length b + length g + length h) s next (record { constants = w .constants; some = w .someBound; low = w .lowBound }) r4)
 
-  whole-run : (run : List ℕ) → run ≡ file → Spans file 0 run (length file)
+  pub whole-run : (run : List ℕ) → run ≡ file → Spans file 0 run (length file)
   whole-run run e = record { is = sym e ∙ sym (append-nil run) ∙ ap (λ (l : List ℕ). run ++ l) (sym (drop-length file)); end = omega (arith, ap length e) }
 
   run-whole : (run : List ℕ) → Spans file 0 run (length file) → run ≡ file
