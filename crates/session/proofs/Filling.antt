@@ -117,13 +117,13 @@ module _ (to₀ file : List ℕ) (at m n : ℕ) where
         let rest = sessionWords m (n - (i + 1)) (drop (p + 2 + 8 * m) file) in
         let step : sessionWords m (n - i) (drop p file) ≡ words ++ rest = rw (l, drop-drop 2 p file, drop-drop (2 + 8 * m) p file, y) in
         let turned : sets to k (sessionWords m (n - i) (drop p file)) ≡ sets after (k + m) rest =
-          ap (sets to k) step ∙ sets-both to k words rest ∙ ap (λ (x : ℕ). sets (sets to k words) (k + x) rest) (length-words m (drop (p + 2) file)) ∙ ap (λ (x : List ℕ). sets x (k + m) rest) (sym e) in
+        ap (sets to k) step ∙ sets-both to k words rest ∙ ap (λ (x : ℕ). sets (sets to k words) (k + x) rest) (length-words m (drop (p + 2) file)) ∙ ap (λ (x : List ℕ). sets x (k + m) rest) (sym e) in
         record {
           upto = omega arith;
           long = ap length e ∙ length-sets to k words ∙ s .long;
           space = blocks-space h;
           room = blocks-next h;
-          is = sym turned ∙ s .is
+          is = sym turned ∙ s .is;
         }
 
     pub blocks-end : n ≤ i → to ≡ sets to₀ 0 (sessionWords m n (drop at file))

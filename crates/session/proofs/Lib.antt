@@ -15,3 +15,4 @@ pub mod Sections
 pub mod Filling
 pub mod Positions
 pub mod Outcome
+pub mod DataLaws

@@ -76,7 +76,7 @@ module _ (file : List ℕ) where
           lengths = l .lengths;
           words = l .words;
           unary = l .unary;
-          binary = l .binary
+          binary = l .binary;
         }
 
     module _ (answer : ReadAnswer) (j : answer ≡ answerOf file) where

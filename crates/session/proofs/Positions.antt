@@ -11,12 +11,13 @@ use lib.Pow.{pow-mono}
 use lib.ListN.{length, getD, take, drop, length-append, length-map}
 use lib.Seq.{sets, sets-eq, drop-drop, drop-at, take-at}
 use Rattle.words.specs.Word.{width, Wf}
+use Rattle.words.proofs.At.{wf-lt}
 use Rattle.session.specs.Format.{Session, Parts, one, section, nameBytes, wordBytes, sessionBytes, fileBytes, Each, GoodSession, Good}
 use Rattle.session.specs.Offence.{number}
 use Rattle.session.specs.Reading.{marksOf, lengthsOf, wordsOf, over}
 use Rattle.session.specs.Inner.{strided, wordsAt, sessionWords}
 use Rattle.session.proofs.Lists.{ones}
-use Rattle.session.proofs.Numbers.{length-low, number-low, wf-below}
+use Rattle.session.proofs.Numbers.{length-low, number-low}
 use Rattle.session.proofs.Spans.{Spans, second}
 use Rattle.session.proofs.SessionLaws.{Fits, Fit}
 use Rattle.session.proofs.Whole.{whole-run}
@@ -34,7 +35,7 @@ words-there n [] before rest e = refl
 words-there n (w ∷ ws) before rest e =
     let tail = flatMap wordBytes ws ++ rest in
     let split : (wordBytes w ++ flatMap wordBytes ws) ++ rest ≡ wordBytes w ++ tail = append-assoc (wordBytes w) (flatMap wordBytes ws) rest in
-    let v : number (wordBytes w) ≡ w = number-low 8 w (lt-of-lt-of-le (wf-below (e .0)) (pow-mono (e .0 .short))) in
+    let v : number (wordBytes w) ≡ w = number-low 8 w (lt-of-lt-of-le (wf-lt (e .0)) (pow-mono (e .0 .short))) in
     rw (split, take-at (wordBytes w) tail 8 (length-low 8 w), drop-at (wordBytes w) tail 8 (length-low 8 w), v) (ap (λ (l : List ℕ). w ∷ l) (words-there n ws (before ++ (w ∷ [])) rest (e .1)))
 
 -- ---- sessions
@@ -73,11 +74,11 @@ module _ (m : ℕ) where
   session-words-there (s ∷ ss) before rest e =
       let g = e .0 in
       let ws : wordsAt m ((flatMap wordBytes (s .words) ++ flatMap sessionBytes ss) ++ rest) ≡ s .words =
-        ap (λ (l : List ℕ). wordsAt m l) (append-assoc (flatMap wordBytes (s .words)) (flatMap sessionBytes ss) rest)
-        ∙ ap (λ (n : ℕ). wordsAt n (flatMap wordBytes (s .words) ++ (flatMap sessionBytes ss ++ rest))) (sym (g .count))
-        ∙ words-there (s .length) (s .words) [] (flatMap sessionBytes ss ++ rest) (g .words) in
+      ap (λ (l : List ℕ). wordsAt m l) (append-assoc (flatMap wordBytes (s .words)) (flatMap sessionBytes ss) rest)
+      ∙ ap (λ (n : ℕ). wordsAt n (flatMap wordBytes (s .words) ++ (flatMap sessionBytes ss ++ rest))) (sym (g .count))
+      ∙ words-there (s .length) (s .words) [] (flatMap sessionBytes ss ++ rest) (g .words) in
       let more : sessionWords m (length ss) (drop (2 + 8 * m) (flatMap sessionBytes (s ∷ ss) ++ rest)) ≡ flatMap (λ s. s .words) ss =
-        ap (sessionWords m (length ss)) (later s ss rest g) ∙ session-words-there ss (before ++ (s ∷ [])) rest (e .1) in
+      ap (sessionWords m (length ss)) (later s ss rest g) ∙ session-words-there ss (before ++ (s ∷ [])) rest (e .1) in
       ap (λ (l : List ℕ). l ++ sessionWords m (length ss) (drop (2 + 8 * m) (flatMap sessionBytes (s ∷ ss) ++ rest))) ws ∙ ap (λ (l : List ℕ). s .words ++ l) more
 
   pub length-all-words : (ss before : List Session) → Each (λ _ s. GoodSession m s) before ss → length (flatMap (λ s. s .words) ss) ≡ m * length ss
@@ -165,5 +166,5 @@ module _ (p : Parts) (file : List ℕ) (g : Good p) (e : fileBytes p ≡ file) w
         words = ap (sessionWords m (length (p .sessions))) (s .1) ∙ session-words-there m (p .sessions) [] (s .0) (g .sessions);
         unary = ap (strided 1 (length (p .unary))) (u .1) ∙ codes-there (p .unary) (u .0);
         binary = ap (strided 1 (length (p .binary))) (b .1) ∙ codes-there (p .binary) (b .0);
-        room = omega (arith, from-binary .end, sized, ap length (ones (p .unary)), ap length (ones (p .binary)), length-append (flatMap one (p .binary)) settings)
+        room = omega (arith, from-binary .end, sized, ap length (ones (p .unary)), ap length (ones (p .binary)), length-append (flatMap one (p .binary)) settings);
       }

@@ -5,140 +5,103 @@ use Rattle.session.proofs.Outcome.{known, known-bad, never-room, refuse
 use borrow.Author.Needs.{needs}
 use Rattle.session.proofs.file.read.Statement.{statement}
 use Rattle.session.proofs.file.read.Tie as tie
-use Rattle.session.proofs.file.read.Reads as reads
-use Rattle.session.proofs.file.read.Lts as lts
-use Rattle.session.proofs.file.judge.Reads as judge-reads
-use Rattle.session.proofs.fill.fill_bytes.Reads as fill-bytes-reads
-use Rattle.session.proofs.fill.fill_words.Reads as fill-words-reads
 
--- src/file.rt:122:9
 judge-requires : tie.Need-judge-requires
 judge-requires c κs = search needs
 
--- src/file.rt:125:23
 enum-known-answer : tie.Need-enum-known-answer
 enum-known-answer c = search needs
 
--- src/file.rt:134:17
 returns : tie.Need-returns
 returns c = let k = known (c .before .before .before .before .before .before .before .before .before .before .before .args .file .now) (λ i. omega (arith, c .before .before .before .before .before .before .before .before .before .before .shared-slice-known .given i)) _ (c .before .before .before .before .judge .ensures) (c .before .before .answer .given .1) in room-marks _ _ _ _ _ _ k (c .if1 .taken)
 
--- src/file.rt:137:17
 returns-2 : tie.Need-returns-2
 returns-2 c = let k = known (c .before .before .before .before .before .before .before .before .before .before .before .before .args .file .now) (λ i. omega (arith, c .before .before .before .before .before .before .before .before .before .before .before .shared-slice-known .given i)) _ (c .before .before .before .before .before .judge .ensures) (c .before .before .before .answer .given .1) in room-lengths _ _ _ _ _ _ k (c .before .if1 .left) (c .if2 .taken)
 
--- src/file.rt:139:30
 mul-if3 : tie.Need-mul-if3
 mul-if3 c = let k = known (c .before .before .before .before .before .before .before .before .before .before .before .before .args .file .now) (λ i. omega (arith, c .before .before .before .before .before .before .before .before .before .before .before .shared-slice-known .given i)) _ (c .before .before .before .before .before .judge .ensures) (c .before .before .before .answer .given .1) in omega (arith, product _ k)
 
--- src/file.rt:140:17
 returns-3 : tie.Need-returns-3
 returns-3 c = let k = known (c .before .before .before .before .before .before .before .before .before .before .before .before .before .args .file .now) (λ i. omega (arith, c .before .before .before .before .before .before .before .before .before .before .before .before .shared-slice-known .given i)) _ (c .before .before .before .before .before .before .judge .ensures) (c .before .before .before .before .answer .given .1) in room-words _ _ _ _ _ _ k (c .before .before .if1 .left) (c .before .if2 .left) (c .if3 .taken)
 
--- src/file.rt:143:17
 returns-4 : tie.Need-returns-4
 returns-4 c = let k = known (c .before .before .before .before .before .before .before .before .before .before .before .before .before .before .args .file .now) (λ i. omega (arith, c .before .before .before .before .before .before .before .before .before .before .before .before .before .shared-slice-known .given i)) _ (c .before .before .before .before .before .before .before .judge .ensures) (c .before .before .before .before .before .answer .given .1) in room-unary _ _ _ _ _ _ k (c .before .before .before .if1 .left) (c .before .before .if2 .left) (c .before .if3 .left) (c .if4 .taken)
 
--- src/file.rt:146:17
 returns-5 : tie.Need-returns-5
 returns-5 c = let k = known (c .before .before .before .before .before .before .before .before .before .before .before .before .before .before .before .args .file .now) (λ i. omega (arith, c .before .before .before .before .before .before .before .before .before .before .before .before .before .before .shared-slice-known .given i)) _ (c .before .before .before .before .before .before .before .before .judge .ensures) (c .before .before .before .before .before .before .answer .given .1) in room-binary _ _ _ _ _ _ k (c .before .before .before .before .if1 .left) (c .before .before .before .if2 .left) (c .before .before .if3 .left) (c .before .if4 .left) (c .if5 .taken)
 
--- src/file.rt:148:30
 mul-stride : tie.Need-mul-stride
 mul-stride c = let k = known (c .before .before .before .before .before .before .before .before .before .before .before .before .before .before .before .args .file .now) (λ i. omega (arith, c .before .before .before .before .before .before .before .before .before .before .before .before .before .before .shared-slice-known .given i)) _ (c .before .before .before .before .before .before .before .before .judge .ensures) (c .before .before .before .before .before .before .answer .given .1) in omega (arith, k .narrow)
 
--- src/file.rt:148:26
 add-stride : tie.Need-add-stride
 add-stride c = let k = known (c .before .before .before .before .before .before .before .before .before .before .before .before .before .before .before .args .file .now) (λ i. omega (arith, c .before .before .before .before .before .before .before .before .before .before .before .before .before .before .shared-slice-known .given i)) _ (c .before .before .before .before .before .before .before .before .judge .ensures) (c .before .before .before .before .before .before .answer .given .1) in omega (arith, k .narrow)
 
--- src/file.rt:149:22
 add-at : tie.Need-add-at
 add-at c = let k = known (c .before .before .before .before .before .before .before .before .before .before .before .before .before .before .before .args .file .now) (λ i. omega (arith, c .before .before .before .before .before .before .before .before .before .before .before .before .before .before .shared-slice-known .given i)) _ (c .before .before .before .before .before .before .before .before .judge .ensures) (c .before .before .before .before .before .before .answer .given .1) in omega (arith, k .room, c .before .before .before .before .before .before .before .before .before .before .before .before .before .before .before .good)
 
--- src/file.rt:150:30
 mul-codes : tie.Need-mul-codes
 mul-codes c = let k = known (c .before .before .before .before .before .before .before .before .before .before .before .before .before .before .before .args .file .now) (λ i. omega (arith, c .before .before .before .before .before .before .before .before .before .before .before .before .before .before .shared-slice-known .given i)) _ (c .before .before .before .before .before .before .before .before .judge .ensures) (c .before .before .before .before .before .before .answer .given .1) in omega (arith, k .room, c .before .before .before .before .before .before .before .before .before .before .before .before .before .before .before .good)
 
--- src/file.rt:150:25
 add-codes : tie.Need-add-codes
 add-codes c = let k = known (c .before .before .before .before .before .before .before .before .before .before .before .before .before .before .before .args .file .now) (λ i. omega (arith, c .before .before .before .before .before .before .before .before .before .before .before .before .before .before .shared-slice-known .given i)) _ (c .before .before .before .before .before .before .before .before .judge .ensures) (c .before .before .before .before .before .before .answer .given .1) in omega (arith, k .room, c .before .before .before .before .before .before .before .before .before .before .before .before .before .before .before .good)
 
--- src/file.rt:151:13
 fill-bytes-requires : tie.Need-fill-bytes-requires
 fill-bytes-requires c κs = let k = known (c .before .before .before .before .before .before .before .before .before .before .before .before .before .before .before .before .args .file .now) (λ i. omega (arith, c .before .before .before .before .before .before .before .before .before .before .before .before .before .before .before .shared-slice-known .given i)) _ (c .before .before .before .before .before .before .before .before .before .judge .ensures) (c .before .before .before .before .before .before .before .answer .given .1) in (omega arith, c .before .before .before .before .before .if1 .left, omega (arith, k .room))
 
--- src/file.rt:152:39
 add-fill-bytes : tie.Need-add-fill-bytes
 add-fill-bytes c = let k = known (c .before .before .before .before .before .before .before .before .before .before .before .before .before .before .before .before .before .before .before .before .args .file .now) (λ i. omega (arith, c .before .before .before .before .before .before .before .before .before .before .before .before .before .before .before .before .before .before .before .shared-slice-known .given i)) _ (c .before .before .before .before .before .before .before .before .before .before .before .before .before .judge .ensures) (c .before .before .before .before .before .before .before .before .before .before .before .answer .given .1) in omega (arith, k .room, c .before .before .before .before .before .before .before .before .before .before .before .before .before .before .before .before .before .before .before .before .good)
 
--- src/file.rt:152:13
 fill-bytes-requires-2 : tie.Need-fill-bytes-requires-2
 fill-bytes-requires-2 c κs = let k = known (c .before .before .before .before .before .before .before .before .before .before .before .before .before .before .before .before .before .before .before .before .args .file .now) (λ i. omega (arith, c .before .before .before .before .before .before .before .before .before .before .before .before .before .before .before .before .before .before .before .shared-slice-known .given i)) _ (c .before .before .before .before .before .before .before .before .before .before .before .before .before .judge .ensures) (c .before .before .before .before .before .before .before .before .before .before .before .answer .given .1) in (omega arith, c .before .before .before .before .before .before .before .before .if2 .left, omega (arith, k .room))
 
--- src/file.rt:153:13
 fill-words-requires : tie.Need-fill-words-requires
 fill-words-requires c κs = let k = known (c .before .before .before .before .before .before .before .before .before .before .before .before .before .before .before .before .before .before .before .before .before .before .before .before .args .file .now) (λ i. omega (arith, c .before .before .before .before .before .before .before .before .before .before .before .before .before .before .before .before .before .before .before .before .before .before .before .shared-slice-known .given i)) _ (c .before .before .before .before .before .before .before .before .before .before .before .before .before .before .before .before .before .judge .ensures) (c .before .before .before .before .before .before .before .before .before .before .before .before .before .before .before .answer .given .1) in (c .before .before .before .before .before .before .before .before .before .before .before .if3 .left, omega (arith, k .room))
 
--- src/file.rt:154:37
 add-fill-bytes-2 : tie.Need-add-fill-bytes-2
 add-fill-bytes-2 c = let k = known (c .before .before .before .before .before .before .before .before .before .before .before .before .before .before .before .before .before .before .before .before .before .before .before .before .before .before .before .before .args .file .now) (λ i. omega (arith, c .before .before .before .before .before .before .before .before .before .before .before .before .before .before .before .before .before .before .before .before .before .before .before .before .before .before .before .shared-slice-known .given i)) _ (c .before .before .before .before .before .before .before .before .before .before .before .before .before .before .before .before .before .before .before .before .before .judge .ensures) (c .before .before .before .before .before .before .before .before .before .before .before .before .before .before .before .before .before .before .before .answer .given .1) in omega (arith, k .room, c .before .before .before .before .before .before .before .before .before .before .before .before .before .before .before .before .before .before .before .before .before .before .before .before .before .before .before .before .good)
 
--- src/file.rt:154:13
 fill-bytes-requires-3 : tie.Need-fill-bytes-requires-3
 fill-bytes-requires-3 c κs = let k = known (c .before .before .before .before .before .before .before .before .before .before .before .before .before .before .before .before .before .before .before .before .before .before .before .before .before .before .before .before .args .file .now) (λ i. omega (arith, c .before .before .before .before .before .before .before .before .before .before .before .before .before .before .before .before .before .before .before .before .before .before .before .before .before .before .before .shared-slice-known .given i)) _ (c .before .before .before .before .before .before .before .before .before .before .before .before .before .before .before .before .before .before .before .before .before .judge .ensures) (c .before .before .before .before .before .before .before .before .before .before .before .before .before .before .before .before .before .before .before .answer .given .1) in (omega arith, c .before .before .before .before .before .before .before .before .before .before .before .before .before .before .if4 .left, omega (arith, k .room))
 
--- src/file.rt:155:38
 add-fill-bytes-3 : tie.Need-add-fill-bytes-3
 add-fill-bytes-3 c = let k = known (c .before .before .before .before .before .before .before .before .before .before .before .before .before .before .before .before .before .before .before .before .before .before .before .before .before .before .before .before .before .before .before .before .args .file .now) (λ i. omega (arith, c .before .before .before .before .before .before .before .before .before .before .before .before .before .before .before .before .before .before .before .before .before .before .before .before .before .before .before .before .before .before .before .shared-slice-known .given i)) _ (c .before .before .before .before .before .before .before .before .before .before .before .before .before .before .before .before .before .before .before .before .before .before .before .before .before .judge .ensures) (c .before .before .before .before .before .before .before .before .before .before .before .before .before .before .before .before .before .before .before .before .before .before .before .answer .given .1) in omega (arith, k .room, c .before .before .before .before .before .before .before .before .before .before .before .before .before .before .before .before .before .before .before .before .before .before .before .before .before .before .before .before .before .before .before .before .good)
 
--- src/file.rt:155:38
 add-fill-bytes-4 : tie.Need-add-fill-bytes-4
 add-fill-bytes-4 c = let k = known (c .before .before .before .before .before .before .before .before .before .before .before .before .before .before .before .before .before .before .before .before .before .before .before .before .before .before .before .before .before .before .before .before .args .file .now) (λ i. omega (arith, c .before .before .before .before .before .before .before .before .before .before .before .before .before .before .before .before .before .before .before .before .before .before .before .before .before .before .before .before .before .before .before .shared-slice-known .given i)) _ (c .before .before .before .before .before .before .before .before .before .before .before .before .before .before .before .before .before .before .before .before .before .before .before .before .before .judge .ensures) (c .before .before .before .before .before .before .before .before .before .before .before .before .before .before .before .before .before .before .before .before .before .before .before .answer .given .1) in omega (arith, k .room, c .before .before .before .before .before .before .before .before .before .before .before .before .before .before .before .before .before .before .before .before .before .before .before .before .before .before .before .before .before .before .before .before .good)
 
--- src/file.rt:155:13
 fill-bytes-requires-4 : tie.Need-fill-bytes-requires-4
 fill-bytes-requires-4 c κs = let k = known (c .before .before .before .before .before .before .before .before .before .before .before .before .before .before .before .before .before .before .before .before .before .before .before .before .before .before .before .before .before .before .before .before .args .file .now) (λ i. omega (arith, c .before .before .before .before .before .before .before .before .before .before .before .before .before .before .before .before .before .before .before .before .before .before .before .before .before .before .before .before .before .before .before .shared-slice-known .given i)) _ (c .before .before .before .before .before .before .before .before .before .before .before .before .before .before .before .before .before .before .before .before .before .before .before .before .before .judge .ensures) (c .before .before .before .before .before .before .before .before .before .before .before .before .before .before .before .before .before .before .before .before .before .before .before .answer .given .1) in (omega arith, c .before .before .before .before .before .before .before .before .before .before .before .before .before .before .before .before .before .if5 .left, omega (arith, k .room))
 
--- src/file.rt:158:28
 enum-known-answer-2 : tie.Need-enum-known-answer-2
 enum-known-answer-2 c = search needs
 
--- src/file.rt:159:29
 enum-told : tie.Need-enum-told
 enum-told c = search needs
 
--- src/file.rt:111:1
 same-length : tie.Need-same-length
 same-length c = search needs
 
--- src/file.rt:111:1
 same-length-2 : tie.Need-same-length-2
 same-length-2 c = search needs
 
--- src/file.rt:111:1
 same-length-3 : tie.Need-same-length-3
 same-length-3 c = search needs
 
--- src/file.rt:111:1
 same-length-4 : tie.Need-same-length-4
 same-length-4 c = search needs
 
--- src/file.rt:111:1
 same-length-5 : tie.Need-same-length-5
 same-length-5 c = search needs
 
--- src/file.rt:111:1
 returns-6 : tie.Need-returns-6
-returns-6 c = 
-    let k = known (c .before .before .before .before .before .before .before .before .before .before .before .before .before .before .before .before .before .before .before .before .before .before .before .before .before .before .before .before .before .before .before .before .before .before .before .args .file .now) (λ i. omega (arith, c .before .before .before .before .before .before .before .before .before .before .before .before .before .before .before .before .before .before .before .before .before .before .before .before .before .before .before .before .before .before .before .before .before .before .shared-slice-known .given i)) _ (c .before .before .before .before .before .before .before .before .before .before .before .before .before .before .before .before .before .before .before .before .before .before .before .before .before .before .before .before .judge .ensures) (c .before .before .before .before .before .before .before .before .before .before .before .before .before .before .before .before .before .before .before .before .before .before .before .before .before .before .answer .given .1) in 
+returns-6 c =
+    let k = known (c .before .before .before .before .before .before .before .before .before .before .before .before .before .before .before .before .before .before .before .before .before .before .before .before .before .before .before .before .before .before .before .before .before .before .before .args .file .now) (λ i. omega (arith, c .before .before .before .before .before .before .before .before .before .before .before .before .before .before .before .before .before .before .before .before .before .before .before .before .before .before .before .before .before .before .before .before .before .before .shared-slice-known .given i)) _ (c .before .before .before .before .before .before .before .before .before .before .before .before .before .before .before .before .before .before .before .before .before .before .before .before .before .before .before .before .judge .ensures) (c .before .before .before .before .before .before .before .before .before .before .before .before .before .before .before .before .before .before .before .before .before .before .before .before .before .before .answer .given .1) in
     rw (c .before .before .before .before .before .before .before .before .before .before .before .before .before .before .before .before .before .before .fill-bytes .ensures, c .before .before .before .before .before .before .before .before .before .before .before .before .before .before .fill-bytes2 .ensures, c .before .before .before .before .before .before .before .before .before .before .fill-words .ensures, c .before .before .before .before .before .before .fill-bytes3 .ensures, c .before .before .fill-bytes4 .ensures)
     (written _ _ _ _ _ _ k (c .before .before .before .before .before .before .before .before .before .before .before .before .before .before .before .before .before .before .before .before .before .before .before .before .if1 .left) (c .before .before .before .before .before .before .before .before .before .before .before .before .before .before .before .before .before .before .before .before .before .before .before .if2 .left) (c .before .before .before .before .before .before .before .before .before .before .before .before .before .before .before .before .before .before .before .before .before .before .if3 .left) (c .before .before .before .before .before .before .before .before .before .before .before .before .before .before .before .before .before .before .before .before .before .if4 .left) (c .before .before .before .before .before .before .before .before .before .before .before .before .before .before .before .before .before .before .before .before .if5 .left))
 
--- src/file.rt:111:1
 returns-7 : tie.Need-returns-7
 returns-7 c = refused _ _ _ _ _ _ (known-bad (c .before .before .before .before .before .before .before .before .before .before .args .file .now) (λ i. omega (arith, c .before .before .before .before .before .before .before .before .before .shared-slice-known .given i)) _ (c .before .before .before .judge .ensures) (c .before .answer2 .given .1))
 
--- src/file.rt:111:1
 returns-8 : tie.Need-returns-8
 returns-8 c = absurd (never-room (c .before .before .before .before .before .before .before .before .before .args .file .now) (λ i. omega (arith, c .before .before .before .before .before .before .before .before .shared-slice-known .given i)) _ (c .before .before .judge .ensures) (c .enum-told .given .1))
 

@@ -6,8 +6,6 @@ use Rattle.session.proofs.Filling.{Strides, strides-start, strides-next
 use borrow.Author.Needs.{needs}
 use Rattle.session.proofs.fill.fill_bytes.Statement.{statement}
 use Rattle.session.proofs.fill.fill_bytes.Tie as tie
-use Rattle.session.proofs.fill.fill_bytes.Reads as reads
-use Rattle.session.proofs.fill.fill_bytes.Lts as lts
 
 abbrev Inv-loop : tie.InvT-loop
 Inv-loop to₀ file at stride n i₀ p₀ to i p = Strides to₀ file at stride n to i p
@@ -15,39 +13,30 @@ Inv-loop to₀ file at stride n i₀ p₀ to i p = Strides to₀ file at stride 
 abbrev μ-loop : tie.MeasureT-loop
 μ-loop to₀ file at stride n i₀ p₀ to i p = n - i
 
--- src/fill.rt:16:5
 loop-holds : tie.Need-loop-holds Inv-loop μ-loop
 loop-holds c = strides-start _ _ _ _ _ (c .pre .2)
 
--- src/fill.rt:17:17
 shared-slice-read-to : tie.Need-shared-slice-read-to Inv-loop μ-loop
 shared-slice-read-to c = omega (arith, strides-next _ _ _ _ _ (c .before .before .loop .inv) (c .before .loop-test .taken), c .before .before .before .pre .0)
 
--- src/fill.rt:17:9
 slice-write-to : tie.Need-slice-write-to Inv-loop μ-loop
 slice-write-to c = omega (arith, c .before .before .loop .inv .long, c .before .before .before .pre .1)
 
--- src/fill.rt:18:9
 add-p : tie.Need-add-p Inv-loop μ-loop
 add-p c = omega (arith, strides-next _ _ _ _ _ (c .before .before .loop .inv) (c .before .loop-test .taken))
 
--- src/fill.rt:19:9
 add-i : tie.Need-add-i Inv-loop μ-loop
 add-i c = search needs
 
--- src/fill.rt:16:5
 loop-less : tie.Need-loop-less Inv-loop μ-loop
 loop-less c = search needs
 
--- src/fill.rt:16:5
 loop-again : tie.Need-loop-again Inv-loop μ-loop
 loop-again c = strides-turn _ _ _ _ _ (c .before .before .loop .inv) (c .before .loop-test .taken)
 
--- src/fill.rt:10:1
 same-length : tie.Need-same-length Inv-loop μ-loop
 same-length c = c .before .loop .inv .long
 
--- src/fill.rt:10:1
 returns : tie.Need-returns Inv-loop μ-loop
 returns c = strides-end _ _ _ _ _ (c .before .loop .inv) (c .loop-test .left)
 

@@ -6,9 +6,6 @@ use Rattle.session.proofs.Filling.{Words, words-start, words-turn, word
 use borrow.Author.Needs.{needs}
 use Rattle.session.proofs.fill.fill_session.Statement.{statement}
 use Rattle.session.proofs.fill.fill_session.Tie as tie
-use Rattle.session.proofs.fill.fill_session.Reads as reads
-use Rattle.session.proofs.fill.fill_session.Lts as lts
-use Rattle.session.proofs.bytes.word_at.Reads as word-at-reads
 
 abbrev Inv-loop : tie.InvT-loop
 Inv-loop to₀ k file at m i₀ p₀ to i p = Words to₀ k file at m to i p
@@ -16,47 +13,36 @@ Inv-loop to₀ k file at m i₀ p₀ to i p = Words to₀ k file at m to i p
 abbrev μ-loop : tie.MeasureT-loop
 μ-loop to₀ k file at m i₀ p₀ to i p = m - i
 
--- src/fill.rt:30:5
 loop-holds : tie.Need-loop-holds Inv-loop μ-loop
 loop-holds c = words-start _ _ _ _ _ (c .before .before .pre .1)
 
--- src/fill.rt:31:21
 word-at-requires : tie.Need-word-at-requires Inv-loop μ-loop
 word-at-requires c κs = omega (arith, c .before .loop .inv .room)
 
--- src/fill.rt:31:12
 add-to : tie.Need-add-to Inv-loop μ-loop
 add-to c = omega (arith, c .before .before .loop .inv .upto, c .before .before .before .before .before .pre .0, c .before .before .before .before .before .good)
 
--- src/fill.rt:31:9
 mul-to : tie.Need-mul-to Inv-loop μ-loop
 mul-to c = omega (arith, c .before .before .before .before .before .pre .0, c .before .before .before .before .before .good)
 
--- src/fill.rt:31:9
 slice-write-to : tie.Need-slice-write-to Inv-loop μ-loop
 slice-write-to c = omega (arith, c .before .before .loop .inv .long, c .before .before .before .before .before .pre .0)
 
--- src/fill.rt:32:9
 add-p : tie.Need-add-p Inv-loop μ-loop
 add-p c = omega (arith, c .before .before .loop .inv .room)
 
--- src/fill.rt:33:9
 add-i : tie.Need-add-i Inv-loop μ-loop
 add-i c = omega arith
 
--- src/fill.rt:30:5
 loop-less : tie.Need-loop-less Inv-loop μ-loop
 loop-less c = search needs
 
--- src/fill.rt:30:5
 loop-again : tie.Need-loop-again Inv-loop μ-loop
 loop-again c = words-turn _ _ _ _ _ (c .before .before .loop .inv) (c .before .loop-test .taken) _ (c .word-at .ensures)
 
--- src/fill.rt:24:1
 same-length : tie.Need-same-length Inv-loop μ-loop
 same-length c = c .before .loop .inv .long
 
--- src/fill.rt:24:1
 returns : tie.Need-returns Inv-loop μ-loop
 returns c = words-end _ _ _ _ _ (c .before .loop .inv) (c .loop-test .left)
 

@@ -5,9 +5,6 @@ use native.Mathlib.Omega.{arith}
 use Rattle.session.proofs.Filling.{Blocks, blocks-start, blocks-space, blocks-next, blocks-turn, blocks-end}
 use Rattle.session.proofs.fill.fill_words.Statement.{statement}
 use Rattle.session.proofs.fill.fill_words.Tie as tie
-use Rattle.session.proofs.fill.fill_words.Reads as reads
-use Rattle.session.proofs.fill.fill_words.Lts as lts
-use Rattle.session.proofs.fill.fill_session.Reads as fill-session-reads
 
 abbrev Inv-loop : tie.InvT-loop
 Inv-loop to₀ file at m n i₀ k₀ p₀ to i k p = Blocks to₀ file at m n to i k p
@@ -15,53 +12,41 @@ Inv-loop to₀ file at m n i₀ k₀ p₀ to i k p = Blocks to₀ file at m n to
 abbrev μ-loop : tie.MeasureT-loop
 μ-loop to₀ file at m n i₀ k₀ p₀ to i k p = n - i
 
--- src/fill.rt:45:5
 loop-holds : tie.Need-loop-holds Inv-loop μ-loop
 loop-holds c = blocks-start _ _ _ _ _ (c .before .before .pre .0) (c .before .before .pre .1)
 
--- src/fill.rt:46:35
 add-fill-session : tie.Need-add-fill-session Inv-loop μ-loop
 add-fill-session c = omega (arith, blocks-next _ _ _ _ _ (c .before .before .loop .inv) (c .before .loop-test .taken))
 
--- src/fill.rt:46:9
 fill-session-requires : tie.Need-fill-session-requires Inv-loop μ-loop
-fill-session-requires c κs = 
+fill-session-requires c κs =
     let s = c .before .before .loop .inv in
     (omega (arith, blocks-space _ _ _ _ _ s (c .before .loop-test .taken), s .long), omega (arith, blocks-next _ _ _ _ _ s (c .before .loop-test .taken)))
 
--- src/fill.rt:47:13
 add-p : tie.Need-add-p Inv-loop μ-loop
 add-p c = omega (arith, blocks-next _ _ _ _ _ (c .before .before .before .before .before .loop .inv) (c .before .before .before .before .loop-test .taken), c .before .before .before .before .before .before .before .before .good)
 
--- src/fill.rt:47:21
 mul-p : tie.Need-mul-p Inv-loop μ-loop
 mul-p c = omega (arith, blocks-next _ _ _ _ _ (c .before .before .before .before .before .loop .inv) (c .before .before .before .before .loop-test .taken), c .before .before .before .before .before .before .before .before .good)
 
--- src/fill.rt:47:13
 add-p-2 : tie.Need-add-p-2 Inv-loop μ-loop
 add-p-2 c = omega (arith, blocks-next _ _ _ _ _ (c .before .before .before .before .before .loop .inv) (c .before .before .before .before .loop-test .taken), c .before .before .before .before .before .before .before .before .good)
 
--- src/fill.rt:48:9
 add-k : tie.Need-add-k Inv-loop μ-loop
 add-k c = omega (arith, blocks-space _ _ _ _ _ (c .before .before .before .before .before .loop .inv) (c .before .before .before .before .loop-test .taken), c .before .before .before .before .before .before .before .before .good)
 
--- src/fill.rt:49:9
 add-i : tie.Need-add-i Inv-loop μ-loop
 add-i c = omega (arith, c .before .before .before .before .loop-test .taken, c .before .before .before .before .before .before .before .before .fits .n)
 
--- src/fill.rt:45:5
 loop-less : tie.Need-loop-less Inv-loop μ-loop
 loop-less c = omega arith
 
--- src/fill.rt:45:5
 loop-again : tie.Need-loop-again Inv-loop μ-loop
 loop-again c = blocks-turn _ _ _ _ _ (c .before .before .before .before .before .loop .inv) (c .before .before .before .before .loop-test .taken) _ (c .before .before .fill-session .ensures)
 
--- src/fill.rt:38:1
 same-length : tie.Need-same-length Inv-loop μ-loop
 same-length c = c .before .loop .inv .long
 
--- src/fill.rt:38:1
 returns : tie.Need-returns Inv-loop μ-loop
 returns c = blocks-end _ _ _ _ _ (c .before .loop .inv) (c .loop-test .left)
 
