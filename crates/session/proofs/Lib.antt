@@ -16,3 +16,5 @@ pub mod Filling
 pub mod Positions
 pub mod Outcome
 pub mod DataLaws
+pub mod Theorems
+pub mod Largest

@@ -21,7 +21,7 @@ use Rattle.session.proofs.SessionLaws.{Fit, sessions-sound, sessions-co
 use Rattle.session.proofs.CodeLaws.{New, new-sound, new-complete, unary-good, good-unary, binary-good, good-binary, Set, settingsBytes, settings-sound, settings-complete}
 use Rattle.session.proofs.Few.{few}
 
-each-map : {A : Type 0} {fit more : List A → A → Type 0} → ((before : List A) (a : A) → fit before a → more before a) → (l before : List A) → Each fit before l → Each more before l
+pub each-map : {A : Type 0} {fit more : List A → A → Type 0} → ((before : List A) (a : A) → fit before a → more before a) → (l before : List A) → Each fit before l → Each more before l
 unfolding Each
 each-map f [] before e = tt
 each-map f (a ∷ l) before e = (f before a (e .0), each-map f l (before ++ (a ∷ [])) (e .1))
