@@ -18,3 +18,5 @@ pub mod Outcome
 pub mod DataLaws
 pub mod Theorems
 pub mod Largest
+pub mod Cuts
+pub mod Interleaved

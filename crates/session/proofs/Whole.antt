@@ -140,7 +140,7 @@ module _ (file : List ℕ) where
   pub whole-run : (run : List ℕ) → run ≡ file → Spans file 0 run (length file)
   whole-run run e = record { is = sym e ∙ sym (append-nil run) ∙ ap (λ (l : List ℕ). run ++ l) (sym (drop-length file)); end = omega (arith, ap length e) }
 
-  run-whole : (run : List ℕ) → Spans file 0 run (length file) → run ≡ file
+  pub run-whole : (run : List ℕ) → Spans file 0 run (length file) → run ≡ file
   run-whole run s = sym (s .is ∙ ap (λ (l : List ℕ). run ++ l) (drop-length file) ∙ append-nil run)
 
   -- ---- the theorems
