@@ -28,7 +28,8 @@ pub enum ReadAnswer {
     Room,
 }
 
-pub enum Tail {
+// What the settings are, or the offset that offends.
+enum Tail {
     Read { constants: u8, bound: u8 },
     Broken(usize),
 }
