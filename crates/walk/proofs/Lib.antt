@@ -4,4 +4,7 @@ pub mod Trees
 pub mod Layers
 pub mod Pass
 pub mod Smallest
+pub mod Rows
+pub mod Reading
+pub mod Promises
 pub mod Examples
