@@ -7,4 +7,5 @@ pub mod Smallest
 pub mod Rows
 pub mod Reading
 pub mod Promises
+pub mod Steady
 pub mod Examples
