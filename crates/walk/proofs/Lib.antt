@@ -8,4 +8,5 @@ pub mod Rows
 pub mod Reading
 pub mod Promises
 pub mod Steady
+pub mod Position
 pub mod Examples
