@@ -9,4 +9,5 @@ pub mod Reading
 pub mod Promises
 pub mod Steady
 pub mod Position
+pub mod Resume
 pub mod Examples
