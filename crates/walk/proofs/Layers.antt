@@ -59,7 +59,7 @@ module _ {L U B Mat : Type 0} (O : Offer L U B Mat) where
   is-unary k op f t o p i =
       let z = operand k f t p i in
       record {
-        spelled = (refl, refl, ap (λ (n : ℕ). 1 + n) (is-size O i), z .0, z .1);
+        spelled = (refl, refl, omega (arith, is-size O i), z .0, z .1);
         from = (o, i .from);
         rows = ap (O .unaryMatrix op) (i .rows);
       }
@@ -70,7 +70,7 @@ module _ {L U B Mat : Type 0} (O : Offer L U B Mat) where
       let y = operand k f t p i in
       let z = operand k g u q j in
       record {
-        spelled = (refl, ap₂ (λ (m n : ℕ). 1 + m + n) (is-size O i) (is-size O j), y .0, y .1, z .0, z .1);
+        spelled = (refl, omega (arith, is-size O i, is-size O j), y .0, y .1, z .0, z .1);
         from = (o, i .from, j .from);
         rows = ap₂ (O .binaryMatrix op) (i .rows) (j .rows);
       }
@@ -78,7 +78,7 @@ module _ {L U B Mat : Type 0} (O : Offer L U B Mat) where
   fits-unary : (m : ℕ) (k : List (Candidate Mat)) (c : Candidate Mat) → c ∈ unaryCandidates O m k → Fits (suc m) k c
   unfolding unaryCandidates
   fits-unary m k c h =
-      let w = from-each (λ f. map (λ op. unaryOn O op f) (O .unaries)) (ofSize m 0 k) h in
+      let w = from-each (λ f. map (λ op. unaryOn O op f) (O .unaries)) _ h in
       let v = Memᴰ·of-map (λ op. unaryOn O op (w .0)) (O .unaries) (w .2) in
       let z = from-ofSize m k (w .1) in
       subst (Fits (suc m) k) (v .2) (

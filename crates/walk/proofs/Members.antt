@@ -48,13 +48,13 @@ from-count a (suc n) i m = go (List·Memᴰ·cases-cons m) (λ h. from-count (su
 pub left-sizes : LeftSizes
 unfolding leftSizes
 left-sizes s i j e = (
-  λ m. let w = from-count 1 ((s + 1) / 2 - 1) i m in (omega arith, omega arith),
-  λ h. in-count 1 ((s + 1) / 2 - 1) i (omega arith) (omega arith),
+  λ m. let w = from-count 1 _ i m in (omega arith, omega arith),
+  λ h. in-count 1 _ i (omega arith) (omega arith),
 )
 
 pub left-below : (m i : ℕ) → i ∈ leftSizes (suc (suc m)) → i ≤ suc m
 unfolding leftSizes
-left-below m i h = let w = from-count 1 ((suc (suc m) + 1) / 2 - 1) i h in omega arith
+left-below m i h = let w = from-count 1 _ i h in omega arith
 
 -- ---- those of a size, with their places
 

@@ -177,7 +177,7 @@ module _ {L U B Mat : Type 0} (O : Offer L U B Mat) where
       unfolding consider
       pass [] k n = (grows-same k [], λ c m. absurd (List·Memᴰ·not-nil m))
       pass (c ∷ cs) k n =
-          pass-step c cs k (suc n) (λ k₁ m. pass cs k₁ m) (O .agrees (c .matrix)) refl (known O (c .matrix) k) refl (leb C (length k)) refl
+          pass-step c cs k (suc n) (λ k₁ m. pass cs k₁ m) _ refl _ refl _ refl
 
     -- ---- what each candidate preserves: there is room for those kept, and no two have one matrix
 

@@ -41,21 +41,21 @@ row-rows r f j h = row-from 0 r f j h ∙ ap f (let e : 0 + j ≡ j = omega arit
 
 -- ---- equal in every row
 
-same-refl : (x : List ℕ) → sameRows x x ≡ true
-unfolding sameRows
-same-refl [] = refl
-same-refl (a ∷ x) = rw (eq-eqb a a refl) (same-refl x)
-
 same-true : (x y : List ℕ) → sameRows x y ≡ true → x ≡ y
 unfolding sameRows
 same-true [] [] e = refl
 same-true [] (b ∷ y) e = absurd (true≢false (sym e))
 same-true (a ∷ x) [] e = absurd (true≢false (sym e))
-same-true (a ∷ x) (b ∷ y) e = go (eqb a b) refl e (λ h. same-true x y h)
+same-true (a ∷ x) (b ∷ y) e = go _ refl e (λ h. same-true x y h)
   where
     go : (t : Bool) → eqb a b ≡ t → (t && sameRows x y) ≡ true → (sameRows x y ≡ true → x ≡ y) → a ∷ x ≡ b ∷ y
     go true w h r = ap₂ (λ (p : ℕ) (q : List ℕ). p ∷ q) (eqb-true a b w) (r h)
     go false w h r = absurd (true≢false (sym h))
+
+same-refl : (x : List ℕ) → sameRows x x ≡ true
+unfolding sameRows
+same-refl [] = refl
+same-refl (a ∷ x) = rw (eq-eqb a a refl) (same-refl x)
 
 module _ (i : Input) where
   -- the comparison is exact and the commuting marks are right
