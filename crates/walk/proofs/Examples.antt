@@ -7,7 +7,7 @@ use Prim.Native.Nat.{ℕ}
 use lib.ListN.{length}
 use Rattle.words.specs.Word.{bit}
 use Rattle.walk.specs.Nodes.{Node}
-use Rattle.walk.specs.Walk.{Candidate, State, found, full, none, going, ended, kept, tried, each, count, ofSize, leftSizes, finish, orders, unaryCandidates, pairs, layer, known, judge, consider, through, after, walk}
+use Rattle.walk.specs.Walk.{Candidate, State, found, full, none, going, ended, each, count, ofSize, leftSizes, finish, orders, unaryCandidates, pairs, layer, known, judge, consider, through, after, walk}
 use Rattle.walk.specs.Rows.{word, someOf, allOf, unaryRow, binaryRow, constantRow}
 use Rattle.walk.specs.Input.{Input, sameRows, every, separating, search}
 

@@ -4,8 +4,8 @@
 use mathlib.Core.Path.{_≡_, refl, sym, ap, ap₂, _∙_, subst}
 use mathlib.Core.Logic.{_⊎_, inl, inr, ⊎-elim}
 use mathlib.Core.Bool.{Bool, true, false}
-use mathlib.Core.List.{List, [], _∷_, _++_, map, List·Memᴰ·head, List·Memᴰ·tail, List·Memᴰ·not-nil, List·Memᴰ·cases-cons, Memᴰ·append-left, Memᴰ·append-right, List·Memᴰ·append-cases, Memᴰ·map, Memᴰ·of-map}
-use Prim.Native.Nat.{ℕ, zero, suc, _+_, _-_, _≤_, _<_, _/_}
+use mathlib.Core.List.{List, map, List·Memᴰ·head, List·Memᴰ·tail, List·Memᴰ·not-nil, List·Memᴰ·cases-cons, Memᴰ·append-left, Memᴰ·append-right, List·Memᴰ·append-cases, Memᴰ·map, Memᴰ·of-map}
+use Prim.Native.Nat.{ℕ, zero, suc, _+_, _-_, _≤_, _<_}
 use native.Mathlib.Omega.{arith}
 use native.Mathlib.Nat.{eq-or-lt-of-le}
 use native.Mathlib.Decide.{decLe}
@@ -104,7 +104,8 @@ module _ {L U B Mat : Type 0} (O : Offer L U B Mat) where
       let (op, ho, h₃) = from-each (λ op. orders O (O .commutes op) op l q) (O .binaries) h₂ in
       let (pl, sl) = from-ofSize i k hl in
       let (pq, sq) = from-ofSize (m - i) k hq in
-      ⊎-elim (fits-pair m k op l q ho pl pq (omega arith) c) (fits-pair m k op q l ho pq pl (omega arith) c)
+      ⊎-elim {A = c ≡ binaryOn O op l q} {B = c ≡ binaryOn O op q l}
+      (fits-pair m k op l q ho pl pq (omega arith) c) (fits-pair m k op q l ho pq pl (omega arith) c)
       (from-orders (O .commutes op) op l q h₃)
 
   pub layer-fits : (s : ℕ) (k : List (Candidate Mat)) (c : Candidate Mat) → c ∈ layer O s k → Fits s k c
@@ -189,7 +190,7 @@ module _ {L U B Mat : Type 0} (O : Offer L U B Mat) where
           ap₂ (λ (x y : Candidate Mat). O .binaryMatrix op (x .matrix) (y .matrix)) el eq,
         ))
         (λ ge. let (l, q, el, eq, w) = in-layer m k op b a hb ha pb ge (omega arith) ho in
-        ⊎-elim
+        ⊎-elim {A = O .commutes op ≡ true} {B = binaryOn O op q l ∈ orders O (O .commutes op) op l q}
         (λ y. (
           binaryOn O op l q,
           w (binaryOn O op l q) (orders-first (O .commutes op) op l q),

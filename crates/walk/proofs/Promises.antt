@@ -1,19 +1,19 @@
 -- The promises: the theorem over matrices (Smallest) read by the step from words to the reading (Reading).
 -- Assumes nothing.
 use mathlib.Core.Path.{_≡_, refl, sym, ap, _∙_, subst}
-use mathlib.Core.Logic.{_↔_, _⊎_, inl, inr, ⊎-elim}
-use mathlib.Core.Bool.{Bool, true, false, true≢false}
-use mathlib.Core.List.{List, [], _∷_, _++_, map, List·Memᴰ·head, List·Memᴰ·tail, List·Memᴰ·not-nil, List·Memᴰ·cases-cons, List·Memᴰ·append-cases}
-use Prim.Native.Nat.{ℕ, zero, suc, _+_, _≤_, _<_}
+use mathlib.Core.Logic.{_⊎_, ⊎-elim}
+use mathlib.Core.Bool.{true≢false}
+use mathlib.Core.List.{List, [], _∷_, List·Memᴰ·head, List·Memᴰ·tail, List·Memᴰ·not-nil, List·Memᴰ·cases-cons}
+use Prim.Native.Nat.{ℕ, suc, _+_, _≤_}
 use native.Mathlib.Omega.{arith}
 use lib.ListN.{length}
 use Rattle.words.specs.Word.{Means}
 use Rattle.walk.specs.Formula.{Formula, size, Holds, Separates, Offered, _∈_}
-use Rattle.walk.specs.Nodes.{Node, Spells, codes}
+use Rattle.walk.specs.Nodes.{Node, codes}
 use Rattle.walk.specs.Walk.{Candidate, Ending, found, full, none, State, going, ended, finish, after, walk}
 use Rattle.walk.specs.Input.{Input, Passes, session, sessions, language, lengthOf, row, separating, offer, search}
 use Rattle.walk.specs.Promises.{Table, nodes, NoneBelow, Alike, Apart, Found, Full, Keeps, KeepsAll, Kept, FoundSmallest, NoneMeansNone, FullNeedsRoom, KeptDistinct, WalkEnds}
-use Rattle.walk.proofs.Trees.{matrix, From, Is, is-size, spells-size}
+use Rattle.walk.proofs.Trees.{matrix, Is, is-size, spells-size}
 use Rattle.walk.proofs.Pass.{Rejected, Distinct, Tidy}
 use Rattle.walk.proofs.Smallest.{Needs, Ours, Smallest, Spills, EndsWell, Says, walk-says}
 use Rattle.walk.proofs.Reading.{lawful, from-offered, offered-from, row-means, agrees-separates, alike-matrix}

@@ -2,24 +2,25 @@
 -- agrees with the marks exactly if its formula separates, and two formulas have one matrix exactly if they are alike.
 -- Assumes nothing.
 use mathlib.Core.Path.{_≡_, refl, sym, ap, ap₂, _∙_, subst, fun-ext}
-use mathlib.Core.Logic.{_↔_, _⊎_, inl, inr, ⊎-elim, Iff·trans}
+use mathlib.Core.Logic.{_↔_, _⊎_, ⊎-elim}
 use mathlib.Core.Bool.{Bool, true, false, _&&_, Bool·beq, true≢false}
-use mathlib.Core.List.{List, [], _∷_, _++_, map, List·Memᴰ·head, List·Memᴰ·tail, List·Memᴰ·not-nil, List·Memᴰ·cases-cons, Memᴰ·append-left, Memᴰ·append-right, List·Memᴰ·append-cases, Memᴰ·map, Memᴰ·of-map, Memᴰ·cast}
-use Prim.Native.Nat.{ℕ, zero, suc, _+_, _-_, _≤_, _<_}
+use mathlib.Core.List.{List, [], _∷_, map, List·Memᴰ·head, List·Memᴰ·tail, List·Memᴰ·not-nil, List·Memᴰ·cases-cons, Memᴰ·append-left, Memᴰ·append-right, List·Memᴰ·append-cases, Memᴰ·map, Memᴰ·of-map, Memᴰ·cast}
+use Prim.Native.Nat.{ℕ, zero, suc, _+_, _-_, _<_}
 use native.Mathlib.Omega.{arith}
 use lib.ListN.{length, getD}
 use lib.Seq.{ext-getD}
 use lib.Dec.{eqb, ltb}
 use borrow.Author.Tests.{eqb-true, eq-eqb, ltb-true, lt-ltb}
-use Rattle.words.specs.Word.{width, bit, At, Means}
+use Rattle.words.specs.Word.{bit, At, Means}
 use Rattle.words.proofs.At.{means-unique}
-use Rattle.sequence.specs.Operators.{Unary, Binary, unaryCode, binaryCode, commutes}
+use Rattle.sequence.specs.Operators.{unaryCode, binaryCode}
 use Rattle.walk.specs.Formula.{leaf, unary, binary, Leaf, proposition, constant, Formula, Holds, Accepts, Separates, LeafOffered, Offered, _∈_}
 use Rattle.walk.specs.Walk.{count}
-use Rattle.walk.specs.Rows.{isOn, unaryRow, binaryRow, constantRow, acceptsRow}
-use Rattle.walk.specs.Input.{Input, Passes, markOf, lengthOf, wordOf, session, sessions, language, unaryOf, binaryOf, rows, row, sameRows, every, constantsIf, leaves, leafRow, separating, offer}
+use Rattle.walk.specs.Rows.{isOn, unaryRow, binaryRow, acceptsRow}
+use Rattle.walk.specs.Input.{Input, Passes, markOf, lengthOf, session, sessions, language, unaryOf, binaryOf, rows, row, sameRows, every, constantsIf, leaves, leafRow, separating, offer}
 use Rattle.walk.specs.Promises.{Alike}
 use Rattle.walk.proofs.Members.{in-count, from-count}
+use Rattle.walk.proofs.Nodes.{unary-of, binary-of}
 use Rattle.walk.proofs.Trees.{matrix, From, Lawful}
 use Rattle.walk.proofs.Rows.{means-agree, unary-agree, binary-agree, unary-row-means, binary-row-means, constant-row-means, binary-row-comm, and-on, beq-on}
 
@@ -94,21 +95,6 @@ module _ (i : Input) where
           eq-one : c ∈ (constant true ∷ []) → c ≡ constant true
           eq-one h = mathlib.Core.List.List·Memᴰ·eq-of-singleton h
       given false e h = absurd (List·Memᴰ·not-nil h)
-
-unary-of : (op : Unary) → unaryOf (unaryCode op) ≡ op
-unary-of Unary.not = refl
-unary-of Unary.weakNext = refl
-unary-of Unary.strongNext = refl
-unary-of Unary.finally = refl
-unary-of Unary.globally = refl
-
-binary-of : (op : Binary) → binaryOf (binaryCode op) ≡ op
-binary-of Binary.or = refl
-binary-of Binary.and = refl
-binary-of Binary.until = refl
-binary-of Binary.release = refl
-binary-of Binary.implies = refl
-binary-of Binary.equiv = refl
 
 -- an operator is among those of the codes exactly if its code is among them, where each code is an operator's
 module _ {A : Type 0} (of : ℕ → A) (code : A → ℕ) (back : (op : A) → of (code op) ≡ op) where

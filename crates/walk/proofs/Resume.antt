@@ -2,19 +2,19 @@
 -- meantime leaves the rest of them as they were, and the next one can be read off what is kept.
 -- Assumes nothing.
 use mathlib.Core.Path.{_≡_, refl, sym, ap, ap₂, _∙_, subst}
-use mathlib.Core.Logic.{_⊎_, inl, inr, ⊎-elim}
+use mathlib.Core.Logic.{_⊎_, ⊎-elim}
 use mathlib.Core.Bool.{Bool, true, false, cond}
 use mathlib.Core.List.{List, [], _∷_, _++_, map, foldl, foldl-append, append-nil, append-assoc, List·Memᴰ·head, List·Memᴰ·tail, List·Memᴰ·not-nil, Memᴰ·append-left}
 use Prim.Native.Nat.{ℕ, zero, suc, _+_, _-_, _≤_, _<_}
 use native.Mathlib.Omega.{arith}
 use native.Mathlib.Nat.{eq-or-lt-of-le}
 use lib.ListN.{length, take, drop, length-append, length-take, length-drop, take-append-drop}
-use lib.Seq.{take-all, take-add, take-append-le, take-append-add, take-append-seam}
-use lib.Dec.{eqb, leb, ltb}
+use lib.Seq.{take-all, take-add, take-append-seam}
+use lib.Dec.{eqb, ltb}
 use borrow.Author.Tests.{eqb-true, ltb-true, ltb-false}
 use Rattle.walk.specs.Formula.{_∈_}
-use Rattle.walk.specs.Walk.{Offer, Candidate, Placed, Ending, found, full, none, State, going, ended, kept, tried, each, ofSize, keepIf, leftSizes, orders, unaryOn, unaryCandidates, pairs, layer, known, judge, consider, through, after, finish, walk, trail}
-use Rattle.walk.specs.Input.{Input, offer}
+use Rattle.walk.specs.Walk.{Offer, Candidate, Placed, Ending, found, full, none, State, going, ended, kept, tried, each, ofSize, keepIf, leftSizes, orders, unaryOn, unaryCandidates, pairs, layer, consider, through, after, finish, walk, trail}
+use Rattle.walk.specs.Input.{offer}
 use Rattle.walk.specs.Cut.{Cut, more, over, settle, start, step, turn}
 use Rattle.walk.specs.Promises.{Decided, CutOf, TurnsAdd, CutResume}
 use Rattle.walk.proofs.Members.{left-below}

@@ -2,10 +2,10 @@
 -- agrees with the marks. So what is found is smallest, and where there was no place nothing smaller would have been found.
 -- Assumes nothing.
 use mathlib.Core.Path.{_≡_, refl, sym, ap, _∙_, subst}
-use mathlib.Core.Logic.{_⊎_, inl, inr, ⊎-elim}
-use mathlib.Core.Bool.{Bool, true, false, true≢false}
-use mathlib.Core.List.{List, [], _∷_, _++_, map, foldl, List·Memᴰ·not-nil}
-use Prim.Native.Nat.{ℕ, zero, suc, _+_, _≤_, _<_}
+use mathlib.Core.Logic.{_⊎_, ⊎-elim}
+use mathlib.Core.Bool.{true, true≢false}
+use mathlib.Core.List.{List, map, foldl, List·Memᴰ·not-nil}
+use Prim.Native.Nat.{ℕ, zero, suc, _≤_}
 use native.Mathlib.Omega.{arith}
 use native.Mathlib.Nat.{eq-or-lt-of-le}
 use native.Mathlib.Decide.{decLe}
@@ -14,8 +14,8 @@ use Rattle.walk.specs.Formula.{Tree, size, _∈_}
 use Rattle.walk.specs.Nodes.{Node, Spells}
 use Rattle.walk.specs.Walk.{Offer, Candidate, Ending, found, full, none, State, going, ended, kept, layer, consider, through, after, finish, walk}
 use Rattle.walk.proofs.Trees.{size-pos, matrix, From, Lawful, Is, is-size, is-longer, Sound}
-use Rattle.walk.proofs.Layers.{Stands, Complete, layer-fits, layer-has}
-use Rattle.walk.proofs.Pass.{Rejected, Grows, grows-keeps, grows-from, Covers, Hit, Stuck, Pass, pass, stays, Distinct, Tidy, tidy}
+use Rattle.walk.proofs.Layers.{Complete, layer-fits, layer-has}
+use Rattle.walk.proofs.Pass.{Rejected, Grows, grows-keeps, grows-from, Covers, Pass, pass, stays, Tidy, tidy}
 
 module _ {L U B Mat : Type 0} (O : Offer L U B Mat) where
   -- each formula over what was offered that agrees with the marks has a size of n or more

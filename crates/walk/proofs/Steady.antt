@@ -1,20 +1,20 @@
 -- A larger bound or more room never changes what was found: an ended walk stays as it is through the sizes after, and two walks with different
 -- room are alike until the smaller room is full.
 -- Assumes nothing.
-use mathlib.Core.Path.{_≡_, refl, sym, ap, _∙_, subst}
+use mathlib.Core.Path.{_≡_, refl, sym, ap, _∙_}
 use mathlib.Core.Logic.{_⊎_, inl, inr, ⊎-elim}
 use mathlib.Core.Bool.{Bool, true, false}
 use mathlib.Core.List.{List, [], _∷_, foldl}
-use Prim.Native.Nat.{ℕ, zero, suc, _≤_, _<_}
+use Prim.Native.Nat.{ℕ, zero, suc, _≤_}
 use native.Mathlib.Omega.{arith}
 use native.Mathlib.Nat.{eq-or-lt-of-le}
 use lib.ListN.{length}
 use lib.Dec.{leb}
 use borrow.Author.Tests.{leb-true, leb-false}
 use Rattle.walk.specs.Nodes.{Node}
-use Rattle.walk.specs.Walk.{Offer, Candidate, Ending, found, full, none, State, going, ended, kept, known, judge, layer, consider, through, after, finish, walk}
-use Rattle.walk.specs.Input.{Input, separating, offer, search}
-use Rattle.walk.specs.Promises.{Table, again, LargerBoundSame, LargerRoomSame}
+use Rattle.walk.specs.Walk.{Offer, Candidate, Ending, found, full, State, going, ended, kept, known, judge, layer, consider, through, after, finish, walk}
+use Rattle.walk.specs.Input.{Input, separating, offer}
+use Rattle.walk.specs.Promises.{again, LargerBoundSame, LargerRoomSame}
 use Rattle.walk.proofs.Pass.{stays}
 
 module _ {L U B Mat : Type 0} (O : Offer L U B Mat) where

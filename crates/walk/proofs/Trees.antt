@@ -1,11 +1,11 @@
 -- Formulas over an offer: the matrix of one, which of them use only what was offered, and how a candidate stands for one.
 -- Assumes nothing.
-use mathlib.Core.Path.{_≡_, refl, sym, ap, _∙_, subst}
-use mathlib.Core.Bool.{Bool, true, false}
-use mathlib.Core.List.{List, [], _∷_, _++_, map, map-append}
-use Prim.Native.Nat.{ℕ, suc, _+_, _≤_, _<_}
+use mathlib.Core.Path.{_≡_, sym, subst}
+use mathlib.Core.Bool.{true, false}
+use mathlib.Core.List.{List, _++_, map, map-append}
+use Prim.Native.Nat.{ℕ, _+_, _≤_, _<_}
 use native.Mathlib.Omega.{arith}
-use lib.ListN.{length, getD, length-append, length-map, List·getD-append}
+use lib.ListN.{length, length-append, List·getD-append}
 use Rattle.walk.specs.Formula.{Tree, leaf, unary, binary, size, _∈_}
 use Rattle.walk.specs.Nodes.{Node, Codes, nodeAt, Spells}
 use Rattle.walk.specs.Walk.{Offer, Candidate}

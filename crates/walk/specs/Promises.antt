@@ -2,14 +2,14 @@
 -- Assumes nothing.
 use mathlib.Core.Path.{_≡_}
 use mathlib.Core.Logic.{_↔_, _⊎_}
-use mathlib.Core.Bool.{Bool, true, false}
+use mathlib.Core.Bool.{Bool, false}
 use mathlib.Core.List.{List, [], _∷_, _++_, map, foldl}
 use Prim.Native.Nat.{ℕ, suc, _+_, _≤_, _<_}
 use lib.ListN.{length, take}
 use Rattle.words.specs.Word.{Means}
 use Rattle.walk.specs.Formula.{Formula, size, Holds, Separates, Offered, _∈_}
 use Rattle.walk.specs.Nodes.{Node, Spells, codes}
-use Rattle.walk.specs.Walk.{Candidate, Ending, found, full, none, State, going, ended, tried, leftSizes, consider, trail}
+use Rattle.walk.specs.Walk.{Candidate, Ending, found, full, none, going, ended, tried, leftSizes, consider, trail}
 use Rattle.walk.specs.Input.{Input, Passes, session, sessions, language, lengthOf, row, separating, offer, search}
 use Rattle.walk.specs.Cut.{Cut, more, over, start, turn}
 
@@ -80,6 +80,11 @@ module _ (i : Input) where
     pub formulas : List Formula
     pub kept : KeepsAll k k formulas
     pub apart : Apart formulas
+
+-- ---- "The answer's formula is its root node over that list": there is no other
+
+abbrev pub OneFormula : Type 0
+OneFormula = (k : List Node) (n : Node) (t u : Formula) → Spells codes k n t → Spells codes k n u → t ≡ u
 
 -- ---- (1) to (3): FOUND, NONE, FULL
 
