@@ -3,7 +3,7 @@
 use mathlib.Core.Path.{_≡_}
 use mathlib.Core.Logic.{_⊎_}
 use mathlib.Core.List.{List, [], _∷_}
-use Prim.Native.Nat.{ℕ}
+use Prim.Native.Nat.{ℕ, zero, suc}
 
 -- a row of the table: its number, and when it is given
 pub record Row : Type 1 where
@@ -14,3 +14,8 @@ pub record Row : Type 1 where
 unfoldable pub Decided : List Row → ℕ → Type 0
 Decided [] k = k ≡ 0
 Decided (row ∷ rows) k = (row .given × (k ≡ row .number)) ⊎ ((row .given → ⊥) × Decided rows k)
+
+-- the first of two numbers so decided, one list before the other
+abbrev pub firstOf : ℕ → ℕ → ℕ
+firstOf zero later = later
+firstOf (suc k) later = suc k

@@ -58,19 +58,34 @@ binaryRows code s t = notBinary code ∷ (illFormed s ++ (illFormed t ++ (unequa
 
 -- ---- the answers
 
--- an answer by the rows, and where none is given a sequence as it is asked
+-- 01's number of each case of an answer; 0 where it is a sequence
+abbrev pub numberOf : Answer → ℕ
+numberOf (Sequence s) = 0
+numberOf (Refused k) = k
+
+-- and what the case carries: the sequence is as it is asked, and a refusal has only its number, which is not 0
+abbrev pub Carries : (CharSeq → Type 0) → Answer → Type 0
+Carries asked (Sequence s) = asked s
+Carries asked (Refused k) = 0 < k
+
+-- an answer by the rows
 abbrev pub Answers : List Row → (CharSeq → Type 0) → Answer → Type 0
-Answers rows asked (Sequence s) = Decided rows 0 × asked s
-Answers rows asked (Refused k) = (0 < k) × Decided rows k
+Answers rows asked a = Decided rows (numberOf a) × Carries asked a
 
 -- the sequence of that length and word
 abbrev pub NewAnswer : ℕ → ℕ → Answer → Type 0
 NewAnswer n x a = Answers (illFormed (record { length = n; values = x })) (λ r. (r .length ≡ n) × (r .values ≡ x)) a
 
 -- the operator with that code, read on the sequence
+abbrev pub UnaryRead : ℕ → CharSeq → CharSeq → Type 0
+UnaryRead code s r = (op : Unary) × (unaryCode op ≡ code) × Denotes (s .length) (unaryReading op (s .length) (At (s .values))) r
+
 abbrev pub UnaryAnswer : ℕ → CharSeq → Answer → Type 0
-UnaryAnswer code s a = Answers (unaryRows code s) (λ r. (op : Unary) × (unaryCode op ≡ code) × Denotes (s .length) (unaryReading op (s .length) (At (s .values))) r) a
+UnaryAnswer code s a = Answers (unaryRows code s) (UnaryRead code s) a
+
+-- the operator with that code, read on two sequences
+abbrev pub BinaryRead : ℕ → CharSeq → CharSeq → CharSeq → Type 0
+BinaryRead code s t r = (op : Binary) × (binaryCode op ≡ code) × Denotes (s .length) (binaryReading op (s .length) (At (s .values)) (At (t .values))) r
 
 abbrev pub BinaryAnswer : ℕ → CharSeq → CharSeq → Answer → Type 0
-BinaryAnswer code s t a =
-    Answers (binaryRows code s t) (λ r. (op : Binary) × (binaryCode op ≡ code) × Denotes (s .length) (binaryReading op (s .length) (At (s .values)) (At (t .values))) r) a
+BinaryAnswer code s t a = Answers (binaryRows code s t) (BinaryRead code s t) a

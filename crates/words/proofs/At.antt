@@ -1,15 +1,15 @@
--- Bits as readings: what `|`, `&`, `!` and a single bit hold at a place, what makes a `Means`, and that a reading has one word.
+-- Bits as readings: what `|`, `&`, `!` and the low bit hold at a place, a bounded search, what makes a `Means`, and that a reading has one word.
 -- Assumes nothing.
-use mathlib.Core.Path.{_≡_, refl, sym, ap, _∙_, subst}
-use mathlib.Core.Logic.{_↔_, _⊎_, inl, inr}
-use Prim.Native.Nat.{ℕ, zero, suc, _+_, _-_, _*_, _/_, _%_, _^_, _≤_, _<_, min, max}
-use native.Mathlib.Nat.{lt-of-not-le, lt-of-lt-of-le, lt-suc-self}
+use mathlib.Core.Path.{_≡_, refl, sym, _∙_, subst}
+use mathlib.Core.Logic.{_↔_, _⊎_, inl, inr, ⊎-elim}
+use Prim.Native.Nat.{ℕ, zero, suc, _+_, _-_, _^_, _≤_, _<_}
+use native.Mathlib.Nat.{lt-of-not-le, lt-of-lt-of-le, eq-or-lt-of-le}
 use native.Mathlib.Omega.{arith}
-use lib.Bits.{bitAnd, bitOr}
-use lib.Pow.{ones-lt, pow-lt, pow-mono}
+use lib.Bits.{bitAnd, bitOr, and-mask}
+use lib.Pow.{pow-mono}
 use Rattle.words.specs.Ltlf.{Reading}
-use Rattle.words.specs.Word.{bit, At, Wf, Means}
-use Rattle.words.proofs.Bits.{bit-lt, bit-shr, bit-and, bit-or, bit-not, bit-high, bit-ones, bit-one-below, bits-ext, clear-lt}
+use Rattle.words.specs.Word.{width, bit, At, Wf, Means}
+use Rattle.words.proofs.Bits.{bit-lt, bit-first, bit-and, bit-or, bit-not, bit-high, bits-ext, clear-lt}
 
 -- a bit is set or not
 pub at-or-not : (x i : ℕ) → At x i ⊎ (At x i → ⊥)
@@ -21,6 +21,23 @@ at-or-not x i = go (bit x i) refl
 
 pub not-at : (x i : ℕ) → (At x i → ⊥) → bit x i ≡ 0
 not-at x i h = omega (arith, bit-lt x i)
+
+-- `x & 1` is the first snapshot
+pub at-first : (x : ℕ) → bitAnd x 1 ≡ 1 ↔ At x 0
+at-first x = (λ h. omega (arith, bit-first x, and-mask x 1), λ h. omega (arith, bit-first x, and-mask x 1))
+
+-- a reading that holds or not at each place holds at one of the d places from i on, or at none
+module _ (f : Reading) (df : (i : ℕ) → f i ⊎ (f i → ⊥)) where
+  pub find : (d i : ℕ) → ((k : ℕ) × (i ≤ k) × (k < i + d) × f k) ⊎ ((k : ℕ) → i ≤ k → k < i + d → f k → ⊥)
+  find zero i = inr (λ k l m. absurd (omega arith))
+  find (suc d) i = go (df (i + d)) (find d i)
+    where
+      go : f (i + d) ⊎ (f (i + d) → ⊥) → ((k : ℕ) × (i ≤ k) × (k < i + d) × f k) ⊎ ((k : ℕ) → i ≤ k → k < i + d → f k → ⊥)
+          → ((k : ℕ) × (i ≤ k) × (k < i + suc d) × f k) ⊎ ((k : ℕ) → i ≤ k → k < i + suc d → f k → ⊥)
+      go (inl p) q = inl (i + d, omega arith, omega arith, p)
+      go (inr p) (inl t) = inl (t .0, t .1, omega arith, t .3)
+      go (inr p) (inr q) =
+          inr (λ k l b. ⊎-elim (λ e. subst (λ (k : ℕ). f k → ⊥) (sym e) p) (λ s. q k l s) (eq-or-lt-of-le {n = k} {m = i + d} (omega arith)))
 
 pub at-or : (a b i : ℕ) → At (bitOr a b) i → At a i ⊎ At b i
 at-or a b i h = go (at-or-not a i)
@@ -44,12 +61,6 @@ and-at a b i h k = omega (arith, bit-and a b i)
 pub at-not : (m a i : ℕ) → i < m → a < 2 ^ m → At ((2 ^ m - 1) - a) i ↔ (At a i → ⊥)
 at-not m a i h l = (λ p q. omega (arith, bit-not m i a h l), λ p. omega (arith, bit-not m i a h l, bit-lt a i))
 
-pub at-one : (k i : ℕ) → At (2 ^ k) i → i ≡ k
-at-one k i h =
-    let low : k < suc i = lt-of-not-le λ g. omega (arith, bit-one-below k i g) in
-    let high : i < suc k = lt-of-not-le λ g. omega (arith, bit-high (suc k) (2 ^ k) i (pow-lt (lt-suc-self k)) g) in
-    omega arith
-
 -- a set bit stands below the length
 pub at-below : {n x : ℕ} → Wf n x → (i : ℕ) → At x i → i < n
 at-below w i h = lt-of-not-le λ g. omega (arith, w .clear i g)
@@ -70,15 +81,6 @@ means {n} {r} s to from = record {
   holds = λ i h. (λ p. to i p .1, from i h);
 }
 
--- a word masked to n bits
-pub masked : {n : ℕ} {f : Reading} (w : ℕ) → n ≤ 64 → ((i : ℕ) → i < n → At w i ↔ f i) → Means n (bitAnd w (2 ^ n - 1)) f
-masked {n} {f} w s e = means s (λ i h. to i (at-and w (2 ^ n - 1) i h)) (λ i h p. and-at w (2 ^ n - 1) i (e i h .1 p) (bit-ones n i h))
-  where
-    to : (i : ℕ) → At w i × At (2 ^ n - 1) i → (i < n) × f i
-    to i p =
-        let l : i < n = lt-of-not-le λ g. omega (arith, bit-high n (2 ^ n - 1) i (ones-lt n) g) in
-        (l, e i l .0 (p .0))
-
 -- a reading has one word
 pub means-unique : {n a b : ℕ} {f : Reading} → Means n a f → Means n b f → a ≡ b
 means-unique {n} {a} {b} p q =
@@ -87,3 +89,9 @@ means-unique {n} {a} {b} p q =
     same : (i : ℕ) → i < n → At a i ⊎ (At a i → ⊥) → bit a i ≡ bit b i
     same i h (inl t) = t ∙ sym (q .holds i h .1 (p .holds i h .0 t))
     same i h (inr t) = not-at a i t ∙ sym (not-at b i (λ u. t (p .holds i h .1 (q .holds i h .0 u))))
+
+-- a word with a place at or above n that holds, or a well-formed one
+pub wf-or-above : {n x : ℕ} → n ≤ width → x < 2 ^ width → ((i : ℕ) × (n ≤ i) × At x i) ⊎ Wf n x
+wf-or-above {n} {x} s l =
+    ⊎-elim (λ t. inl (t .0, t .1, t .3)) (λ t. inr (record { short = s; clear = λ i h. not-at x i (λ p. let b = at-below (lt-wf {n = width} (omega arith) l) i p in t i h (omega arith) p) }))
+    (find (At x) (at-or-not x) (width - n) n)

@@ -1,16 +1,15 @@
 -- What each operator's word means at all 64 places, for any words and any mask: `|`, `&` and `!` act place by place, the doubling shifts
 -- look 64 places ahead, and `G` and `R` are the duals that the code computes.
 -- Assumes nothing.
-use mathlib.Core.Path.{_≡_, refl, sym, ap, _∙_, subst}
+use mathlib.Core.Path.{_≡_, sym, ap, _∙_}
 use mathlib.Core.Logic.{_↔_, _⊎_, inl, inr, ⊎-elim}
-use Prim.Native.Nat.{ℕ, zero, suc, _+_, _-_, _*_, _/_, _%_, _^_, _≤_, _<_}
-use native.Mathlib.Nat.{eq-or-lt-of-le}
+use Prim.Native.Nat.{ℕ, _+_, _-_, _/_, _^_, _≤_, _<_}
 use native.Mathlib.Omega.{arith}
 use lib.Bits.{bitAnd, bitOr, bitXor, xor-lt}
 use Rattle.words.specs.Ltlf.{Reading, Not, Or, And, Implies, Equiv, StrongNext, Finally, Globally, Until, Release}
 use Rattle.words.specs.Word.{width, bit, At, Wf, Means}
 use Rattle.words.proofs.Bits.{bit-lt, bit-shr, bit-xor}
-use Rattle.words.proofs.At.{at-or-not, at-or, or-left, or-right, at-and, and-at, at-not, at-below, wf-lt, lt-wf, means}
+use Rattle.words.proofs.At.{at-or-not, find, at-or, or-left, or-right, at-and, and-at, at-not, at-below, wf-lt, lt-wf, means}
 use Rattle.words.proofs.Doubling.{some-first, some-double, all-first, all-double, reach-first, reach-double}
 
 -- a word has its 64 places
@@ -33,7 +32,7 @@ masked v {m} w e =
     (λ i h p. and-at v m i (e i h .1 (p .1)) (p .0))
 
 -- `!x` on the machine
-abbrev inverse : ℕ → ℕ
+abbrev pub inverse : ℕ → ℕ
 inverse x = (2 ^ width - 1) - x
 
 at-inverse : {x : ℕ} → Wf width x → (i : ℕ) → i < width → At (inverse x) i ↔ Not (At x) i
@@ -94,7 +93,10 @@ weak-next-means {x} {m} w v = masked (bitOr (inverse (m / 2 ^ 1)) (x / 2 ^ 1)) v
 abbrev smear : ℕ → ℕ → ℕ
 smear d v = bitOr v (v / 2 ^ d)
 
-pub finally-means : {x : ℕ} → Wf width x → Means width (smear 32 (smear 16 (smear 8 (smear 4 (smear 2 (smear 1 x)))))) (Finally width (At x))
+abbrev pub finallyWord : ℕ → ℕ
+finallyWord x = smear 32 (smear 16 (smear 8 (smear 4 (smear 2 (smear 1 x)))))
+
+pub finally-means : {x : ℕ} → Wf width x → Means width (finallyWord x) (Finally width (At x))
 finally-means {x} w =
     let s₁ = some-double 1 _ (some-first x) in
     let s₂ = some-double 2 _ s₁ in
@@ -146,17 +148,6 @@ until-means {x} {y} w u =
 
 -- ---- the duals: `!F!` and `!(!x U !y)` on the places of a mask
 
--- of the d places from i on, x misses one or holds at all
-some-or-all : (x d i : ℕ) → ((k : ℕ) × (i ≤ k) × (k < i + d) × (At x k → ⊥)) ⊎ ((k : ℕ) → i ≤ k → k < i + d → At x k)
-some-or-all x zero i = inr (λ k l m. absurd (omega arith))
-some-or-all x (suc d) i = go (at-or-not x (i + d)) (some-or-all x d i)
-  where
-    go : At x (i + d) ⊎ (At x (i + d) → ⊥) → ((k : ℕ) × (i ≤ k) × (k < i + d) × (At x k → ⊥)) ⊎ ((k : ℕ) → i ≤ k → k < i + d → At x k)
-        → ((k : ℕ) × (i ≤ k) × (k < i + suc d) × (At x k → ⊥)) ⊎ ((k : ℕ) → i ≤ k → k < i + suc d → At x k)
-    go (inr p) q = inl (i + d, omega arith, omega arith, p)
-    go (inl p) (inl t) = inl (t .0, t .1, omega arith, t .3)
-    go (inl p) (inr q) = inr (λ k l b. ⊎-elim (λ e. subst (At x) (sym e) p) (λ s. q k l s) (eq-or-lt-of-le {n = k} {m = i + d} (omega arith)))
-
 module _ (x m : ℕ) {a : ℕ} (inv : Means width a (And (At m) (Not (At x)))) where
   -- a place of the mask that the negation leaves out is one where x holds
   left-out : (i : ℕ) → i < width → (At a i → ⊥) → At m i → At x i
@@ -185,8 +176,8 @@ release-means x y m {a} {b} {u} {r} na nb f g = record { wf = g .wf; holds = λ 
       where
         held : (At u i → ⊥) → (j : ℕ) → i ≤ j → j < width → At b j → (k : ℕ) × (i ≤ k) × (k < j) × Implies (At m) (At x) k
         held e j l k q = ⊎-elim (λ s. (s .0, s .1, omega arith, left-out x m na (s .0) (omega arith) (s .3)))
-            (λ s. absurd (e (f .holds i h .1 (j, l, k, q, λ n c d. s n c (omega arith)))))
-            (some-or-all a (j - i) i)
+            (λ s. absurd (e (f .holds i h .1 (j, l, k, q, λ n c d. ⊎-elim (λ p. p) (λ p. absurd (s n c (omega arith) p)) (at-or-not a n)))))
+            (find (Not (At a)) (λ n. ⊎-elim (λ p. inr (λ e. e p)) (λ p. inl p) (at-or-not a n)) (j - i) i)
 
     from : (i : ℕ) → i < width → At m i × Release width (Implies (At m) (At x)) (Implies (At m) (At y)) i → At r i
     from i h t = g .holds i h .1 (

@@ -1,0 +1,10 @@
+pub mod Refusals
+pub mod Masked
+pub mod Leading
+pub mod Groups
+pub mod Table
+pub mod Answers
+pub mod Unique
+pub mod Computed
+pub mod Commuting
+pub mod Settled

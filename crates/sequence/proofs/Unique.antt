@@ -1,0 +1,125 @@
+-- Uniqueness: any two results that a public operation's contract allows for the same input are equal.
+-- For the words of crate `words` and for `CharSeq::mask` that is `means-unique` of its proofs/At.antt, for `CharSeq::refusal` `decided-unique`.
+-- Assumes nothing.
+use mathlib.Core.Path.{_≡_, refl, sym, ap, ap₂, _∙_, subst}
+use mathlib.Core.Logic.{_↔_}
+use mathlib.Core.Bool.{Bool, true, false}
+use Prim.Native.Nat.{ℕ, zero, suc, _-_}
+use native.Mathlib.Omega.{arith}
+use Rattle.words.specs.Ltlf.{Reading}
+use Rattle.words.specs.Word.{width, At, Means}
+use Rattle.words.proofs.At.{means-unique}
+use Rattle.sequence.specs.declared.CharSeq.{CharSeq}
+use Rattle.sequence.specs.declared.Answer.{Answer}
+use Rattle.sequence.specs.declared.operators.Operator.{Operator}
+use Rattle.sequence.specs.Operators.{Unary, Binary, unaryCode, binaryCode, unaryReading, binaryReading, not, weakNext, strongNext, finally, globally, or, and, until, release, implies, equiv}
+use Rattle.sequence.specs.Masked.{UnaryWord, BinaryWord, unaryMasked, binaryMasked}
+use Rattle.sequence.specs.Masked.UnaryWord.{word as uword, nothing as unothing}
+use Rattle.sequence.specs.Masked.BinaryWord.{word as bword, nothing as bnothing}
+use Rattle.sequence.specs.Table.{Listed, unary, binary, neither, unaryRow, binaryRow}
+use Rattle.sequence.specs.Sequence.{Denotes, NewAnswer, UnaryRead, UnaryAnswer, BinaryRead, BinaryAnswer}
+use Rattle.sequence.proofs.Refusals.{answers-unique}
+use Rattle.sequence.proofs.Groups.{unary-below, binary-between}
+
+-- ---- tests: `CharSeq::is_well_formed`, `CharSeq::accepts`
+
+pub test-unique : {P : Type 0} (a b : Bool) → (a ≡ true) ↔ P → (b ≡ true) ↔ P → a ≡ b
+test-unique true b p q = sym (q .1 (p .0 refl))
+test-unique false true p q = p .1 (q .0 refl)
+test-unique false false p q = refl
+
+-- ---- sequences
+
+-- a sequence is determined by its length and bits
+seq : ℕ → ℕ → CharSeq
+seq n x = record { length = n; values = x }
+
+same-seq : (s t : CharSeq) → s .length ≡ t .length → s .values ≡ t .values → s ≡ t
+unfolding seq
+same-seq s t p q = ap₂ seq p q
+
+pub denotes-unique : {n : ℕ} {f : Reading} (s t : CharSeq) → Denotes n f s → Denotes n f t → s ≡ t
+denotes-unique s t p q = same-seq s t (p .length ∙ sym (q .length)) (means-unique (p .means) (q .means))
+
+-- a code has one operator
+unary-at : ℕ → Unary
+unary-at zero = not
+unary-at (suc zero) = weakNext
+unary-at (suc (suc zero)) = strongNext
+unary-at (suc (suc (suc zero))) = finally
+unary-at (suc (suc (suc (suc k)))) = globally
+
+binary-at : ℕ → Binary
+binary-at zero = or
+binary-at (suc zero) = and
+binary-at (suc (suc zero)) = until
+binary-at (suc (suc (suc zero))) = release
+binary-at (suc (suc (suc (suc zero)))) = implies
+binary-at (suc (suc (suc (suc (suc k))))) = equiv
+
+unary-back : (op : Unary) → unary-at (unaryCode op) ≡ op
+unfolding unary-at
+unary-back not = refl
+unary-back weakNext = refl
+unary-back strongNext = refl
+unary-back finally = refl
+unary-back globally = refl
+
+binary-back : (op : Binary) → binary-at (binaryCode op - 5) ≡ op
+unfolding binary-at
+binary-back or = refl
+binary-back and = refl
+binary-back until = refl
+binary-back release = refl
+binary-back implies = refl
+binary-back equiv = refl
+
+pub unary-one : (a b : Unary) → unaryCode a ≡ unaryCode b → a ≡ b
+unary-one a b e = sym (unary-back a) ∙ ap unary-at e ∙ unary-back b
+
+pub binary-one : (a b : Binary) → binaryCode a ≡ binaryCode b → a ≡ b
+binary-one a b e = sym (binary-back a) ∙ ap (λ (k : ℕ). binary-at (k - 5)) e ∙ binary-back b
+
+pub new-unique : (n x : ℕ) (a b : Answer) → NewAnswer n x a → NewAnswer n x b → a ≡ b
+new-unique n x a b p q = answers-unique _ _ (λ s t u v. same-seq s t (u .0 ∙ sym (v .0)) (u .1 ∙ sym (v .1))) a b p q
+
+pub unary-unique : (code : ℕ) (s : CharSeq) (a b : Answer) → UnaryAnswer code s a → UnaryAnswer code s b → a ≡ b
+unary-unique code s a b p q = answers-unique _ _ one a b p q
+  where
+    one : (r t : CharSeq) → UnaryRead code s r → UnaryRead code s t → r ≡ t
+    one r t u v = denotes-unique r t (u .2) (subst (λ (op : Unary). Denotes (s .length) (unaryReading op (s .length) (At (s .values))) t) (unary-one (v .0) (u .0) (v .1 ∙ sym (u .1))) (v .2))
+
+pub binary-unique : (code : ℕ) (s t : CharSeq) (a b : Answer) → BinaryAnswer code s t a → BinaryAnswer code s t b → a ≡ b
+binary-unique code s t a b p q = answers-unique _ _ one a b p q
+  where
+    one : (r r′ : CharSeq) → BinaryRead code s t r → BinaryRead code s t r′ → r ≡ r′
+    one r r′ u v =
+        denotes-unique r r′ (u .2)
+        (subst (λ (op : Binary). Denotes (s .length) (binaryReading op (s .length) (At (s .values)) (At (t .values))) r′) (binary-one (v .0) (u .0) (v .1 ∙ sym (u .1))) (v .2))
+
+-- ---- the table and the words by code
+
+pub listed-unique : (code : ℕ) (r s : Operator) → Listed code r → Listed code s → r ≡ s
+listed-unique code r s (unary a e p) (unary b d q) = p ∙ ap unaryRow (unary-one a b (e ∙ sym d)) ∙ sym q
+listed-unique code r s (binary a e p) (binary b d q) = p ∙ ap binaryRow (binary-one a b (e ∙ sym d)) ∙ sym q
+listed-unique code r s (neither m n p) (neither k l q) = p ∙ sym q
+listed-unique code r s (unary a e p) (binary b d q) = let t = binary-between b in absurd (omega (arith, unary-below a))
+listed-unique code r s (binary a e p) (unary b d q) = let t = binary-between a in absurd (omega (arith, unary-below b))
+listed-unique code r s (unary a e p) (neither m n q) = absurd (m a e)
+listed-unique code r s (binary a e p) (neither m n q) = absurd (n a e)
+listed-unique code r s (neither m n p) (unary b d q) = absurd (m b d)
+listed-unique code r s (neither m n p) (binary b d q) = absurd (n b d)
+
+pub unary-word-unique : (code x m r s : ℕ) → UnaryWord code x m r → UnaryWord code x m s → r ≡ s
+unary-word-unique code x m r s (uword a e p) (uword b d q) =
+    means-unique p (subst (λ (op : Unary). Means width s (unaryMasked op (At m) (At x))) (unary-one b a (d ∙ sym e)) q)
+unary-word-unique code x m r s (uword a e p) (unothing n q) = absurd (n a e)
+unary-word-unique code x m r s (unothing n p) (uword b d q) = absurd (n b d)
+unary-word-unique code x m r s (unothing n p) (unothing l q) = p ∙ sym q
+
+pub binary-word-unique : (code x y m r s : ℕ) → BinaryWord code x y m r → BinaryWord code x y m s → r ≡ s
+binary-word-unique code x y m r s (bword a e p) (bword b d q) =
+    means-unique p (subst (λ (op : Binary). Means width s (binaryMasked op (At m) (At x) (At y))) (binary-one b a (d ∙ sym e)) q)
+binary-word-unique code x y m r s (bword a e p) (bnothing n q) = absurd (n a e)
+binary-word-unique code x y m r s (bnothing n p) (bword b d q) = absurd (n b d)
+binary-word-unique code x y m r s (bnothing n p) (bnothing l q) = p ∙ sym q

@@ -1,0 +1,90 @@
+-- `apply_binary` meets its contract: the tests decide the rows, and what passes them is cut to its length.
+-- Assumes nothing.
+use mathlib.Core.Path.{refl, sym, subst}
+use Prim.Native.Nat.{ℕ}
+use native.Mathlib.Omega.{arith}
+use borrow.Author.Needs.{needs}
+use Rattle.words.specs.Word.{Wf}
+use Rattle.words.proofs.Lengths.{Mask}
+use Rattle.sequence.specs.declared.CharSeq.{CharSeq}
+use Rattle.sequence.specs.Refusals.{Decided}
+use Rattle.sequence.specs.Masked.{BinaryWord}
+use Rattle.sequence.specs.Masked.BinaryWord.{word, nothing}
+use Rattle.sequence.specs.Sequence.{binaryRows, BinaryRead}
+use Rattle.sequence.proofs.Masked.{binary-cut}
+use Rattle.sequence.proofs.Answers.{binary-decided, binary-passed}
+use Rattle.sequence.proofs.apply_binary.Statement.{statement}
+use Rattle.sequence.proofs.apply_binary.Tie as tie
+
+binary-refusal-requires : tie.Need-binary-refusal-requires
+binary-refusal-requires c κs = search needs
+
+refusal-requires : tie.Need-refusal-requires
+refusal-requires c κs = search needs
+
+refusal-requires-2 : tie.Need-refusal-requires-2
+refusal-requires-2 c κs = search needs
+
+first-requires : tie.Need-first-requires
+first-requires c κs = search needs
+
+unequal-refusal-requires : tie.Need-unequal-refusal-requires
+unequal-refusal-requires c κs = search needs
+
+first-requires-2 : tie.Need-first-requires-2
+first-requires-2 c κs = search needs
+
+first-requires-3 : tie.Need-first-requires-3
+first-requires-3 c κs = search needs
+
+-- what the calls decided
+decided : (c : tie.After-first3)
+    → Decided (binaryRows (c .before .before .before .before .before .before .before .args .code) (c .before .before .before .before .before .before .before .args .left) (c .before .before .before .before .before .before .before .args .right)) (c .first3 .result)
+decided c =
+    let lengths = c .before .before in
+    let right = lengths .before .before in
+    let left = right .before in
+    let group = left .before in
+    let s = group .before .args in
+    binary-decided (s .code) (s .left) (s .right) (group .binary-refusal .result) (left .refusal .result) (right .refusal2 .result) (lengths .unequal-refusal .result)
+    (group .binary-refusal .ensures) (left .refusal .ensures) (right .refusal2 .ensures) (lengths .before .first .ensures) (lengths .unequal-refusal .ensures) (c .before .first2 .ensures) (c .first3 .ensures)
+
+returns : tie.Need-returns
+returns c = (decided (c .before), omega arith)
+
+mask-requires : tie.Need-mask-requires
+mask-requires c κs = search needs
+
+binary-word-requires : tie.Need-binary-word-requires
+binary-word-requires c κs = search needs
+
+-- the word by code, on a session's mask
+read : (code : ℕ) (s t : CharSeq) (m r : ℕ) → Decided (binaryRows code s t) 0 → Mask (s .length) m → BinaryWord code (s .values) (t .values) m r
+    → BinaryRead code s t (record { length = s .length; values = r })
+read code s t m r d k (word op e p) =
+    let q = binary-passed code s t d in
+    (op, e, record { length = refl; means = binary-cut op k (q .1) (subst (λ (n : ℕ). Wf n (t .values)) (sym (q .3)) (q .2)) p })
+read code s t m r d k (nothing n e) = absurd (binary-passed code s t d .0 n)
+
+returns-2 : tie.Need-returns-2
+returns-2 c =
+    let t = c .before .before .before in
+    let s = t .before .before .before .before .before .before .before .args in
+    let d = subst (Decided (binaryRows (s .code) (s .left) (s .right))) (c .before .before .if1 .left) (decided t) in
+    (d, read (s .code) (s .left) (s .right) (c .before .mask .result) (c .binary-word .result) d (c .before .mask .ensures) (c .binary-word .ensures))
+
+pub apply-binary-spec : {M : Type 1} → statement M
+apply-binary-spec =
+    tie.close
+    (tie.spec
+    binary-refusal-requires
+    refusal-requires
+    refusal-requires-2
+    first-requires
+    unequal-refusal-requires
+    first-requires-2
+    first-requires-3
+    returns
+    mask-requires
+    binary-word-requires
+    returns-2)

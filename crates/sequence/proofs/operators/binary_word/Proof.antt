@@ -1,0 +1,67 @@
+-- `binary_word` meets its contract: each arm's word is that of the operator with the code, and no other code has one.
+-- Assumes nothing.
+use mathlib.Core.Path.{refl, sym}
+use native.Mathlib.Omega.{arith}
+use borrow.Author.Needs.{needs}
+use Rattle.sequence.specs.Operators.{or, and, until, release, implies, equiv}
+use Rattle.sequence.specs.Masked.BinaryWord.{word, nothing}
+use Rattle.sequence.proofs.Groups.{not-binary}
+use Rattle.sequence.proofs.operators.binary_word.Statement.{statement}
+use Rattle.sequence.proofs.operators.binary_word.Tie as tie
+
+or-requires : tie.Need-or-requires
+or-requires c κs = search needs
+
+and-requires : tie.Need-and-requires
+and-requires c κs = search needs
+
+until-requires : tie.Need-until-requires
+until-requires c κs = search needs
+
+release-requires : tie.Need-release-requires
+release-requires c κs = search needs
+
+implies-requires : tie.Need-implies-requires
+implies-requires c κs = search needs
+
+equiv-requires : tie.Need-equiv-requires
+equiv-requires c κs = search needs
+
+returns : tie.Need-returns
+returns c = word or (sym (c .before .match .keys1)) (c .or .ensures)
+
+returns-2 : tie.Need-returns-2
+returns-2 c = word and (sym (c .before .match .keys2)) (c .and .ensures)
+
+returns-3 : tie.Need-returns-3
+returns-3 c = word until (sym (c .before .match .keys3)) (c .until .ensures)
+
+returns-4 : tie.Need-returns-4
+returns-4 c = word release (sym (c .before .match .keys4)) (c .release .ensures)
+
+returns-5 : tie.Need-returns-5
+returns-5 c = word implies (sym (c .before .match .keys5)) (c .implies .ensures)
+
+returns-6 : tie.Need-returns-6
+returns-6 c = word equiv (sym (c .before .match .keys6)) (c .equiv .ensures)
+
+returns-7 : tie.Need-returns-7
+returns-7 c = nothing (not-binary _ (λ h. omega arith)) refl
+
+pub binary-word-spec : {M : Type 1} → statement M
+binary-word-spec =
+    tie.close
+    (tie.spec
+    or-requires
+    and-requires
+    until-requires
+    release-requires
+    implies-requires
+    equiv-requires
+    returns
+    returns-2
+    returns-3
+    returns-4
+    returns-5
+    returns-6
+    returns-7)

@@ -1,0 +1,168 @@
+// Runs P1 to P10 of document 01 and every operator on every word of up to 4 snapshots, and prints what came out.
+// The stored output is written from the Rust (differential/README.md).
+use libc::STDOUT_FILENO;
+use sequence::Answer;
+use sequence::CharSeq;
+use sequence::operators::operator_of;
+
+fn say(text: &[u8]) {
+    io::write_all(STDOUT_FILENO, text);
+}
+
+fn say_number(x: u64) {
+    io::print_decimal(STDOUT_FILENO, x);
+}
+
+fn say_token(code: u8) {
+    let op = operator_of(code);
+    let token = op.token;
+    let bytes = op.bytes;
+    say(&token[..bytes]);
+}
+
+fn say_answer(answer: Answer) {
+    match answer {
+        Answer::Sequence(seq) => say_number(seq.values),
+        Answer::Refused(number) => {
+            say(b"refused ");
+            say_number(number as u64);
+        }
+    }
+}
+
+fn say_length(length: usize) {
+    say(b"length ");
+    say_number(length as u64);
+    say(b": ");
+}
+
+fn unary_example(name: &[u8], code: u8, length: usize, x: u64) {
+    say(name);
+    say(b", ");
+    say_length(length);
+    say_token(code);
+    say(b" ");
+    say_number(x);
+    say(b" = ");
+    say_answer(sequence::apply_unary(code, CharSeq { length, values: x }));
+    say(b"\n");
+}
+
+fn binary_example(name: &[u8], code: u8, length: usize, x: u64, y: u64) {
+    say(name);
+    say(b", ");
+    say_length(length);
+    say_number(x);
+    say(b" ");
+    say_token(code);
+    say(b" ");
+    say_number(y);
+    say(b" = ");
+    say_answer(sequence::apply_binary(
+        code,
+        CharSeq { length, values: x },
+        CharSeq { length, values: y },
+    ));
+    say(b"\n");
+}
+
+fn settled() {
+    unary_example(b"P1", 0, 4, 6);
+    unary_example(b"P2", 2, 4, 6);
+    unary_example(b"P2", 1, 4, 6);
+    unary_example(b"P3", 3, 4, 6);
+    unary_example(b"P3", 4, 4, 6);
+    binary_example(b"P4", 7, 4, 3, 4);
+    binary_example(b"P5", 8, 4, 4, 7);
+    binary_example(b"P5", 8, 4, 0, 7);
+    binary_example(b"P6", 9, 4, 6, 3);
+    binary_example(b"P6", 10, 4, 6, 3);
+    unary_example(b"P7", 1, 1, 0);
+    unary_example(b"P7", 2, 1, 1);
+    unary_example(b"P8", 0, 0, 0);
+    unary_example(b"P8", 1, 0, 0);
+    unary_example(b"P9", 0, 64, 0);
+    unary_example(b"P9", 1, 64, 0);
+    binary_example(b"P10", 7, 64, 0x7fff_ffff_ffff_ffff, 0x8000_0000_0000_0000);
+}
+
+// How many words of that length there are, up to 4.
+fn words_of(length: usize) -> u64 {
+    match length {
+        0 => 1,
+        1 => 2,
+        2 => 4,
+        3 => 8,
+        _ => 16,
+    }
+}
+
+fn unary_cell(code: u8, length: usize, x: u64) {
+    say(b" ");
+    say_answer(sequence::apply_unary(code, CharSeq { length, values: x }));
+}
+
+fn unary_cells(code: u8, length: usize) {
+    for x in 0..words_of(length) {
+        unary_cell(code, length, x);
+    }
+}
+
+fn unary_line(code: u8, length: usize) {
+    say_length(length);
+    say_token(code);
+    say(b" =");
+    unary_cells(code, length);
+    say(b"\n");
+}
+
+fn unary_lines(length: usize) {
+    for code in 0u8..5 {
+        unary_line(code, length);
+    }
+}
+
+fn binary_cell(code: u8, length: usize, x: u64, y: u64) {
+    say(b" ");
+    say_answer(sequence::apply_binary(
+        code,
+        CharSeq { length, values: x },
+        CharSeq { length, values: y },
+    ));
+}
+
+fn binary_cells(code: u8, length: usize, x: u64) {
+    for y in 0..words_of(length) {
+        binary_cell(code, length, x, y);
+    }
+}
+
+fn binary_line(code: u8, length: usize, x: u64) {
+    say_length(length);
+    say_number(x);
+    say(b" ");
+    say_token(code);
+    say(b" =");
+    binary_cells(code, length, x);
+    say(b"\n");
+}
+
+fn binary_rows(code: u8, length: usize) {
+    for x in 0..words_of(length) {
+        binary_line(code, length, x);
+    }
+}
+
+fn binary_lines(length: usize) {
+    for code in 5u8..11 {
+        binary_rows(code, length);
+    }
+}
+
+fn main() {
+    settled();
+    for length in 0usize..5 {
+        unary_lines(length);
+        binary_lines(length);
+    }
+}

@@ -1,0 +1,51 @@
+//! Finds the Rust's sources and writes the module tree that their own `use crate::..` lines expect.
+use std::env;
+use std::fs;
+use std::path::{Path, PathBuf};
+
+fn main() {
+    let project = PathBuf::from(env::var("CARGO_MANIFEST_DIR").unwrap());
+    let rust = match env::var("SCARFPYLON_RUST") {
+        Ok(path) if !path.is_empty() => PathBuf::from(path),
+        _ => project.join("../../shared/docs/src/src"),
+    };
+    let rust = rust.canonicalize().unwrap_or_else(|error| {
+        panic!(
+            "the Rust's sources are not at hand at {}: {error}; SCARFPYLON_RUST names the folder that has ltl/cs.rs",
+            rust.display()
+        )
+    });
+    let stand_ins = project.join("src/stand_ins");
+
+    // One row a module: the folder of the tree, the module, where its file is.
+    let modules: [(&str, &str, PathBuf); 8] = [
+        ("bool", "cv", stand_ins.join("cv.rs")),
+        ("ltl", "cm", rust.join("ltl/cm.rs")),
+        ("ltl", "cs", rust.join("ltl/cs.rs")),
+        ("ltl", "hash", stand_ins.join("hash.rs")),
+        ("ltl", "trace", stand_ins.join("trace.rs")),
+        ("ops", "binary", rust.join("ops/binary.rs")),
+        ("ops", "traits", rust.join("ops/traits.rs")),
+        ("ops", "unary", rust.join("ops/unary.rs")),
+    ];
+
+    let mut tree = String::new();
+    for folder in ["bool", "ltl", "ops"] {
+        // The Rust has more than the comparison calls.
+        tree += &format!("#[allow(dead_code)]\npub(crate) mod {folder} {{\n");
+        for (_, name, file) in modules.iter().filter(|row| row.0 == folder) {
+            tree += &module(name, file);
+        }
+        tree += "}\n";
+    }
+
+    let out = PathBuf::from(env::var("OUT_DIR").unwrap()).join("the_rust.rs");
+    fs::write(out, tree).unwrap();
+    println!("cargo:rerun-if-env-changed=SCARFPYLON_RUST");
+}
+
+fn module(name: &str, file: &Path) -> String {
+    assert!(file.is_file(), "{} is missing", file.display());
+    println!("cargo:rerun-if-changed={}", file.display());
+    format!("    #[path = {file:?}]\n    pub(crate) mod {name};\n")
+}

@@ -1,0 +1,45 @@
+//! The harness: asks the Rust's own operators and our compiled program the same questions and compares every value.
+
+// The Rust's files, unchanged, and the stand-ins for what is missing, as build.rs found them.
+include!(concat!(env!("OUT_DIR"), "/the_rust.rs"));
+
+/// As in the Rust's lib.rs.
+type HashType = u64;
+
+mod compare;
+mod findings;
+mod oracle;
+mod program;
+mod query;
+mod refusals;
+mod sample;
+mod settled;
+mod words;
+
+const USAGE: &str = "differential: one of
+  compare [RANDOM_WORDS]   the Rust's answers against our program's (default: 1000 random words a length)
+  compare --short          the same with fewer edge pairs and 10 random words a length
+  sample                   writes the stored answers anew: crates/replay/stdin and stdout, crates/settled/stdout
+  findings                 what the Rust does outside document 01's domain";
+
+fn main() {
+    let words: Vec<String> = std::env::args().skip(1).collect();
+    let words: Vec<&str> = words.iter().map(String::as_str).collect();
+    let status = match words.as_slice() {
+        ["compare"] => compare::run(compare::Extent::full(1000)),
+        ["compare", "--short"] => compare::run(compare::Extent::short()),
+        ["compare", count] => match count.parse() {
+            Ok(count) => compare::run(compare::Extent::full(count)),
+            Err(_) => usage(),
+        },
+        ["sample"] => sample::run(),
+        ["findings"] => findings::run(),
+        _ => usage(),
+    };
+    std::process::exit(status);
+}
+
+fn usage() -> i32 {
+    eprintln!("{USAGE}");
+    2
+}
