@@ -1,15 +1,21 @@
 -- The settled examples S2, S3, S4 of document 01 and larger runs, computed by the definition.
 -- The larger runs' figures are those that differential/walk_counts.py prints, which is written from the prose of document 01 alone.
 -- Assumes nothing.
-use mathlib.Core.Path.{_≡_, refl}
-use mathlib.Core.List.{List, [], _∷_}
-use Prim.Native.Nat.{ℕ}
+use mathlib.Core.Path.{_≡_, refl, sym}
+use mathlib.Core.Logic.{_⊎_, inl, inr}
+use mathlib.Core.List.{List, [], _∷_, List·Memᴰ·not-nil, List·Memᴰ·eq-of-singleton}
+use Prim.Native.Nat.{ℕ, zero, suc, _≤_, _<_}
+use native.Mathlib.Omega.{arith}
 use lib.ListN.{length}
-use Rattle.words.specs.Word.{bit}
+use Rattle.words.specs.Word.{width, bit, Wf}
+use Rattle.words.proofs.At.{lt-wf}
+use Rattle.sequence.specs.Operators.{Binary}
 use Rattle.walk.specs.Nodes.{Node}
 use Rattle.walk.specs.Walk.{Candidate, State, found, full, none, going, ended, each, count, ofSize, leftSizes, finish, orders, unaryCandidates, pairs, layer, known, judge, consider, through, after, walk}
 use Rattle.walk.specs.Rows.{word, someOf, allOf, unaryRow, binaryRow, constantRow}
-use Rattle.walk.specs.Input.{Input, sameRows, every, separating, search}
+use Rattle.walk.specs.Input.{Input, Passes, markOf, lengthOf, wordOf, sameRows, every, separating, search}
+use Rattle.walk.specs.Promises.{Found}
+use Rattle.walk.proofs.Promises.{found-smallest}
 
 abbrev node : ℕ → ℕ → ℕ → ℕ → Node
 node c l r s = record { code = c; left = l; right = r; size = s }
@@ -75,6 +81,37 @@ s3 = record {
 s3-found : search s3 ≡ ended (found (node 7 0 1 3)) (at 16 0 0 1 (3 ∷ 1 ∷ []) ∷ at 16 1 0 1 (4 ∷ 4 ∷ []) ∷ []) 5
 unfolding each count ofSize leftSizes finish orders unaryCandidates pairs layer known judge consider through after walk word someOf allOf unaryRow binaryRow constantRow sameRows every separating bit
 s3-found = refl
+
+-- it passes the checks, so the theorem speaks of it: `(p) U (q)` separates, and nothing smaller does
+two : (P : ℕ → Type 0) → P 0 → P 1 → (j : ℕ) → j < 2 → P j
+two P a b zero h = a
+two P a b (suc zero) h = b
+two P a b (suc (suc j)) h = absurd (omega arith)
+
+s3-passes : Passes s3
+s3-passes = record {
+  sessions-in = (omega arith, omega arith);
+  propositions-in = (omega arith, omega arith);
+  bound-in = (omega arith, omega arith);
+  room-in = (omega arith, omega arith);
+  constants-in = inl refl;
+  marks-there = omega arith;
+  lengths-there = omega arith;
+  words-there = omega arith;
+  well-formed = λ j p h l.
+      two (λ (j : ℕ). Wf (lengthOf s3 j) (wordOf s3 j p))
+      (two (λ (p : ℕ). Wf 3 (wordOf s3 0 p)) (lt-wf (omega arith) (omega arith)) (lt-wf (omega arith) (omega arith)) p l)
+      (two (λ (p : ℕ). Wf 3 (wordOf s3 1 p)) (lt-wf (omega arith) (omega arith)) (lt-wf (omega arith) (omega arith)) p l) j h;
+  short = two (λ (j : ℕ). lengthOf s3 j ≤ width) (omega arith) (omega arith);
+  marks-in = two (λ (j : ℕ). (markOf s3 j ≡ 0) ⊎ (markOf s3 j ≡ 1)) (inr refl) (inl refl);
+  unary-in = λ c m. absurd (List·Memᴰ·not-nil m);
+  unary-once = tt;
+  binary-in = λ c m. (Binary.until, sym (List·Memᴰ·eq-of-singleton m));
+  binary-once = (List·Memᴰ·not-nil, tt);
+}
+
+s3-smallest : Found s3 (node 7 0 1 3) (at 16 0 0 1 (3 ∷ 1 ∷ []) ∷ at 16 1 0 1 (4 ∷ 4 ∷ []) ∷ [])
+s3-smallest = found-smallest s3 s3-passes (node 7 0 1 3) (at 16 0 0 1 (3 ∷ 1 ∷ []) ∷ at 16 1 0 1 (4 ∷ 4 ∷ []) ∷ []) 5 s3-found
 
 -- ---- S4: "one empty session, mark 1, p, all operators"
 

@@ -12,9 +12,9 @@ use native.Mathlib.Decide.{decLe}
 use lib.ListN.{length, length-map}
 use Rattle.walk.specs.Formula.{Tree, leaf, unary, binary, size, _∈_}
 use Rattle.walk.specs.Nodes.{Node, nodeAt, Spells}
-use Rattle.walk.specs.Walk.{Offer, Candidate, Placed, each, ofSize, leftSizes, seed, unaryOn, binaryOn, orders, unaryCandidates, pairs, layer}
+use Rattle.walk.specs.Walk.{Offer, Candidate, Placed, each, ofSize, leftSizes, seed, unaryOn, binaryOn, orders, unaryCandidates, pairs, layer, matrix}
 use Rattle.walk.proofs.Members.{in-each, from-each, left-sizes, left-below, in-ofSize, from-ofSize, Stood}
-use Rattle.walk.proofs.Trees.{size-pos, matrix, From, Lawful, Is, is-size, Sound}
+use Rattle.walk.proofs.Trees.{size-pos, From, Lawful, Is, is-size, Sound}
 
 le-or-le : (m n : ℕ) → (m ≤ n) ⊎ (n ≤ m)
 le-or-le m n = elim (decLe m n) [ yes h ↦ inl h | no h ↦ inr (omega arith) ]
