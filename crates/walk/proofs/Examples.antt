@@ -143,6 +143,48 @@ s4-found : search (s4 0 3) ≡ ended (found (node 16 0 0 1)) [] 1
 unfolding each count ofSize leftSizes finish orders unaryCandidates pairs layer known judge consider through after walk word someOf allOf unaryRow binaryRow constantRow sameRows every separating bit
 s4-found = refl
 
+-- ---- constants: "propositions in order, then, if constants are asked for, false, then true", and after them `X` and `G` in the given order
+
+abbrev asked : Input
+asked = record {
+  sessions = 2;
+  propositions = 1;
+  bound = 2;
+  room = 4096;
+  constants = 1;
+  marks = 1 ∷ 0 ∷ [];
+  lengths = 2 ∷ 2 ∷ [];
+  words = 1 ∷ 1 ∷ [];
+  unary = 4 ∷ 1 ∷ [];
+  binary = [];
+}
+
+asked-none : search asked ≡ ended none
+    (at 16 0 0 1 (1 ∷ 1 ∷ []) ∷ at 17 0 0 1 (0 ∷ 0 ∷ []) ∷ at 18 0 0 1 (3 ∷ 3 ∷ []) ∷ at 1 0 0 2 (2 ∷ 2 ∷ []) ∷ []) 9
+unfolding each count ofSize leftSizes finish orders unaryCandidates pairs layer known judge consider through after walk word someOf allOf unaryRow binaryRow constantRow sameRows every separating bit
+asked-none = refl
+
+-- ---- the order of the loops: with two of them exchanged the answer is another
+
+abbrev nested : Input
+nested = record {
+  sessions = 2;
+  propositions = 2;
+  bound = 4;
+  room = 10;
+  constants = 0;
+  marks = 1 ∷ 0 ∷ [];
+  lengths = 2 ∷ 2 ∷ [];
+  words = 2 ∷ 0 ∷ 3 ∷ 1 ∷ [];
+  unary = 2 ∷ 1 ∷ [];
+  binary = 5 ∷ 9 ∷ [];
+}
+
+nested-found : search nested ≡ ended (found (node 9 0 4 4))
+    (at 16 0 0 1 (2 ∷ 3 ∷ []) ∷ at 16 1 0 1 (0 ∷ 1 ∷ []) ∷ at 2 0 0 2 (1 ∷ 1 ∷ []) ∷ at 1 0 0 2 (3 ∷ 3 ∷ []) ∷ at 2 1 0 2 (0 ∷ 0 ∷ []) ∷ at 1 1 0 2 (2 ∷ 2 ∷ []) ∷ []) 34
+unfolding each count ofSize leftSizes finish orders unaryCandidates pairs layer known judge consider through after walk word someOf allOf unaryRow binaryRow constantRow sameRows every separating bit
+nested-found = refl
+
 -- ---- larger runs
 
 -- one proposition, constants, all operators: no formula tells two equal sessions apart
