@@ -234,7 +234,7 @@ equals = record {
   sessions = 2;
   propositions = 1;
   bound = 5;
-  room = 4096;
+  room = 200;
   constants = 1;
   marks = 1 ∷ 0 ∷ [];
   lengths = 2 ∷ 2 ∷ [];
@@ -262,7 +262,7 @@ four room = record {
   binary = 5 ∷ 6 ∷ 7 ∷ 8 ∷ 9 ∷ 10 ∷ [];
 }
 
-four-found : brief (search (four 4096)) ≡ 1 ∷ 4 ∷ 82 ∷ 0 ∷ 5 ∷ 633 ∷ 164 ∷ []
+four-found : brief (search (four 200)) ≡ 1 ∷ 4 ∷ 82 ∷ 0 ∷ 5 ∷ 633 ∷ 164 ∷ []
 unfolding each count ofSize leftSizes finish orders unaryCandidates pairs layer known judge consider through after walk word someOf allOf unaryRow binaryRow constantRow sameRows every separating bit
 four-found = refl
 
@@ -276,7 +276,7 @@ three = record {
   sessions = 3;
   propositions = 1;
   bound = 5;
-  room = 4096;
+  room = 200;
   constants = 1;
   marks = 1 ∷ 0 ∷ 0 ∷ [];
   lengths = 4 ∷ 4 ∷ 2 ∷ [];
