@@ -1,22 +1,22 @@
 -- "the first extra byte, or the file's length if it ends early": every good file cut short anywhere is refused at the length that is left, and every
 -- good file with more after it at its own length. S1 cut to its first 12 bytes, `refused 8 at 12`, is one case.
 -- Assumes nothing.
-use mathlib.Core.Path.{_≡_, refl, sym, ap, _∙_, subst}
+use mathlib.Core.Path.{_≡_, refl, sym, ap, _∙_}
 use mathlib.Core.Bool.{Bool, true, false, cond}
 use mathlib.Core.List.{List, [], _∷_, _++_}
-use Prim.Native.Nat.{ℕ, zero, suc, _+_, _-_, _^_, _≤_, _<_, min}
+use Prim.Native.Nat.{ℕ, zero, suc, _+_, _-_, _^_, _≤_, _<_}
 use native.Mathlib.Decide.{decLe}
 use native.Mathlib.Nat.{lt-of-not-le}
 use native.Mathlib.Omega.{arith}
-use borrow.Author.Tests.{lt-ltb, le-ltb, le-leb, lt-leb, leb-true, ne-eqb}
+use borrow.Author.Tests.{lt-ltb, le-ltb, le-leb, lt-leb, ne-eqb}
 use lib.Dec.{ltb, leb}
 use lib.ListN.{length, getD, take, drop, length-take, length-append}
 use lib.Seq.{take-nil, take-take, getD-take, drop-append-seam}
 use Rattle.words.specs.Word.{width}
 use Rattle.session.specs.Numbers.{sessions, propositions, bound, nameLength}
 use Rattle.session.specs.Format.{Session, Parts, fileBytes, Good}
-use Rattle.session.specs.Offence.{Got, got, bad, Reader, andThen, each, byte, within, counted, letter, name, isIn, sameBytes, notTwice, namesUpTo, number, word, session, allSessions, isUnary, isBinary, code, codes, Settings, settings, atEnd, parts, wholeFile}
-use Rattle.session.proofs.Readers.{got-bad, got-value, got-next, in-turn, byte-sound}
+use Rattle.session.specs.Offence.{got, bad, Reader, andThen, each, byte, within, counted, letter, name, isIn, sameBytes, notTwice, namesUpTo, number, word, session, allSessions, isUnary, isBinary, code, codes, Settings, settings, atEnd, parts, wholeFile}
+use Rattle.session.proofs.Readers.{got-bad, got-next, in-turn, byte-sound}
 use Rattle.session.proofs.Steps.{byte-next}
 use Rattle.session.proofs.Spans.{Spans}
 use Rattle.session.proofs.Whole.{parts-complete, whole-run}

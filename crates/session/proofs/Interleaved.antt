@@ -1,7 +1,7 @@
 -- How a caller with rows of its own puts them between the rows of session data, by the number that `test` answered: search has its 2 after the 1,
 -- its own rooms in the 3, and its 7 at the end.
 -- Assumes nothing.
-use mathlib.Core.Path.{_≡_, refl, sym, _∙_}
+use mathlib.Core.Path.{_≡_, refl}
 use mathlib.Core.Logic.{_⊎_, inl, inr, ⊎-elim}
 use mathlib.Core.List.{List, [], _∷_}
 use Prim.Native.Nat.{ℕ}

@@ -20,3 +20,4 @@ pub mod Theorems
 pub mod Largest
 pub mod Cuts
 pub mod Interleaved
+pub mod Offsets

@@ -1,12 +1,12 @@
 -- What a reader of document 01 will look for: the reader accepts exactly the good files and gives their parts, what it hands out passes the tests
 -- of session data and the search's own tests, a writer's bytes read back give the parts, and any two allowed results are equal.
 -- Assumes nothing.
-use mathlib.Core.Path.{_≡_, refl, sym, ap, _∙_, subst}
-use mathlib.Core.Logic.{_↔_, _⊎_, inl, inr}
-use mathlib.Core.Bool.{Bool, true, false}
+use mathlib.Core.Path.{_≡_, refl, sym, ap, _∙_}
+use mathlib.Core.Logic.{_↔_}
+use mathlib.Core.Bool.{true}
 use mathlib.Core.List.{List, [], _∷_, _++_, map, flatMap, List·Memᴰ, List·Memᴰ·head, List·Memᴰ·tail, Memᴰ·cast, append-nil, append-assoc}
 use Prim.Native.Nat.{ℕ, zero, suc, _+_, _*_, _≤_, _<_}
-use native.Mathlib.Nat.{mul-suc, suc-mul}
+use native.Mathlib.Nat.{suc-mul}
 use native.Mathlib.Omega.{arith}
 use lib.ListN.{length, getD, take, drop, length-map, length-append, List·getD-append}
 use lib.Seq.{getD-append-add, take-append-seam}
@@ -23,7 +23,6 @@ use Rattle.session.specs.Format.{Session, Parts, one, section, nameBytes
 use Rattle.session.specs.Offence.{Got, got, bad, namesUpTo, wholeNames, wholeFile}
 use Rattle.session.specs.Data.{dataRows}
 use Rattle.session.specs.Reading.{Said, said, saidNames, namesSaid, Lent, lent, After, after, marksOf, lengthsOf, wordsOf, roomFor, readOf}
-use Rattle.session.specs.Inner.{AllUpTo, AllClear}
 use Rattle.session.proofs.Readers.{got-bad, got-value}
 use Rattle.session.proofs.Numbers.{Bytes}
 use Rattle.session.proofs.Whole.{names-sound, names-complete, end-sound, end-complete, whole-run, run-whole, passed-is-good, good-passes}
@@ -203,5 +202,5 @@ pub names-unique : (file : List ℕ) (a b : NamesAnswer) → saidNames a ≡ nam
 names-unique file a b p q = names-one a b (p ∙ sym q)
 
 -- the tests of session data
-pub test-unique : (r m : ℕ) (marks lengths words : List ℕ) (j k : ℕ) → Decided (dataRows r m marks lengths words) j → Decided (dataRows r m marks lengths words) k → j ≡ k
-test-unique r m marks lengths words j k p q = decided-unique (dataRows r m marks lengths words) j k p q
+pub data-unique : (r m : ℕ) (marks lengths words : List ℕ) (j k : ℕ) → Decided (dataRows r m marks lengths words) j → Decided (dataRows r m marks lengths words) k → j ≡ k
+data-unique r m marks lengths words j k p q = decided-unique (dataRows r m marks lengths words) j k p q

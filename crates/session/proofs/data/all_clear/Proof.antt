@@ -1,9 +1,9 @@
 -- `all_clear` meets its contract.
 -- Assumes nothing.
-use Prim.Native.Nat.{ℕ, _+_, _*_, _-_, _≤_, _<_}
+use Prim.Native.Nat.{ℕ, _*_, _-_, _≤_, _<_}
 use native.Mathlib.Omega.{arith}
-use mathlib.Core.Path.{_≡_, sym, ap, subst}
-use mathlib.Core.Bool.{Bool, true, false}
+use mathlib.Core.Path.{_≡_, ap, subst}
+use mathlib.Core.Bool.{true, false}
 use borrow.Author.Count.{below-more}
 use lib.ListN.{getD}
 use native.Mathlib.Nat.{suc-mul}

@@ -1,6 +1,6 @@
 -- `test` meets its contract: the tests go through the rows in their order, each over all sessions.
 -- Assumes nothing.
-use Prim.Native.Nat.{ℕ, _+_, _*_, _-_, _≤_, _<_}
+use Prim.Native.Nat.{_-_}
 use native.Mathlib.Omega.{arith}
 use mathlib.Core.Path.{subst}
 use mathlib.Core.Logic.{inl, inr}

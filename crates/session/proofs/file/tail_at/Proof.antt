@@ -1,6 +1,5 @@
 -- `tail_at` meets its contract: the settings byte by byte, and the end.
 -- Assumes nothing.
-use native.Mathlib.Omega.{arith}
 use Rattle.session.proofs.Sections.{tail-no-count, tail-no-mark, tail-no-bound, tail-mark-in, tail-bound-in, tail-extra, tail-whole}
 use borrow.Author.Needs.{needs}
 use Rattle.session.proofs.file.tail_at.Statement.{statement}

@@ -1,7 +1,6 @@
 -- `name_at` meets its contract: the length byte, the letters, and the names before.
 -- Assumes nothing.
 use mathlib.Core.Path.{sym, _∙_}
-use native.Mathlib.Omega.{arith}
 use mathlib.Core.List.{[]}
 use Rattle.session.proofs.Sections.{name-no-length, name-bad-letter, name-fits, name-twice, name-new}
 use borrow.Author.Needs.{needs}

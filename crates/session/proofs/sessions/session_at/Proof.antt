@@ -1,6 +1,5 @@
 -- `session_at` meets its contract: mark, length and words.
 -- Assumes nothing.
-use native.Mathlib.Omega.{arith}
 use Rattle.session.proofs.Lists.{within-high}
 use Rattle.session.proofs.Readers.{byte-sound}
 use Rattle.session.proofs.Steps.{byte-read}
