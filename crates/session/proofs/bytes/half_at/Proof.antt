@@ -60,8 +60,12 @@ add-result-3 c = search needs
 
 returns : tie.Need-returns
 returns c =
-    let a = c .before .before .before .before .before .before .before .before .before in
-    (rw (c .before .before .before .before .before .before .wide .ensures .0, c .before .before .before .before .wide2 .ensures .0, c .before .before .wide3 .ensures .0, c .wide4 .ensures .0) (sym (four-at (a .args .file .now) (a .args .at) (a .pre))), omega arith)
+    let at-wide3 = c .before .before in
+    let at-wide2 = at-wide3 .before .before in
+    let at-wide = at-wide2 .before .before in
+    let at-place9 = at-wide .before .before .before in
+    let a = at-place9 in
+    (rw (at-wide .wide .ensures .0, at-wide2 .wide2 .ensures .0, at-wide3 .wide3 .ensures .0, c .wide4 .ensures .0) (sym (four-at (a .args .file .now) (a .args .at) (a .pre))), omega arith)
 
 pub half-at-spec : {M : Type 1} → statement M
 half-at-spec =
