@@ -63,8 +63,7 @@ returns c =
     let at-wide3 = c .before .before in
     let at-wide2 = at-wide3 .before .before in
     let at-wide = at-wide2 .before .before in
-    let at-place9 = at-wide .before .before .before in
-    let a = at-place9 in
+    let a = at-wide .before .before .before in
     (rw (at-wide .wide .ensures .0, at-wide2 .wide2 .ensures .0, at-wide3 .wide3 .ensures .0, c .wide4 .ensures .0) (sym (four-at (a .args .file .now) (a .args .at) (a .pre))), omega arith)
 
 pub half-at-spec : {M : Type 1} → statement M

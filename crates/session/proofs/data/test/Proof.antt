@@ -42,27 +42,27 @@ returns-4 c = let a = c .before .before .before .before .before .before .before 
 
 returns-5 : tie.Need-returns-5
 returns-5 c =
-    let at-place1 = c .before in
-    let at-start = at-place1 .before .before .before .before .before .before .before in
+    let past-numbers = c .before in
+    let at-start = past-numbers .before .before .before .before .before .before .before in
     let a = at-start .args in
-    is-3 (a .r) (a .m) (a .marks .now) (a .lengths .now) (a .words .now) (numbers (at-place1)) (inl (c .if5 .taken))
+    is-3 (a .r) (a .m) (a .marks .now) (a .lengths .now) (a .words .now) (numbers past-numbers) (inl (c .if5 .taken))
 
 returns-6 : tie.Need-returns-6
 returns-6 c =
-    let at-place2 = c .before .before in
-    let at-start = at-place2 .before .before .before .before .before .before .before in
+    let past-numbers = c .before .before in
+    let at-start = past-numbers .before .before .before .before .before .before .before in
     let a = at-start .args in
-    is-3 (a .r) (a .m) (a .marks .now) (a .lengths .now) (a .words .now) (numbers (at-place2)) (inr (inl (c .if6 .taken)))
+    is-3 (a .r) (a .m) (a .marks .now) (a .lengths .now) (a .words .now) (numbers past-numbers) (inr (inl (c .if6 .taken)))
 
 mul-if7 : tie.Need-mul-if7
 mul-if7 c = omega (arith, mul-le-mul (c .before .before .if4 .left) (c .before .before .before .before .if2 .left))
 
 returns-7 : tie.Need-returns-7
 returns-7 c =
-    let at-place3 = c .before .before .before in
-    let at-start = at-place3 .before .before .before .before .before .before .before in
+    let past-numbers = c .before .before .before in
+    let at-start = past-numbers .before .before .before .before .before .before .before in
     let a = at-start .args in
-    is-3 (a .r) (a .m) (a .marks .now) (a .lengths .now) (a .words .now) (numbers (at-place3)) (inr (inr (c .if7 .taken)))
+    is-3 (a .r) (a .m) (a .marks .now) (a .lengths .now) (a .words .now) (numbers past-numbers) (inr (inr (c .if7 .taken)))
 
 all-up-to-requires : tie.Need-all-up-to-requires
 all-up-to-requires c κs = search needs
@@ -75,44 +75,44 @@ all-up-to-requires-2 c κs = search needs
 
 returns-8 : tie.Need-returns-8
 returns-8 c =
-    let at-before = c .before in
-    let at-place2 = at-before .before in
-    let at-place4 = at-place2 .before .before in
-    let at-place6 = at-place4 .before .before in
-    let at-place9 = at-place6 .before .before .before in
-    let at-start = at-place9 .before .before .before .before .before .before .before in
+    let at-all-up-to2 = c .before in
+    let past-words = at-all-up-to2 .before in
+    let past-lengths = past-words .before .before in
+    let past-rooms = past-lengths .before .before in
+    let past-numbers = past-rooms .before .before .before in
+    let at-start = past-numbers .before .before .before .before .before .before .before in
     let a = at-start .args in
-    is-0 (a .r) (a .m) (a .marks .now) (a .lengths .now) (a .words .now) (numbers (at-place9)) (rooms (at-place6)) (short (at-place4)) (clear (at-place2)) (subst (AllUpTo (a .marks .now) (a .r) 1) (c .if10 .taken) (at-before .all-up-to2 .ensures))
+    is-0 (a .r) (a .m) (a .marks .now) (a .lengths .now) (a .words .now) (numbers past-numbers) (rooms past-rooms) (short past-lengths) (clear past-words) (subst (AllUpTo (a .marks .now) (a .r) 1) (c .if10 .taken) (at-all-up-to2 .all-up-to2 .ensures))
 
 returns-9 : tie.Need-returns-9
 returns-9 c =
-    let at-before = c .before in
-    let at-place2 = at-before .before in
-    let at-place4 = at-place2 .before .before in
-    let at-place6 = at-place4 .before .before in
-    let at-place9 = at-place6 .before .before .before in
-    let at-start = at-place9 .before .before .before .before .before .before .before in
+    let at-all-up-to2 = c .before in
+    let past-words = at-all-up-to2 .before in
+    let past-lengths = past-words .before .before in
+    let past-rooms = past-lengths .before .before in
+    let past-numbers = past-rooms .before .before .before in
+    let at-start = past-numbers .before .before .before .before .before .before .before in
     let a = at-start .args in
-    is-6 (a .r) (a .m) (a .marks .now) (a .lengths .now) (a .words .now) (numbers (at-place9)) (rooms (at-place6)) (short (at-place4)) (clear (at-place2)) (subst (AllUpTo (a .marks .now) (a .r) 1) (c .if10 .left) (at-before .all-up-to2 .ensures))
+    is-6 (a .r) (a .m) (a .marks .now) (a .lengths .now) (a .words .now) (numbers past-numbers) (rooms past-rooms) (short past-lengths) (clear past-words) (subst (AllUpTo (a .marks .now) (a .r) 1) (c .if10 .left) (at-all-up-to2 .all-up-to2 .ensures))
 
 returns-10 : tie.Need-returns-10
 returns-10 c =
-    let at-before = c .before in
-    let at-place2 = at-before .before in
-    let at-place4 = at-place2 .before .before in
-    let at-place7 = at-place4 .before .before .before in
-    let at-start = at-place7 .before .before .before .before .before .before .before in
+    let at-all-clear = c .before in
+    let past-lengths = at-all-clear .before in
+    let past-rooms = past-lengths .before .before in
+    let past-numbers = past-rooms .before .before .before in
+    let at-start = past-numbers .before .before .before .before .before .before .before in
     let a = at-start .args in
-    is-5 (a .r) (a .m) (a .marks .now) (a .lengths .now) (a .words .now) (numbers (at-place7)) (rooms (at-place4)) (short (at-place2)) (subst (AllClear (a .lengths .now) (a .words .now) (a .r) (a .m)) (c .if9 .left) (at-before .all-clear .ensures))
+    is-5 (a .r) (a .m) (a .marks .now) (a .lengths .now) (a .words .now) (numbers past-numbers) (rooms past-rooms) (short past-lengths) (subst (AllClear (a .lengths .now) (a .words .now) (a .r) (a .m)) (c .if9 .left) (at-all-clear .all-clear .ensures))
 
 returns-11 : tie.Need-returns-11
 returns-11 c =
-    let at-before = c .before in
-    let at-place2 = at-before .before in
-    let at-place5 = at-place2 .before .before .before in
-    let at-start = at-place5 .before .before .before .before .before .before .before in
+    let at-all-up-to = c .before in
+    let past-rooms = at-all-up-to .before in
+    let past-numbers = past-rooms .before .before .before in
+    let at-start = past-numbers .before .before .before .before .before .before .before in
     let a = at-start .args in
-    is-4 (a .r) (a .m) (a .marks .now) (a .lengths .now) (a .words .now) (numbers (at-place5)) (rooms (at-place2)) (subst (AllUpTo (a .lengths .now) (a .r) 64) (c .if8 .left) (at-before .all-up-to .ensures))
+    is-4 (a .r) (a .m) (a .marks .now) (a .lengths .now) (a .words .now) (numbers past-numbers) (rooms past-rooms) (subst (AllUpTo (a .lengths .now) (a .r) 64) (c .if8 .left) (at-all-up-to .all-up-to .ensures))
 
 pub test-spec : {M : Type 1} → statement M
 test-spec =

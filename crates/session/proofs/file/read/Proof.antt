@@ -33,20 +33,20 @@ returns-4 : tie.Need-returns-4
 returns-4 c =
     let at-if3 = c .before in
     let at-if2 = at-if3 .before in
-    let at-before = at-if2 .before in
-    let at-place4 = at-before .before in
-    let k = told (at-place4) in
-    room-unary _ _ _ _ _ _ k (at-before .if1 .left) (at-if2 .if2 .left) (at-if3 .if3 .left) (c .if4 .taken)
+    let at-if1 = at-if2 .before in
+    let at-told = at-if1 .before in
+    let k = told at-told in
+    room-unary _ _ _ _ _ _ k (at-if1 .if1 .left) (at-if2 .if2 .left) (at-if3 .if3 .left) (c .if4 .taken)
 
 returns-5 : tie.Need-returns-5
 returns-5 c =
     let at-if4 = c .before in
     let at-if3 = at-if4 .before in
     let at-if2 = at-if3 .before in
-    let at-before = at-if2 .before in
-    let at-place5 = at-before .before in
-    let k = told (at-place5) in
-    room-binary _ _ _ _ _ _ k (at-before .if1 .left) (at-if2 .if2 .left) (at-if3 .if3 .left) (at-if4 .if4 .left) (c .if5 .taken)
+    let at-if1 = at-if2 .before in
+    let at-told = at-if1 .before in
+    let k = told at-told in
+    room-binary _ _ _ _ _ _ k (at-if1 .if1 .left) (at-if2 .if2 .left) (at-if3 .if3 .left) (at-if4 .if4 .left) (c .if5 .taken)
 
 mul-stride : tie.Need-mul-stride
 mul-stride c = let k = told (c .before .before .before .before .before) in omega (arith, k .narrow)
@@ -56,86 +56,86 @@ add-stride c = let k = told (c .before .before .before .before .before) in omega
 
 add-at : tie.Need-add-at
 add-at c =
-    let at-place5 = c .before .before .before .before .before in
-    let at-start = at-place5 .before .before .before .before .before .before .before .before .before .before in
-    let k = told (at-place5) in
+    let at-told = c .before .before .before .before .before in
+    let at-start = at-told .before .before .before .before .before .before .before .before .before .before in
+    let k = told at-told in
     omega (arith, k .room, at-start .good)
 
 mul-codes : tie.Need-mul-codes
 mul-codes c =
-    let at-place5 = c .before .before .before .before .before in
-    let at-start = at-place5 .before .before .before .before .before .before .before .before .before .before in
-    let k = told (at-place5) in
+    let at-told = c .before .before .before .before .before in
+    let at-start = at-told .before .before .before .before .before .before .before .before .before .before in
+    let k = told at-told in
     omega (arith, k .room, at-start .good)
 
 add-codes : tie.Need-add-codes
 add-codes c =
-    let at-place5 = c .before .before .before .before .before in
-    let at-start = at-place5 .before .before .before .before .before .before .before .before .before .before in
-    let k = told (at-place5) in
+    let at-told = c .before .before .before .before .before in
+    let at-start = at-told .before .before .before .before .before .before .before .before .before .before in
+    let k = told at-told in
     omega (arith, k .room, at-start .good)
 
 fill-bytes-requires : tie.Need-fill-bytes-requires
 fill-bytes-requires c κs =
-    let at-before = c .before .before .before .before .before in
-    let at-place6 = at-before .before in
-    let k = told (at-place6) in
-    (omega arith, at-before .if1 .left, omega (arith, k .room))
+    let at-if1 = c .before .before .before .before .before in
+    let at-told = at-if1 .before in
+    let k = told at-told in
+    (omega arith, at-if1 .if1 .left, omega (arith, k .room))
 
 add-fill-bytes : tie.Need-add-fill-bytes
 add-fill-bytes c =
-    let at-place10 = c .before .before .before .before .before .before .before .before .before .before in
-    let at-start = at-place10 .before .before .before .before .before .before .before .before .before .before in
-    let k = told (at-place10) in
+    let at-told = c .before .before .before .before .before .before .before .before .before .before in
+    let at-start = at-told .before .before .before .before .before .before .before .before .before .before in
+    let k = told at-told in
     omega (arith, k .room, at-start .good)
 
 fill-bytes-requires-2 : tie.Need-fill-bytes-requires-2
 fill-bytes-requires-2 c κs =
     let at-if2 = c .before .before .before .before .before .before .before .before in
-    let at-place10 = at-if2 .before .before in
-    let k = told (at-place10) in
+    let at-told = at-if2 .before .before in
+    let k = told at-told in
     (omega arith, at-if2 .if2 .left, omega (arith, k .room))
 
 fill-words-requires : tie.Need-fill-words-requires
 fill-words-requires c κs =
     let at-if3 = c .before .before .before .before .before .before .before .before .before .before .before in
-    let at-place14 = at-if3 .before .before .before in
-    let k = told (at-place14) in
+    let at-told = at-if3 .before .before .before in
+    let k = told at-told in
     (at-if3 .if3 .left, omega (arith, k .room))
 
 add-fill-bytes-2 : tie.Need-add-fill-bytes-2
 add-fill-bytes-2 c =
-    let at-place18 = c .before .before .before .before .before .before .before .before .before .before .before .before .before .before .before .before .before .before in
-    let at-start = at-place18 .before .before .before .before .before .before .before .before .before .before in
-    let k = told (at-place18) in
+    let at-told = c .before .before .before .before .before .before .before .before .before .before .before .before .before .before .before .before .before .before in
+    let at-start = at-told .before .before .before .before .before .before .before .before .before .before in
+    let k = told at-told in
     omega (arith, k .room, at-start .good)
 
 fill-bytes-requires-3 : tie.Need-fill-bytes-requires-3
 fill-bytes-requires-3 c κs =
     let at-if4 = c .before .before .before .before .before .before .before .before .before .before .before .before .before .before in
-    let at-place18 = at-if4 .before .before .before .before in
-    let k = told (at-place18) in
+    let at-told = at-if4 .before .before .before .before in
+    let k = told at-told in
     (omega arith, at-if4 .if4 .left, omega (arith, k .room))
 
 add-fill-bytes-3 : tie.Need-add-fill-bytes-3
 add-fill-bytes-3 c =
-    let at-place22 = c .before .before .before .before .before .before .before .before .before .before .before .before .before .before .before .before .before .before .before .before .before .before in
-    let at-start = at-place22 .before .before .before .before .before .before .before .before .before .before in
-    let k = told (at-place22) in
+    let at-told = c .before .before .before .before .before .before .before .before .before .before .before .before .before .before .before .before .before .before .before .before .before .before in
+    let at-start = at-told .before .before .before .before .before .before .before .before .before .before in
+    let k = told at-told in
     omega (arith, k .room, at-start .good)
 
 add-fill-bytes-4 : tie.Need-add-fill-bytes-4
 add-fill-bytes-4 c =
-    let at-place22 = c .before .before .before .before .before .before .before .before .before .before .before .before .before .before .before .before .before .before .before .before .before .before in
-    let at-start = at-place22 .before .before .before .before .before .before .before .before .before .before in
-    let k = told (at-place22) in
+    let at-told = c .before .before .before .before .before .before .before .before .before .before .before .before .before .before .before .before .before .before .before .before .before .before in
+    let at-start = at-told .before .before .before .before .before .before .before .before .before .before in
+    let k = told at-told in
     omega (arith, k .room, at-start .good)
 
 fill-bytes-requires-4 : tie.Need-fill-bytes-requires-4
 fill-bytes-requires-4 c κs =
     let at-if5 = c .before .before .before .before .before .before .before .before .before .before .before .before .before .before .before .before .before in
-    let at-place22 = at-if5 .before .before .before .before .before in
-    let k = told (at-place22) in
+    let at-told = at-if5 .before .before .before .before .before in
+    let k = told at-told in
     (omega arith, at-if5 .if5 .left, omega (arith, k .room))
 
 enum-known-answer-2 : tie.Need-enum-known-answer-2
@@ -170,11 +170,11 @@ returns-6 c =
     let at-if4 = at-if5 .before in
     let at-if3 = at-if4 .before in
     let at-if2 = at-if3 .before in
-    let at-before = at-if2 .before in
-    let at-place25 = at-before .before in
-    let k = told (at-place25) in
+    let at-if1 = at-if2 .before in
+    let at-told = at-if1 .before in
+    let k = told at-told in
     rw (at-fill-bytes .fill-bytes .ensures, at-fill-bytes2 .fill-bytes2 .ensures, at-fill-words .fill-words .ensures, at-fill-bytes3 .fill-bytes3 .ensures, at-fill-bytes4 .fill-bytes4 .ensures)
-    (written _ _ _ _ _ _ k (at-before .if1 .left) (at-if2 .if2 .left) (at-if3 .if3 .left) (at-if4 .if4 .left) (at-if5 .if5 .left))
+    (written _ _ _ _ _ _ k (at-if1 .if1 .left) (at-if2 .if2 .left) (at-if3 .if3 .left) (at-if4 .if4 .left) (at-if5 .if5 .left))
 
 returns-7 : tie.Need-returns-7
 returns-7 c =
