@@ -7,7 +7,7 @@ mod fill;
 pub mod names;
 mod sessions;
 
-// Document 01, "Numbers", each under one name. specs/Numbers.antt has the same numbers for the contracts.
+// Document 01's numbers for the code, each under one name; for the contracts they are in specs/Numbers.antt, and the largest length is `width`.
 pub const SESSIONS: usize = 32;
 
 pub const PROPOSITIONS: usize = 16;
