@@ -1,0 +1,11 @@
+-- The laws of the walk, by subject, up to what is promised.
+pub mod Members
+pub mod Trees
+pub mod Layers
+pub mod Pass
+pub mod Smallest
+pub mod Rows
+pub mod Reading
+pub mod Promises
+pub mod Steady
+pub mod Examples

@@ -1,0 +1,203 @@
+-- From words to the reading, once: row j of a formula's matrix has bit p set exactly where the formula holds at p of session j. So a matrix
+-- agrees with the marks exactly if its formula separates, and two formulas have one matrix exactly if they are alike.
+-- Assumes nothing.
+use mathlib.Core.Path.{_≡_, refl, sym, ap, ap₂, _∙_, subst, fun-ext}
+use mathlib.Core.Logic.{_↔_, _⊎_, inl, inr, ⊎-elim, Iff·trans}
+use mathlib.Core.Bool.{Bool, true, false, _&&_, Bool·beq, true≢false}
+use mathlib.Core.List.{List, [], _∷_, _++_, map, List·Memᴰ·head, List·Memᴰ·tail, List·Memᴰ·not-nil, List·Memᴰ·cases-cons, Memᴰ·append-left, Memᴰ·append-right, List·Memᴰ·append-cases, Memᴰ·map, Memᴰ·of-map, Memᴰ·cast}
+use Prim.Native.Nat.{ℕ, zero, suc, _+_, _-_, _≤_, _<_}
+use native.Mathlib.Omega.{arith}
+use lib.ListN.{length, getD}
+use lib.Seq.{ext-getD}
+use lib.Dec.{eqb, ltb}
+use borrow.Author.Tests.{eqb-true, eq-eqb, ltb-true, lt-ltb}
+use Rattle.words.specs.Word.{width, bit, At, Means}
+use Rattle.words.proofs.At.{means-unique}
+use Rattle.sequence.specs.Operators.{Unary, Binary, unaryCode, binaryCode, commutes}
+use Rattle.walk.specs.Formula.{leaf, unary, binary, Leaf, proposition, constant, Formula, Holds, Accepts, Separates, LeafOffered, Offered, _∈_}
+use Rattle.walk.specs.Walk.{count}
+use Rattle.walk.specs.Rows.{isOn, unaryRow, binaryRow, constantRow, acceptsRow}
+use Rattle.walk.specs.Input.{Input, Passes, markOf, lengthOf, wordOf, session, sessions, language, unaryOf, binaryOf, rows, row, sameRows, every, constantsIf, leaves, leafRow, separating, offer}
+use Rattle.walk.specs.Promises.{Alike}
+use Rattle.walk.proofs.Members.{in-count, from-count}
+use Rattle.walk.proofs.Trees.{matrix, From, Lawful}
+use Rattle.walk.proofs.Rows.{means-agree, unary-agree, binary-agree, unary-row-means, binary-row-means, constant-row-means, binary-row-comm, and-on, beq-on}
+
+-- ---- the rows of a matrix
+
+length-rows : (a r : ℕ) (f : ℕ → ℕ) → length (map f (count a r)) ≡ r
+unfolding count
+length-rows a zero f = refl
+length-rows a (suc r) f = ap suc (length-rows (suc a) r f)
+
+row-from : (a r : ℕ) (f : ℕ → ℕ) (j : ℕ) → j < r → getD (map f (count a r)) j 0 ≡ f (a + j)
+unfolding count
+row-from a zero f j h = absurd (omega arith)
+row-from a (suc r) f zero h = ap f (let e : a ≡ a + 0 = omega arith in e)
+row-from a (suc r) f (suc j) h = row-from (suc a) r f j (omega arith) ∙ ap f (let e : suc a + j ≡ a + suc j = omega arith in e)
+
+pub row-rows : (r : ℕ) (f : ℕ → ℕ) (j : ℕ) → j < r → row (rows r f) j ≡ f j
+row-rows r f j h = row-from 0 r f j h ∙ ap f (let e : 0 + j ≡ j = omega arith in e)
+
+-- ---- equal in every row
+
+same-refl : (x : List ℕ) → sameRows x x ≡ true
+unfolding sameRows
+same-refl [] = refl
+same-refl (a ∷ x) = rw (eq-eqb a a refl) (same-refl x)
+
+same-true : (x y : List ℕ) → sameRows x y ≡ true → x ≡ y
+unfolding sameRows
+same-true [] [] e = refl
+same-true [] (b ∷ y) e = absurd (true≢false (sym e))
+same-true (a ∷ x) [] e = absurd (true≢false (sym e))
+same-true (a ∷ x) (b ∷ y) e = go (eqb a b) refl e (λ h. same-true x y h)
+  where
+    go : (t : Bool) → eqb a b ≡ t → (t && sameRows x y) ≡ true → (sameRows x y ≡ true → x ≡ y) → a ∷ x ≡ b ∷ y
+    go true w h r = ap₂ (λ (p : ℕ) (q : List ℕ). p ∷ q) (eqb-true a b w) (r h)
+    go false w h r = absurd (true≢false (sym h))
+
+module _ (i : Input) where
+  -- the comparison is exact and the commuting marks are right
+  pub lawful : Lawful (offer i)
+  lawful = record {
+    same-true = same-true;
+    same-false = λ x y e q. true≢false (sym (same-refl x) ∙ ap (sameRows x) q ∙ e);
+    commute = λ op e x y. ap (rows (i .sessions)) (fun-ext λ j. binary-row-comm op e (lengthOf i j) (row x j) (row y j));
+  }
+
+  -- ---- what is offered
+
+  leaf-from : (c : Leaf) → LeafOffered (language i) c → c ∈ leaves i
+  leaf-from (proposition p) h = Memᴰ·append-left _ (Memᴰ·map proposition (in-count 0 (i .propositions) p (omega arith) (omega arith)))
+  leaf-from (constant b) h =
+      Memᴰ·append-right (map proposition (count 0 (i .propositions)))
+      (subst (λ (t : Bool). constant b ∈ constantsIf t) (sym (eq-eqb (i .constants) 1 h)) (either b))
+    where
+      either : (b : Bool) → constant b ∈ constantsIf true
+      either false = List·Memᴰ·head refl
+      either true = List·Memᴰ·tail (List·Memᴰ·head refl)
+
+  from-leaf : (c : Leaf) → c ∈ leaves i → LeafOffered (language i) c
+  from-leaf c m =
+      ⊎-elim
+      (λ h. let w = Memᴰ·of-map proposition (count 0 (i .propositions)) h in
+      let v = from-count 0 (i .propositions) (w .0) (w .1) in
+      subst (LeafOffered (language i)) (w .2) (omega arith))
+      (λ h. given (eqb (i .constants) 1) refl h) (List·Memᴰ·append-cases (map proposition (count 0 (i .propositions))) m)
+    where
+      given : (t : Bool) → eqb (i .constants) 1 ≡ t → c ∈ constantsIf t → LeafOffered (language i) c
+      given true e h =
+          ⊎-elim (λ q. subst (LeafOffered (language i)) (sym q) (eqb-true (i .constants) 1 e))
+          (λ h′. subst (LeafOffered (language i)) (sym (eq-one h′)) (eqb-true (i .constants) 1 e)) (List·Memᴰ·cases-cons h)
+        where
+          eq-one : c ∈ (constant true ∷ []) → c ≡ constant true
+          eq-one h = mathlib.Core.List.List·Memᴰ·eq-of-singleton h
+      given false e h = absurd (List·Memᴰ·not-nil h)
+
+unary-of : (op : Unary) → unaryOf (unaryCode op) ≡ op
+unary-of Unary.not = refl
+unary-of Unary.weakNext = refl
+unary-of Unary.strongNext = refl
+unary-of Unary.finally = refl
+unary-of Unary.globally = refl
+
+binary-of : (op : Binary) → binaryOf (binaryCode op) ≡ op
+binary-of Binary.or = refl
+binary-of Binary.and = refl
+binary-of Binary.until = refl
+binary-of Binary.release = refl
+binary-of Binary.implies = refl
+binary-of Binary.equiv = refl
+
+-- an operator is among those of the codes exactly if its code is among them, where each code is an operator's
+module _ {A : Type 0} (of : ℕ → A) (code : A → ℕ) (back : (op : A) → of (code op) ≡ op) where
+  pub coded-in : (op : A) (cs : List ℕ) → code op ∈ cs → op ∈ map of cs
+  coded-in op cs m = Memᴰ·cast (sym (back op)) (Memᴰ·map of m)
+
+  pub in-coded : (op : A) (cs : List ℕ) → ((c : ℕ) → c ∈ cs → (o : A) × (code o ≡ c)) → op ∈ map of cs → code op ∈ cs
+  in-coded op cs h m =
+      let (c, hc, e) = Memᴰ·of-map of cs m in
+      let (o, eo) = h c hc in
+      Memᴰ·cast (ap code (sym e ∙ ap of (sym eo) ∙ back o) ∙ eo) hc
+
+module _ (i : Input) (ok : Passes i) where
+  pub from-offered : (t : Formula) → Offered (language i) t → From (offer i) t
+  from-offered (leaf c) h = leaf-from i c h
+  from-offered (unary op t) h = (coded-in unaryOf unaryCode unary-of op (i .unary) (h .0), from-offered t (h .1))
+  from-offered (binary op l r) h = (coded-in binaryOf binaryCode binary-of op (i .binary) (h .0), from-offered l (h .1), from-offered r (h .2))
+
+  pub offered-from : (t : Formula) → From (offer i) t → Offered (language i) t
+  offered-from (leaf c) h = from-leaf i c h
+  offered-from (unary op t) h = (in-coded unaryOf unaryCode unary-of op (i .unary) (ok .unary-in) (h .0), offered-from t (h .1))
+  offered-from (binary op l r) h =
+      (in-coded binaryOf binaryCode binary-of op (i .binary) (ok .binary-in) (h .0), offered-from l (h .1), offered-from r (h .2))
+
+  -- ---- the step from words to the reading
+
+  pub row-means : (t : Formula) → Offered (language i) t → (j : ℕ) → j < i .sessions
+      → Means (lengthOf i j) (row (matrix (offer i) t) j) (Holds (session i j .trace) t)
+  row-means (leaf (proposition p)) h j l =
+      rw (row-rows (i .sessions) (leafRow i (proposition p)) j l) (record { wf = ok .well-formed j p l h; holds = λ q m. (λ z. z, λ z. z) })
+  row-means (leaf (constant b)) h j l =
+      rw (row-rows (i .sessions) (leafRow i (constant b)) j l) (constant-row-means b (ok .short j l))
+  row-means (unary op t) h j l =
+      let m = row-means t (h .1) j l in
+      rw (row-rows (i .sessions) (λ j. unaryRow op (lengthOf i j) (row (matrix (offer i) t) j)) j l)
+      (means-agree (unary-row-means op (row (matrix (offer i) t) j) (ok .short j l))
+      (unary-agree op (lengthOf i j) (At (row (matrix (offer i) t) j)) (Holds (session i j .trace) t) (m .holds)))
+  row-means (binary op a b) h j l =
+      let m = row-means a (h .1) j l in
+      let n = row-means b (h .2) j l in
+      rw (row-rows (i .sessions) (λ j. binaryRow op (lengthOf i j) (row (matrix (offer i) a) j) (row (matrix (offer i) b) j)) j l)
+      (means-agree (binary-row-means op (row (matrix (offer i) a) j) (row (matrix (offer i) b) j) (ok .short j l))
+      (binary-agree op (lengthOf i j)
+      (At (row (matrix (offer i) a) j)) (Holds (session i j .trace) a)
+      (At (row (matrix (offer i) b) j)) (Holds (session i j .trace) b) (m .holds) (n .holds)))
+
+  -- ---- acceptance
+
+  accepts-row : (t : Formula) → Offered (language i) t → (j : ℕ) → j < i .sessions
+      → (acceptsRow (lengthOf i j) (row (matrix (offer i) t) j) ≡ true) ↔ Accepts (session i j .trace) t
+  accepts-row t h j l =
+      let n = lengthOf i j in
+      let x = row (matrix (offer i) t) j in
+      let both = and-on (ltb 0 n) (isOn x 0) in
+      let at = row-means t h j l .holds 0 in (
+        λ p. let q = both .0 p in let z = ltb-true 0 n (q .0) in (z, at z .0 (eqb-true (bit x 0) 1 (q .1))),
+        λ p. both .1 (lt-ltb 0 n (p .0), eq-eqb (bit x 0) 1 (at (p .0) .1 (p .1))),
+      )
+
+  separates-each : (t : Formula) → Offered (language i) t → (js : List ℕ) → ((j : ℕ) → j ∈ js → j < i .sessions)
+      → (every js (λ j. Bool·beq (acceptsRow (lengthOf i j) (row (matrix (offer i) t) j)) (eqb (markOf i j) 1)) ≡ true) ↔ Separates (map (session i) js) t
+  unfolding every
+  separates-each t h [] l = (λ p. tt, λ p. refl)
+  separates-each t h (j ∷ js) l =
+      let rest = separates-each t h js (λ k m. l k (List·Memᴰ·tail m)) in
+      let a = acceptsRow (lengthOf i j) (row (matrix (offer i) t) j) in
+      let both = and-on (Bool·beq a (eqb (markOf i j) 1)) (every js (λ j. Bool·beq (acceptsRow (lengthOf i j) (row (matrix (offer i) t) j)) (eqb (markOf i j) 1))) in
+      let same = beq-on a (eqb (markOf i j) 1) in
+      let acc = accepts-row t h j (l j (List·Memᴰ·head refl)) in (
+        λ p. let q = both .0 p in
+            let w = same .0 (q .0) in
+            ((λ g. acc .0 (w .1 (eq-eqb (markOf i j) 1 g)), λ g. eqb-true (markOf i j) 1 (w .0 (acc .1 g))), rest .0 (q .1)),
+        λ p. both .1 (same .1 (λ g. eq-eqb (markOf i j) 1 (p .0 .1 (acc .0 g)), λ g. acc .1 (p .0 .0 (eqb-true (markOf i j) 1 g))), rest .1 (p .1)),
+      )
+
+  pub agrees-separates : (t : Formula) → Offered (language i) t → (separating i (matrix (offer i) t) ≡ true) ↔ Separates (sessions i) t
+  unfolding separating
+  agrees-separates t h = separates-each t h (count 0 (i .sessions)) (λ j m. let w = from-count 0 (i .sessions) j m in omega arith)
+
+  -- ---- alike
+
+  length-matrix : (t : Formula) → length (matrix (offer i) t) ≡ i .sessions
+  length-matrix (leaf c) = length-rows 0 (i .sessions) (leafRow i c)
+  length-matrix (unary op t) = length-rows 0 (i .sessions) (λ j. unaryRow op (lengthOf i j) (row (matrix (offer i) t) j))
+  length-matrix (binary op l r) =
+      length-rows 0 (i .sessions) (λ j. binaryRow op (lengthOf i j) (row (matrix (offer i) l) j) (row (matrix (offer i) r) j))
+
+  pub alike-matrix : (t u : Formula) → Offered (language i) t → Offered (language i) u → Alike i t u → matrix (offer i) t ≡ matrix (offer i) u
+  alike-matrix t u ht hu a =
+      ext-getD 0 (matrix (offer i) t) (matrix (offer i) u) (length-matrix t ∙ sym (length-matrix u))
+      (λ j h. let l : j < i .sessions = omega (arith, length-matrix t) in
+      means-unique (means-agree (row-means t ht j l) (λ p m. a j p l m)) (row-means u hu j l))

@@ -1,0 +1,167 @@
+-- What is promised of every answer of the walk, for every input that passes the checks. Each is proved in proofs/Promises.
+-- Assumes nothing.
+use mathlib.Core.Path.{_≡_}
+use mathlib.Core.Logic.{_↔_, _⊎_}
+use mathlib.Core.Bool.{Bool, true, false}
+use mathlib.Core.List.{List, [], _∷_, _++_, map, foldl}
+use Prim.Native.Nat.{ℕ, suc, _+_, _≤_, _<_}
+use lib.ListN.{length, take}
+use Rattle.words.specs.Word.{Means}
+use Rattle.walk.specs.Formula.{Formula, size, Holds, Separates, Offered, _∈_}
+use Rattle.walk.specs.Nodes.{Node, Spells, codes}
+use Rattle.walk.specs.Walk.{Candidate, Ending, found, full, none, State, going, ended, tried, leftSizes, consider, trail}
+use Rattle.walk.specs.Input.{Input, Passes, session, sessions, language, lengthOf, row, separating, offer, search}
+use Rattle.walk.specs.Cut.{Cut, more, over, start, turn}
+
+-- what a walk keeps
+abbrev pub Table : Type 0
+Table = List (Candidate (List ℕ))
+
+abbrev pub nodes : Table → List Node
+nodes k = map (λ c. c .node) k
+
+module _ (i : Input) where
+  -- ---- in terms of the reading
+
+  -- no formula over what was offered that is smaller than s separates
+  abbrev pub NoneBelow : ℕ → Type 0
+  NoneBelow s = (t : Formula) → Offered (language i) t → size t < s → Separates (sessions i) t → ⊥
+
+  -- the two hold at the same positions of every session
+  abbrev pub Alike : Formula → Formula → Type 0
+  Alike t u = (j p : ℕ) → j < i .sessions → p < lengthOf i j → Holds (session i j .trace) t p ↔ Holds (session i j .trace) u p
+
+  -- no two are alike
+  abbrev pub Apart : List Formula → Type 0
+  Apart [] = Unit {0}
+  Apart (t ∷ ts) = ((u : Formula) → u ∈ ts → Alike t u → ⊥) × Apart ts
+
+  -- ---- the answers
+
+  -- "FOUND": the root node over the kept list is a formula that uses only what was offered, whose size is the size reported and at most B;
+  -- it separates, and no smaller one does
+  pub record Found (root : Node) (k : Table) : Type 0 where
+    pub formula : Formula
+    pub spelled : Spells codes (nodes k) root formula
+    pub offered : Offered (language i) formula
+    pub sized : root .size ≡ size formula
+    pub within : size formula ≤ i .bound
+    pub separates : Separates (sessions i) formula
+    pub smallest : NoneBelow (size formula)
+
+  -- "FULL at size s": the walk needed a place beyond C, for there are C + 1 formulas of size up to s of which none separates and no two
+  -- are alike; and no formula smaller than s separates
+  pub record Full (s : ℕ) (k : Table) : Type 0 where
+    pub all-kept : length k ≡ i .room
+    pub formulas : List Formula
+    pub beyond : length formulas ≡ i .room + 1
+    pub ours : (t : Formula) → t ∈ formulas → Offered (language i) t × (size t ≤ s) × (Separates (sessions i) t → ⊥)
+    pub apart : Apart formulas
+    pub within : s ≤ i .bound
+    pub smaller : NoneBelow s
+
+  -- a kept formula: its node over the kept list, and row j of its matrix, which has bit p set exactly where the formula holds at p
+  pub record Keeps (k : Table) (c : Candidate (List ℕ)) (t : Formula) : Type 0 where
+    pub spelled : Spells codes (nodes k) (c .node) t
+    pub offered : Offered (language i) t
+    pub means : (j : ℕ) → j < i .sessions → Means (lengthOf i j) (row (c .matrix) j) (Holds (session i j .trace) t)
+    pub failed : Separates (sessions i) t → ⊥
+
+  -- the formulas of a list, one by one
+  abbrev pub KeepsAll : Table → Table → List Formula → Type 0
+  KeepsAll k [] [] = Unit {0}
+  KeepsAll k [] (t ∷ ts) = ⊥
+  KeepsAll k (c ∷ cs) [] = ⊥
+  KeepsAll k (c ∷ cs) (t ∷ ts) = Keeps k c t × KeepsAll k cs ts
+
+  -- what is kept: at most C, each a formula that does not separate, and no two alike
+  pub record Kept (k : Table) : Type 0 where
+    pub room : length k ≤ i .room
+    pub formulas : List Formula
+    pub kept : KeepsAll k k formulas
+    pub apart : Apart formulas
+
+-- ---- (1) to (3): FOUND, NONE, FULL
+
+abbrev pub FoundSmallest : Type 0
+FoundSmallest = (i : Input) → Passes i → (root : Node) (k : Table) (n : ℕ) → search i ≡ ended (found root) k n → Found i root k
+
+abbrev pub NoneMeansNone : Type 0
+NoneMeansNone = (i : Input) → Passes i → (k : Table) (n : ℕ) → search i ≡ ended none k n → NoneBelow i (i .bound + 1)
+
+abbrev pub FullNeedsRoom : Type 0
+FullNeedsRoom = (i : Input) → Passes i → (s : ℕ) (k : Table) (n : ℕ) → search i ≡ ended (full s) k n → Full i s k
+
+-- ---- (4): "with the same sessions, operators in the same order and choice of constants, a larger bound or a larger room never changes a
+-- formula found"
+
+-- the same input but for bound and room
+abbrev pub again : Input → ℕ → ℕ → Input
+again i b c = record {
+  sessions = i .sessions;
+  propositions = i .propositions;
+  bound = b;
+  room = c;
+  constants = i .constants;
+  marks = i .marks;
+  lengths = i .lengths;
+  words = i .words;
+  unary = i .unary;
+  binary = i .binary;
+}
+
+abbrev pub LargerBoundSame : Type 0
+LargerBoundSame = (i : Input) (b : ℕ) → i .bound ≤ b → (root : Node) (k : Table) (n : ℕ)
+    → search i ≡ ended (found root) k n → search (again i b (i .room)) ≡ ended (found root) k n
+
+-- of a larger room more holds: unless the answer was FULL, it stays, whatever it was
+abbrev pub LargerRoomSame : Type 0
+LargerRoomSame = (i : Input) (c : ℕ) → i .room ≤ c
+    → (search (again i (i .bound) c) ≡ search i) ⊎ ((s : ℕ) × (k : Table) × (n : ℕ) × (search i ≡ ended (full s) k n))
+
+-- ---- (5): the count, the kept formulas, the end
+
+-- of the candidates cs the one at position n, counted from 1; none before it agrees with the marks
+pub record Nth {Mat : Type 0} (agrees : Mat → Bool) (cs : List (Candidate Mat)) (n : ℕ) (c : Candidate Mat) : Type 0 where
+  pub before : List (Candidate Mat)
+  pub behind : List (Candidate Mat)
+  pub split : cs ≡ before ++ (c ∷ behind)
+  pub position : suc (length before) ≡ n
+  pub passed : (d : Candidate Mat) → d ∈ before → agrees (d .matrix) ≡ false
+
+-- "the number of candidates tried, up to and including the deciding one"
+abbrev pub Decided : {Mat : Type 0} → (Mat → Bool) → List (Candidate Mat) → Ending → ℕ → Type 0
+Decided {Mat} agrees cs (found root) n = (c : Candidate Mat) × Nth agrees cs n c × (c .node ≡ root)
+Decided {Mat} agrees cs (full s) n = (c : Candidate Mat) × Nth agrees cs n c × (c .node .size ≡ s)
+Decided agrees cs none n = length cs ≡ n
+
+abbrev pub TriedIsPosition : Type 0
+TriedIsPosition = (i : Input) (e : Ending) (k : Table) (n : ℕ) → search i ≡ ended e k n
+    → Decided (separating i) (trail (offer i) (i .room) (i .bound)) e n
+
+abbrev pub KeptDistinct : Type 0
+KeptDistinct = (i : Input) → Passes i → (e : Ending) (k : Table) (n : ℕ) → search i ≡ ended e k n → Kept i k
+
+abbrev pub WalkEnds : Type 0
+WalkEnds = (i : Input) → (e : Ending) × (k : Table) × (n : ℕ) × (search i ≡ ended e k n)
+
+-- "i from 1 while i < ceil(s/2)": a pair's sizes come up with the smaller, or an equal one, to the left, and each such split does
+abbrev pub LeftSizes : Type 0
+LeftSizes = (s i j : ℕ) → i + j + 1 ≡ s → (i ∈ leftSizes s) ↔ ((1 ≤ i) × (i ≤ j))
+
+-- ---- cut and resume
+
+-- a turn of a, then one of b, is a turn of a + b
+abbrev pub TurnsAdd : Type 0
+TurnsAdd = (i : Input) (a b : ℕ) (c : Cut (List ℕ)) → turn (offer i) (i .room) (i .bound) b (turn (offer i) (i .room) (i .bound) a c) ≡ turn (offer i) (i .room) (i .bound) (a + b) c
+
+-- after n candidates the walk has ended, with the whole walk's answer; or n were tried and the whole walk tries more, and what is kept is
+-- what those n came to
+abbrev pub CutOf : Input → ℕ → Cut (List ℕ) → Type 0
+CutOf i n (over e k m) = search i ≡ ended e k m
+CutOf i n (more s j k m) =
+    (m ≡ n) × (n < tried (search i))
+    × (foldl (consider (offer i) (i .room)) (going [] 0) (take n (trail (offer i) (i .room) (i .bound))) ≡ going k m)
+
+abbrev pub CutResume : Type 0
+CutResume = (i : Input) (n : ℕ) → CutOf i n (turn (offer i) (i .room) (i .bound) n (start (offer i) (i .room) (i .bound)))
