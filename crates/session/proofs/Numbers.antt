@@ -1,0 +1,43 @@
+-- A word and its eight bytes, low byte first, are the same thing; "no bit at or above n is set" is "below 2 ^ n".
+-- Assumes nothing.
+use mathlib.Core.Path.{_≡_, refl, sym, ap, _∙_, subst}
+use mathlib.Core.List.{List, [], _∷_}
+use Prim.Native.Nat.{ℕ, zero, suc, _+_, _*_, _/_, _%_, _^_, _≤_, _<_}
+use native.Mathlib.Nat.{pow-suc}
+use native.Mathlib.Omega.{arith}
+use lib.ListN.{length, getD}
+use Rattle.words.specs.Word.{width, Wf}
+use Rattle.words.proofs.Bits.{clear-lt, bit-high}
+use Rattle.session.specs.Format.{lowFirst}
+use Rattle.session.specs.Offence.{number}
+
+pub length-low : (k w : ℕ) → length (lowFirst k w) ≡ k
+unfolding lowFirst
+length-low zero w = refl
+length-low (suc k) w = ap suc (length-low k (w / 256))
+
+pub number-low : (k w : ℕ) → w < 256 ^ k → number (lowFirst k w) ≡ w
+unfolding lowFirst number
+number-low zero w h = omega arith
+number-low (suc k) w h =
+    let l : w < 256 ^ k * 256 = rw pow-suc at h in
+    omega (arith, number-low k (w / 256) (omega arith))
+
+-- a list of bytes
+abbrev pub Bytes : List ℕ → Type 0
+Bytes l = (i : ℕ) → getD l i 0 < 256
+
+pub low-number : (l : List ℕ) → Bytes l → lowFirst (length l) (number l) ≡ l
+unfolding lowFirst number
+low-number [] h = refl
+low-number (b ∷ l) h =
+    let lt : b < 256 = h 0 in
+    let m : (b + 256 * number l) % 256 ≡ b = omega arith in
+    let d : (b + 256 * number l) / 256 ≡ number l = omega arith in
+    rw (m, d) (ap (λ (r : List ℕ). b ∷ r) (low-number l (λ i. h (suc i))))
+
+pub wf-below : {n w : ℕ} → Wf n w → w < 2 ^ n
+wf-below {n} {w} h = clear-lt n w (h .clear)
+
+pub below-wf : (n w : ℕ) → n ≤ width → w < 2 ^ n → Wf n w
+below-wf n w s l = record { short = s; clear = λ i h. bit-high n w i l h }
