@@ -10,6 +10,7 @@ use Rattle.sequence.specs.Operators.{Unary, Binary, unaryCode, binaryCode}
 use Rattle.walk.specs.Formula.{Leaf, proposition, constant, Formula, Trace, Holds}
 use Rattle.walk.specs.Nodes.{Node, nodeAt, Spells, codes, leafCode, leafNumber}
 use Rattle.walk.specs.Input.{mostSize}
+use Rattle.formula.specs.Kinds.{mostNumber}
 use Rattle.formula.specs.Rule.{Fault}
 
 abbrev pub LeafIn : ℕ → Leaf → Type 0
@@ -49,6 +50,7 @@ traceAt n words from = record { length = n; holds = λ p. At (getD words (from +
 pub record Ready (n : ℕ) (words : List ℕ) (from : ℕ) (k : List Node) (below : ℕ) (node : Node) : Type 0 where
   pub short : n ≤ width
   pub propositions : ℕ
+  pub few : propositions ≤ mostNumber
   pub there : from + propositions ≤ length words
   pub clear : (p : ℕ) → p < propositions → Wf n (getD words (from + p) 0)
   pub all : AllFit propositions k (length k)

@@ -1,0 +1,4 @@
+pub mod Listed
+pub mod Faults
+pub mod Spelled
+pub mod Evaluation
