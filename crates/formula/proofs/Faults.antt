@@ -34,7 +34,7 @@ leaf-between (constant true) = (lit≤ tt, lit≤ tt)
 pub is-leaf : (c : ℕ) → 16 ≤ c → c ≤ 18 → IsLeaf c
 is-leaf c l h =
     elim (ℕ-discrete c 16) [
-      yes e ↦ (proposition 0, sym e)
+      | yes e ↦ (proposition 0, sym e)
       | no a ↦ elim (ℕ-discrete c 17) [ yes e ↦ (constant false, sym e) | no b ↦ (constant true, omega arith) ]
     ]
 
@@ -68,9 +68,9 @@ pub data Sort (c : ℕ) : Type 0 where
 pub sort : (c : ℕ) → Sort c
 sort c =
     elim (decLt c 11) [
-      yes h ↦ low h (row-at noRow c h)
+      | yes h ↦ low h (row-at noRow c h)
       | no h ↦ elim (decLe 16 c) [
-        yes l ↦ elim (decLe c 18) [ yes g ↦ a-leaf (is-leaf c l g) | no g ↦ none (unknown c (high-unary h) (high-binary h) (λ a b. g b)) ]
+        | yes l ↦ elim (decLe c 18) [ yes g ↦ a-leaf (is-leaf c l g) | no g ↦ none (unknown c (high-unary h) (high-binary h) (λ a b. g b)) ]
         | no l ↦ none (unknown c (high-unary h) (high-binary h) (λ a b. l a))
       ]
     ]
@@ -103,31 +103,31 @@ module _ (m : ℕ) (k : List Node) (b : ℕ) (n : Node) where
       as-unary : (u : IsUnary (n .code)) → n .left < b → n .right ≡ 0 → Fits m k b n ⊎ Fault m k b n
       as-unary u l r =
           elim (ℕ-discrete (n .size) (1 + nodeAt k (n .left) .size)) [
-            yes s ↦ elim (decLe (n .size) mostSize) [ yes h ↦ inl (unary (u .0) (sym (u .1)) l r s h) | no h ↦ inr (tooLarge (omega arith)) ]
+            | yes s ↦ elim (decLe (n .size) mostSize) [ yes h ↦ inl (unary (u .0) (sym (u .1)) l r s h) | no h ↦ inr (tooLarge (omega arith)) ]
             | no s ↦ inr (unarySize u s)
           ]
 
       as-binary : (u : IsBinary (n .code)) → n .left < b → n .right < b → Fits m k b n ⊎ Fault m k b n
       as-binary u l r =
           elim (ℕ-discrete (n .size) (1 + nodeAt k (n .left) .size + nodeAt k (n .right) .size)) [
-            yes s ↦ elim (decLe (n .size) mostSize) [ yes h ↦ inl (binary (u .0) (sym (u .1)) l r s h) | no h ↦ inr (tooLarge (omega arith)) ]
+            | yes s ↦ elim (decLe (n .size) mostSize) [ yes h ↦ inl (binary (u .0) (sym (u .1)) l r s h) | no h ↦ inr (tooLarge (omega arith)) ]
             | no s ↦ inr (binarySize u s)
           ]
 
       by : Sort (n .code) → Fits m k b n ⊎ Fault m k b n
       by (a-unary u) =
           elim (decLt (n .left) b) [
-            yes l ↦ elim (ℕ-discrete (n .right) 0) [ yes r ↦ as-unary u l r | no r ↦ inr (rightUnused (not-both (n .code) u) r) ]
+            | yes l ↦ elim (ℕ-discrete (n .right) 0) [ yes r ↦ as-unary u l r | no r ↦ inr (rightUnused (not-both (n .code) u) r) ]
             | no l ↦ inr (unaryPlace u (omega arith))
           ]
       by (a-binary u) =
           elim (decLt (n .left) b) [
-            yes l ↦ elim (decLt (n .right) b) [ yes r ↦ as-binary u l r | no r ↦ inr (rightPlace u (omega arith)) ]
+            | yes l ↦ elim (decLt (n .right) b) [ yes r ↦ as-binary u l r | no r ↦ inr (rightPlace u (omega arith)) ]
             | no l ↦ inr (leftPlace u (omega arith))
           ]
       by (a-leaf u) =
           elim (ℕ-discrete (n .right) 0) [
-            yes r ↦ elim (ℕ-discrete (n .size) 1) [ yes s ↦ as-leaf (u .0) (u .1) r s | no s ↦ inr (leafSize u s) ]
+            | yes r ↦ elim (ℕ-discrete (n .size) 1) [ yes s ↦ as-leaf (u .0) (u .1) r s | no s ↦ inr (leafSize u s) ]
             | no r ↦ inr (rightUnused (λ v. not-binary-leaf (n .code) v u) r)
           ]
       by (none u) = inr (unknownCode u)

@@ -1,3 +1,13 @@
+-- `eval` meets its contract, by the place below which the children stand: it falls with each call.
+-- Assumes nothing.
+use mathlib.Core.Path.{_≡_}
+use mathlib.Core.Logic.{inl, inr}
+use native.Mathlib.Omega.{arith}
+use Rattle.sequence.proofs.Groups.{in-unary, in-binary, off-unary, off-binary}
+use Rattle.formula.specs.Kinds.{nodeOf, nodes}
+use Rattle.formula.proofs.Listed.{length-nodes}
+use Rattle.formula.proofs.Evaluation.{left-below, right-below, ready-at, word-of-unary, word-of-binary}
+use borrow.Author.Needs.{needs}
 use Prim.Native.Nat.{ℕ, _<_}
 use borrow.Fn.Kinds.{In}
 use borrow.Fn.PlainCycle.{Measures, is, falls, and}
@@ -14,7 +24,7 @@ use Rattle.formula.proofs.evaluate.+eval.{statement}
 use Rattle.formula.proofs.evaluate.+eval.Tie.{close}
 
 abbrev μ-eval : Measures 5 eval-kinds.ps ℕ
-μ-eval κs a = ?
+μ-eval κs a = a .1 .1 .1 .1 .1 .1 .1 .0
 
 abbrev eval-at : ℕ → In 5 eval-kinds.ps
 eval-at t = and 5 eval-kinds.ps (is 5 eval-kinds.ps μ-eval t) eval.Pre
@@ -22,7 +32,6 @@ eval-at t = and 5 eval-kinds.ps (is 5 eval-kinds.ps μ-eval t) eval.Pre
 abbrev eval-below : ℕ → In 5 eval-kinds.ps
 eval-below t = and 5 eval-kinds.ps (falls 5 eval-kinds.ps _<_ μ-eval t) eval.Pre
 
--- src/evaluate.rt:54:17
 eval-operator-of-requires : (t : ℕ) → eval-lts.Need-operator-of-requires (
   operator-of-reads.Asked,
   operator-of-reads.Learnt,
@@ -39,9 +48,8 @@ eval-operator-of-requires : (t : ℕ) → eval-lts.Need-operator-of-requires (
   leaf-word-reads.Asked,
   leaf-word-reads.Learnt,
 ) (eval-at t) eval.Post
-eval-operator-of-requires t c κs = ?
+eval-operator-of-requires t c κs = search needs
 
--- src/evaluate.rt:57:24
 eval-enum-told : (t : ℕ) → eval-lts.Need-enum-told (
   operator-of-reads.Asked,
   operator-of-reads.Learnt,
@@ -58,9 +66,8 @@ eval-enum-told : (t : ℕ) → eval-lts.Need-enum-told (
   leaf-word-reads.Asked,
   leaf-word-reads.Learnt,
 ) (eval-at t) eval.Post
-eval-enum-told t c = ?
+eval-enum-told t c = search needs
 
--- src/evaluate.rt:57:24
 eval-cast-left : (t : ℕ) → eval-lts.Need-cast-left (
   operator-of-reads.Asked,
   operator-of-reads.Learnt,
@@ -77,9 +84,8 @@ eval-cast-left : (t : ℕ) → eval-lts.Need-cast-left (
   leaf-word-reads.Asked,
   leaf-word-reads.Learnt,
 ) (eval-at t) eval.Post
-eval-cast-left t c = ?
+eval-cast-left t c = search needs
 
--- src/evaluate.rt:58:17
 eval-node-at-requires : (t : ℕ) → eval-lts.Need-node-at-requires (
   operator-of-reads.Asked,
   operator-of-reads.Learnt,
@@ -96,9 +102,12 @@ eval-node-at-requires : (t : ℕ) → eval-lts.Need-node-at-requires (
   leaf-word-reads.Asked,
   leaf-word-reads.Learnt,
 ) (eval-at t) eval.Post
-eval-node-at-requires t c κs = ?
+eval-node-at-requires t c κs = let s = c .before .before .before .before .before .before .before .before .before in
+    let a = s .args in
+    let f = c .before .before .before .operator-of in
+    let u = in-unary _ (f .result) (f .ensures) (c .before .enum-told .given .1) in
+    omega (arith, left-below (a .length) (a .words .now) (a .from) (nodes (a .codes .now) (a .lefts .now) (a .rights .now) (a .sizes .now)) (nodeOf (a .node)) (s .pre .1) (inl u), s .pre .1 .within, length-nodes (a .codes .now) (a .lefts .now) (a .rights .now) (a .sizes .now))
 
--- src/evaluate.rt:59:17
 eval-eval-requires : (t : ℕ) → eval-lts.Need-eval-requires (
   operator-of-reads.Asked,
   operator-of-reads.Learnt,
@@ -115,9 +124,13 @@ eval-eval-requires : (t : ℕ) → eval-lts.Need-eval-requires (
   leaf-word-reads.Asked,
   leaf-word-reads.Learnt,
 ) (eval-at t) eval.Post
-eval-eval-requires t c κs = ?
+eval-eval-requires t c κs = let s = c .before .before .before .before .before .before .before .before .before .before in
+    let a = s .args in
+    let f = c .before .before .before .before .operator-of in
+    let u = in-unary _ (f .result) (f .ensures) (c .before .before .enum-told .given .1) in
+    let h = left-below (a .length) (a .words .now) (a .from) (nodes (a .codes .now) (a .lefts .now) (a .rights .now) (a .sizes .now)) (nodeOf (a .node)) (s .pre .1) (inl u) in
+    (omega arith, ready-at (a .length) (a .words .now) (a .from) (nodes (a .codes .now) (a .lefts .now) (a .rights .now) (a .sizes .now)) (nodeOf (a .node)) (s .pre .1) (a .node .left .0) h (c .node-at .ensures))
 
--- src/evaluate.rt:70:49
 eval-mask-requires : (t : ℕ) → eval-lts.Need-mask-requires (
   operator-of-reads.Asked,
   operator-of-reads.Learnt,
@@ -134,9 +147,8 @@ eval-mask-requires : (t : ℕ) → eval-lts.Need-mask-requires (
   leaf-word-reads.Asked,
   leaf-word-reads.Learnt,
 ) (eval-at t) eval.Post
-eval-mask-requires t c κs = ?
+eval-mask-requires t c κs = search needs
 
--- src/evaluate.rt:70:13
 eval-unary-word-requires : (t : ℕ) → eval-lts.Need-unary-word-requires (
   operator-of-reads.Asked,
   operator-of-reads.Learnt,
@@ -153,9 +165,8 @@ eval-unary-word-requires : (t : ℕ) → eval-lts.Need-unary-word-requires (
   leaf-word-reads.Asked,
   leaf-word-reads.Learnt,
 ) (eval-at t) eval.Post
-eval-unary-word-requires t c κs = ?
+eval-unary-word-requires t c κs = search needs
 
--- src/evaluate.rt:73:24
 eval-enum-told-2 : (t : ℕ) → eval-lts.Need-enum-told-2 (
   operator-of-reads.Asked,
   operator-of-reads.Learnt,
@@ -172,9 +183,8 @@ eval-enum-told-2 : (t : ℕ) → eval-lts.Need-enum-told-2 (
   leaf-word-reads.Asked,
   leaf-word-reads.Learnt,
 ) (eval-at t) eval.Post
-eval-enum-told-2 t c = ?
+eval-enum-told-2 t c = search needs
 
--- src/evaluate.rt:73:24
 eval-cast-left-2 : (t : ℕ) → eval-lts.Need-cast-left-2 (
   operator-of-reads.Asked,
   operator-of-reads.Learnt,
@@ -191,9 +201,8 @@ eval-cast-left-2 : (t : ℕ) → eval-lts.Need-cast-left-2 (
   leaf-word-reads.Asked,
   leaf-word-reads.Learnt,
 ) (eval-at t) eval.Post
-eval-cast-left-2 t c = ?
+eval-cast-left-2 t c = search needs
 
--- src/evaluate.rt:74:17
 eval-node-at-requires-2 : (t : ℕ) → eval-lts.Need-node-at-requires-2 (
   operator-of-reads.Asked,
   operator-of-reads.Learnt,
@@ -210,9 +219,12 @@ eval-node-at-requires-2 : (t : ℕ) → eval-lts.Need-node-at-requires-2 (
   leaf-word-reads.Asked,
   leaf-word-reads.Learnt,
 ) (eval-at t) eval.Post
-eval-node-at-requires-2 t c κs = ?
+eval-node-at-requires-2 t c κs = let s = c .before .before .before .before .before .before .before .before .before in
+    let a = s .args in
+    let f = c .before .before .before .operator-of in
+    let u = in-binary _ (f .result) (f .ensures) (c .before .enum-told2 .given .1) in
+    omega (arith, left-below (a .length) (a .words .now) (a .from) (nodes (a .codes .now) (a .lefts .now) (a .rights .now) (a .sizes .now)) (nodeOf (a .node)) (s .pre .1) (inr u), s .pre .1 .within, length-nodes (a .codes .now) (a .lefts .now) (a .rights .now) (a .sizes .now))
 
--- src/evaluate.rt:75:17
 eval-eval-requires-2 : (t : ℕ) → eval-lts.Need-eval-requires-2 (
   operator-of-reads.Asked,
   operator-of-reads.Learnt,
@@ -229,9 +241,13 @@ eval-eval-requires-2 : (t : ℕ) → eval-lts.Need-eval-requires-2 (
   leaf-word-reads.Asked,
   leaf-word-reads.Learnt,
 ) (eval-at t) eval.Post
-eval-eval-requires-2 t c κs = ?
+eval-eval-requires-2 t c κs = let s = c .before .before .before .before .before .before .before .before .before .before in
+    let a = s .args in
+    let f = c .before .before .before .before .operator-of in
+    let u = in-binary _ (f .result) (f .ensures) (c .before .before .enum-told2 .given .1) in
+    let h = left-below (a .length) (a .words .now) (a .from) (nodes (a .codes .now) (a .lefts .now) (a .rights .now) (a .sizes .now)) (nodeOf (a .node)) (s .pre .1) (inr u) in
+    (omega arith, ready-at (a .length) (a .words .now) (a .from) (nodes (a .codes .now) (a .lefts .now) (a .rights .now) (a .sizes .now)) (nodeOf (a .node)) (s .pre .1) (a .node .left .0) h (c .node-at2 .ensures))
 
--- src/evaluate.rt:76:25
 eval-cast-right : (t : ℕ) → eval-lts.Need-cast-right (
   operator-of-reads.Asked,
   operator-of-reads.Learnt,
@@ -248,9 +264,8 @@ eval-cast-right : (t : ℕ) → eval-lts.Need-cast-right (
   leaf-word-reads.Asked,
   leaf-word-reads.Learnt,
 ) (eval-at t) eval.Post
-eval-cast-right t c = ?
+eval-cast-right t c = search needs
 
--- src/evaluate.rt:77:17
 eval-node-at-requires-3 : (t : ℕ) → eval-lts.Need-node-at-requires-3 (
   operator-of-reads.Asked,
   operator-of-reads.Learnt,
@@ -267,9 +282,12 @@ eval-node-at-requires-3 : (t : ℕ) → eval-lts.Need-node-at-requires-3 (
   leaf-word-reads.Asked,
   leaf-word-reads.Learnt,
 ) (eval-at t) eval.Post
-eval-node-at-requires-3 t c κs = ?
+eval-node-at-requires-3 t c κs = let s = c .before .before .before .before .before .before .before .before .before .before .before .before in
+    let a = s .args in
+    let f = c .before .before .before .before .before .before .operator-of in
+    let u = in-binary _ (f .result) (f .ensures) (c .before .before .before .before .enum-told2 .given .1) in
+    omega (arith, right-below (a .length) (a .words .now) (a .from) (nodes (a .codes .now) (a .lefts .now) (a .rights .now) (a .sizes .now)) (nodeOf (a .node)) (s .pre .1) u, s .pre .1 .within, length-nodes (a .codes .now) (a .lefts .now) (a .rights .now) (a .sizes .now))
 
--- src/evaluate.rt:78:17
 eval-eval-requires-3 : (t : ℕ) → eval-lts.Need-eval-requires-3 (
   operator-of-reads.Asked,
   operator-of-reads.Learnt,
@@ -286,9 +304,13 @@ eval-eval-requires-3 : (t : ℕ) → eval-lts.Need-eval-requires-3 (
   leaf-word-reads.Asked,
   leaf-word-reads.Learnt,
 ) (eval-at t) eval.Post
-eval-eval-requires-3 t c κs = ?
+eval-eval-requires-3 t c κs = let s = c .before .before .before .before .before .before .before .before .before .before .before .before .before in
+    let a = s .args in
+    let f = c .before .before .before .before .before .before .before .operator-of in
+    let u = in-binary _ (f .result) (f .ensures) (c .before .before .before .before .before .enum-told2 .given .1) in
+    let h = right-below (a .length) (a .words .now) (a .from) (nodes (a .codes .now) (a .lefts .now) (a .rights .now) (a .sizes .now)) (nodeOf (a .node)) (s .pre .1) u in
+    (omega arith, ready-at (a .length) (a .words .now) (a .from) (nodes (a .codes .now) (a .lefts .now) (a .rights .now) (a .sizes .now)) (nodeOf (a .node)) (s .pre .1) (a .node .right .0) h (c .node-at3 .ensures))
 
--- src/evaluate.rt:89:53
 eval-mask-requires-2 : (t : ℕ) → eval-lts.Need-mask-requires-2 (
   operator-of-reads.Asked,
   operator-of-reads.Learnt,
@@ -305,9 +327,8 @@ eval-mask-requires-2 : (t : ℕ) → eval-lts.Need-mask-requires-2 (
   leaf-word-reads.Asked,
   leaf-word-reads.Learnt,
 ) (eval-at t) eval.Post
-eval-mask-requires-2 t c κs = ?
+eval-mask-requires-2 t c κs = search needs
 
--- src/evaluate.rt:89:13
 eval-binary-word-requires : (t : ℕ) → eval-lts.Need-binary-word-requires (
   operator-of-reads.Asked,
   operator-of-reads.Learnt,
@@ -324,9 +345,8 @@ eval-binary-word-requires : (t : ℕ) → eval-lts.Need-binary-word-requires (
   leaf-word-reads.Asked,
   leaf-word-reads.Learnt,
 ) (eval-at t) eval.Post
-eval-binary-word-requires t c κs = ?
+eval-binary-word-requires t c κs = search needs
 
--- src/evaluate.rt:91:27
 eval-enum-told-3 : (t : ℕ) → eval-lts.Need-enum-told-3 (
   operator-of-reads.Asked,
   operator-of-reads.Learnt,
@@ -343,9 +363,8 @@ eval-enum-told-3 : (t : ℕ) → eval-lts.Need-enum-told-3 (
   leaf-word-reads.Asked,
   leaf-word-reads.Learnt,
 ) (eval-at t) eval.Post
-eval-enum-told-3 t c = ?
+eval-enum-told-3 t c = search needs
 
--- src/evaluate.rt:91:27
 eval-leaf-word-requires : (t : ℕ) → eval-lts.Need-leaf-word-requires (
   operator-of-reads.Asked,
   operator-of-reads.Learnt,
@@ -362,9 +381,12 @@ eval-leaf-word-requires : (t : ℕ) → eval-lts.Need-leaf-word-requires (
   leaf-word-reads.Asked,
   leaf-word-reads.Learnt,
 ) (eval-at t) eval.Post
-eval-leaf-word-requires t c κs = ?
+eval-leaf-word-requires t c κs = let f = c .before .before .operator-of in (
+  c .before .before .before .before .before .before .before .before .pre .1,
+  λ u. off-unary _ (f .result) (f .ensures) (λ g. let z : _≡_ {A = ℕ} 0 1 = cc (c .enum-told3 .given .1) in omega arith) (u .0) (u .1),
+  λ u. off-binary _ (f .result) (f .ensures) (λ g. let z : _≡_ {A = ℕ} 0 1 = cc (c .enum-told3 .given .1) in omega arith) (u .0) (u .1),
+)
 
--- src/evaluate.rt:40:1
 eval-returns : (t : ℕ) → eval-lts.Need-returns (
   operator-of-reads.Asked,
   operator-of-reads.Learnt,
@@ -381,9 +403,12 @@ eval-returns : (t : ℕ) → eval-lts.Need-returns (
   leaf-word-reads.Asked,
   leaf-word-reads.Learnt,
 ) (eval-at t) eval.Post
-eval-returns t c = ?
+eval-returns t c = let s = c .before .before .before .before .before .before .before .before .before .before .before .before .before in
+    let a = s .args in
+    let f = c .before .before .before .before .before .before .before .operator-of in
+    let u = in-unary _ (f .result) (f .ensures) (c .before .before .before .before .before .enum-told .given .1) in
+    word-of-unary (a .length) (a .words .now) (a .from) (nodes (a .codes .now) (a .lefts .now) (a .rights .now) (a .sizes .now)) (nodeOf (a .node)) (s .pre .1 .short) u (c .before .mask .ensures) (c .before .before .before .node-at .ensures) (c .before .before .eval .ensures) (c .unary-word .ensures)
 
--- src/evaluate.rt:40:1
 eval-returns-2 : (t : ℕ) → eval-lts.Need-returns-2 (
   operator-of-reads.Asked,
   operator-of-reads.Learnt,
@@ -400,9 +425,12 @@ eval-returns-2 : (t : ℕ) → eval-lts.Need-returns-2 (
   leaf-word-reads.Asked,
   leaf-word-reads.Learnt,
 ) (eval-at t) eval.Post
-eval-returns-2 t c = ?
+eval-returns-2 t c = let s = c .before .before .before .before .before .before .before .before .before .before .before .before .before .before .before .before in
+    let a = s .args in
+    let f = c .before .before .before .before .before .before .before .before .before .before .operator-of in
+    let u = in-binary _ (f .result) (f .ensures) (c .before .before .before .before .before .before .before .before .enum-told2 .given .1) in
+    word-of-binary (a .length) (a .words .now) (a .from) (nodes (a .codes .now) (a .lefts .now) (a .rights .now) (a .sizes .now)) (nodeOf (a .node)) (s .pre .1 .short) u (c .before .mask2 .ensures) (c .before .before .before .before .before .before .node-at2 .ensures) (c .before .before .before .before .before .eval2 .ensures) (c .before .before .before .node-at3 .ensures) (c .before .before .eval3 .ensures) (c .binary-word .ensures)
 
--- src/evaluate.rt:40:1
 eval-returns-3 : (t : ℕ) → eval-lts.Need-returns-3 (
   operator-of-reads.Asked,
   operator-of-reads.Learnt,
@@ -419,7 +447,7 @@ eval-returns-3 : (t : ℕ) → eval-lts.Need-returns-3 (
   leaf-word-reads.Asked,
   leaf-word-reads.Learnt,
 ) (eval-at t) eval.Post
-eval-returns-3 t c = ?
+eval-returns-3 t c = c .leaf-word .ensures
 
 pub +eval-spec : {M : Type 1} → statement M
 +eval-spec = close μ-eval λ t. eval-lts.spec (

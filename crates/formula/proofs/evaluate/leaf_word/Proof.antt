@@ -1,46 +1,53 @@
+-- `leaf_word` meets its contract: by the code, the recorded word, none, or the mask.
+-- Assumes nothing.
+use mathlib.Core.Path.{_≡_, sym, ap, subst}
+use Prim.Native.Nat.{ℕ, _+_}
+use lib.ListN.{getD}
+use native.Mathlib.Omega.{arith}
+use Rattle.formula.specs.Kinds.{nodeOf, nodes}
+use Rattle.formula.specs.Inner.{Evaluated}
+use Rattle.formula.proofs.Evaluation.{in-range, word-of-proposition, word-of-false, word-of-true, constant-code}
 use borrow.Author.Needs.{needs}
 use Rattle.formula.proofs.evaluate.leaf_word.Statement.{statement}
 use Rattle.formula.proofs.evaluate.leaf_word.Tie as tie
-use Rattle.formula.proofs.evaluate.leaf_word.Reads as reads
-use Rattle.formula.proofs.evaluate.leaf_word.Lts as lts
-use Rattle.formula.proofs.kinds.Proposition.from_left.Reads as from-left-reads
-use Rattle.sequence.proofs.CharSeq.mask.Reads as mask-reads
 
--- src/evaluate.rt:30:17
 from-left-requires : tie.Need-from-left-requires
 from-left-requires c κs = search needs
 
--- src/evaluate.rt:30:17
 cast-p : tie.Need-cast-p
 cast-p c = search needs
 
--- src/evaluate.rt:31:22
 add-result : tie.Need-add-result
 add-result c = search needs
 
--- src/evaluate.rt:31:16
 mul-result : tie.Need-mul-result
 mul-result c = search needs
 
--- src/evaluate.rt:31:16
 shared-slice-read-result : tie.Need-shared-slice-read-result
-shared-slice-read-result c = ?
+shared-slice-read-result c = let s = c .before .before .before .before .before .before .before .before .before .before in
+    let a = s .args in
+    let r = s .pre .0 in
+    omega (arith, r .there, r .few, in-range (a .length) (a .words .now) (a .from) (nodes (a .codes .now) (a .lefts .now) (a .rights .now) (a .sizes .now)) (nodeOf (a .node)) (a .below) r (c .before .before .before .if1 .taken))
 
--- src/evaluate.rt:31:9
 returns : tie.Need-returns
-returns c = ?
+returns c = let s = c .before .before .before .before .before .before .before .before .before .before in
+    let a = s .args in
+    let r = s .pre .0 in
+    let h = in-range (a .length) (a .words .now) (a .from) (nodes (a .codes .now) (a .lefts .now) (a .rights .now) (a .sizes .now)) (nodeOf (a .node)) (a .below) r (c .before .before .before .if1 .taken) in
+    let e : c .before .before .from-left .result .0 ≡ a .node .left .0 = omega (arith, r .few) in
+    subst (λ (p : ℕ). Evaluated (a .length) (a .words .now) (a .from) (nodes (a .codes .now) (a .lefts .now) (a .rights .now) (a .sizes .now)) (nodeOf (a .node)) (getD (a .words .now) (a .from + p) 0)) (sym e)
+    (word-of-proposition (a .length) (a .words .now) (a .from) (nodes (a .codes .now) (a .lefts .now) (a .rights .now) (a .sizes .now)) (nodeOf (a .node)) (a .below) r (c .before .before .before .if1 .taken))
 
--- src/evaluate.rt:34:9
 returns-2 : tie.Need-returns-2
-returns-2 c = ?
+returns-2 c = let a = c .before .before .before .before .before .before .before .before .before .args in word-of-false (a .length) (a .words .now) (a .from) (nodes (a .codes .now) (a .lefts .now) (a .rights .now) (a .sizes .now)) (nodeOf (a .node)) (c .before .before .before .before .before .before .before .before .before .pre .0 .short) (c .if2 .taken)
 
--- src/evaluate.rt:36:5
 mask-requires : tie.Need-mask-requires
 mask-requires c κs = search needs
 
--- src/evaluate.rt:15:1
 returns-3 : tie.Need-returns-3
-returns-3 c = ?
+returns-3 c = let s = c .before .before .before .before .before .before .before .before .before .before in
+    let a = s .args in
+    word-of-true (a .length) (a .words .now) (a .from) (nodes (a .codes .now) (a .lefts .now) (a .rights .now) (a .sizes .now)) (nodeOf (a .node)) (s .pre .0 .short) (constant-code (a .length) (a .words .now) (a .from) (nodes (a .codes .now) (a .lefts .now) (a .rights .now) (a .sizes .now)) (nodeOf (a .node)) (a .below) (s .pre .0) (s .pre .1) (s .pre .2) (c .before .before .before .if1 .left) (c .before .if2 .left)) (c .mask .ensures)
 
 pub leaf-word-spec : {M : Type 1} → statement M
 leaf-word-spec =

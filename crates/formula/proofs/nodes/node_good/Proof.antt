@@ -27,12 +27,11 @@ enum-told-3 : tie.Need-enum-told-3
 enum-told-3 c = search needs
 
 leaf-good-requires : tie.Need-leaf-good-requires
-leaf-good-requires c κs = let f = c .before .before .operator-of in
-    (
-      c .before .before .before .before .before .before .before .pre .0,
-      λ u. off-unary _ (f .result) (f .ensures) (λ g. let z : _≡_ {A = ℕ} 0 1 = cc (c .enum-told3 .given .1) in omega arith) (u .0) (u .1),
-      λ u. off-binary _ (f .result) (f .ensures) (λ g. let z : _≡_ {A = ℕ} 0 1 = cc (c .enum-told3 .given .1) in omega arith) (u .0) (u .1),
-    )
+leaf-good-requires c κs = let f = c .before .before .operator-of in (
+  c .before .before .before .before .before .before .before .pre .0,
+  λ u. off-unary _ (f .result) (f .ensures) (λ g. let z : _≡_ {A = ℕ} 0 1 = cc (c .enum-told3 .given .1) in omega arith) (u .0) (u .1),
+  λ u. off-binary _ (f .result) (f .ensures) (λ g. let z : _≡_ {A = ℕ} 0 1 = cc (c .enum-told3 .given .1) in omega arith) (u .0) (u .1),
+)
 
 returns : tie.Need-returns
 returns c = search needs

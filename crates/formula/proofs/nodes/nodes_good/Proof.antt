@@ -1,47 +1,44 @@
+-- `nodes_good` meets its contract: the nodes before the place that is tested fit.
+-- Assumes nothing.
+use Prim.Native.Nat.{_≤_, _-_}
+use mathlib.Core.Path.{_∙_}
+use native.Mathlib.Omega.{arith}
+use Rattle.formula.specs.Kinds.{nodes}
+use Rattle.formula.specs.Inner.{AllFit}
+use Rattle.formula.proofs.Tests.{fit-more, fault-at}
+use borrow.Author.Needs.{needs}
 use Rattle.formula.proofs.nodes.nodes_good.Statement.{statement}
 use Rattle.formula.proofs.nodes.nodes_good.Tie as tie
-use Rattle.formula.proofs.nodes.nodes_good.Reads as reads
-use Rattle.formula.proofs.nodes.nodes_good.Lts as lts
-use Rattle.formula.proofs.nodes.node_at.Reads as node-at-reads
-use Rattle.formula.proofs.nodes.node_good.Reads as node-good-reads
 
 abbrev Inv-loop : tie.InvT-loop
-Inv-loop m codes lefts rights sizes n i₀ i = ?
+Inv-loop m codes lefts rights sizes n i₀ i = (i ≤ n) × AllFit m (nodes codes lefts rights sizes) i
 
 abbrev μ-loop : tie.MeasureT-loop
-μ-loop m codes lefts rights sizes n i₀ i = ?
+μ-loop m codes lefts rights sizes n i₀ i = n - i
 
--- src/nodes.rt:184:5
 loop-holds : tie.Need-loop-holds Inv-loop μ-loop
-loop-holds c = ?
+loop-holds c = (omega arith, λ p h. absurd (omega arith))
 
--- src/nodes.rt:185:13
 node-at-requires : tie.Need-node-at-requires Inv-loop μ-loop
-node-at-requires c κs = ?
+node-at-requires c κs = omega arith
 
--- src/nodes.rt:186:12
 node-good-requires : tie.Need-node-good-requires Inv-loop μ-loop
-node-good-requires c κs = ?
+node-good-requires c κs = (c .before .before .before .before .before .before .before .pre .0, omega arith)
 
--- src/nodes.rt:187:13
 add-i : tie.Need-add-i Inv-loop μ-loop
-add-i c = ?
+add-i c = search needs
 
--- src/nodes.rt:184:5
 loop-less : tie.Need-loop-less Inv-loop μ-loop
-loop-less c = ?
+loop-less c = search needs
 
--- src/nodes.rt:184:5
 loop-again : tie.Need-loop-again Inv-loop μ-loop
-loop-again c = ?
+loop-again c = (omega arith, fit-more _ _ (c .before .before .before .before .loop .inv .1) (c .before .before .node-at .ensures) (c .before .node-good .ensures) (c .if1 .taken))
 
--- src/nodes.rt:189:13
 returns : tie.Need-returns Inv-loop μ-loop
-returns c = ?
+returns c = (c .before .before .before .before .loop .i, omega arith, fault-at _ _ (c .before .before .node-at .ensures) (c .before .node-good .ensures) (c .if1 .left))
 
--- src/nodes.rt:179:1
 returns-2 : tie.Need-returns-2 Inv-loop μ-loop
-returns-2 c = ?
+returns-2 c = λ p h. c .before .loop .inv .1 p (omega arith)
 
 pub nodes-good-spec : {M : Type 1} → statement M
 nodes-good-spec =

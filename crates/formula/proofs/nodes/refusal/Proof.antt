@@ -1,39 +1,33 @@
+-- `refusal` meets its contract: the count, then each listed node, then the root.
+-- Assumes nothing.
+use mathlib.Core.Path.{sym, _∙_}
+use native.Mathlib.Omega.{arith}
+use Rattle.formula.proofs.Listed.{length-nodes}
+use Rattle.formula.proofs.Tests.{too-many, list-fails, root-fails, all-pass}
 use borrow.Author.Needs.{needs}
 use Rattle.formula.proofs.nodes.refusal.Statement.{statement}
 use Rattle.formula.proofs.nodes.refusal.Tie as tie
-use Rattle.formula.proofs.nodes.refusal.Reads as reads
-use Rattle.formula.proofs.nodes.refusal.Lts as lts
-use Rattle.formula.proofs.nodes.count.Reads as count-reads
-use Rattle.formula.proofs.nodes.node_good.Reads as node-good-reads
-use Rattle.formula.proofs.nodes.nodes_good.Reads as nodes-good-reads
 
--- src/nodes.rt:207:9
 count-requires : tie.Need-count-requires
 count-requires c κs = search needs
 
--- src/nodes.rt:209:9
 returns : tie.Need-returns
-returns c = ?
+returns c = let a = c .before .before .before .before .before .before .args in too-many _ _ _ (length-nodes (a .codes .now) (a .lefts .now) (a .rights .now) (a .sizes .now) ∙ sym (c .before .count .ensures)) (c .if1 .taken)
 
--- src/nodes.rt:211:8
 nodes-good-requires : tie.Need-nodes-good-requires
 nodes-good-requires c κs = search needs
 
--- src/nodes.rt:212:12
 node-good-requires : tie.Need-node-good-requires
 node-good-requires c κs = search needs
 
--- src/nodes.rt:213:13
 returns-2 : tie.Need-returns-2
-returns-2 c = ?
+returns-2 c = let a = c .before .before .before .before .before .before .before .before .before .before .args in all-pass _ _ _ (length-nodes (a .codes .now) (a .lefts .now) (a .rights .now) (a .sizes .now) ∙ sym (c .before .before .before .before .before .count .ensures)) (c .before .before .before .before .if1 .left) (c .before .before .before .nodes-good .ensures) (c .before .before .if2 .taken) (c .before .node-good .ensures) (c .if3 .taken)
 
--- src/nodes.rt:215:9
 returns-3 : tie.Need-returns-3
-returns-3 c = ?
+returns-3 c = let a = c .before .before .before .before .before .before .before .before .before .before .args in root-fails _ _ _ (length-nodes (a .codes .now) (a .lefts .now) (a .rights .now) (a .sizes .now) ∙ sym (c .before .before .before .before .before .count .ensures)) (c .before .node-good .ensures) (c .if3 .left)
 
--- src/nodes.rt:196:1
 returns-4 : tie.Need-returns-4
-returns-4 c = ?
+returns-4 c = let a = c .before .before .before .before .before .before .before .before .args in list-fails _ _ _ (length-nodes (a .codes .now) (a .lefts .now) (a .rights .now) (a .sizes .now) ∙ sym (c .before .before .before .count .ensures)) (c .before .nodes-good .ensures) (c .if2 .left)
 
 pub refusal-spec : {M : Type 1} → statement M
 refusal-spec =
