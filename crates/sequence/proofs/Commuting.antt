@@ -2,17 +2,17 @@
 -- Assumes nothing.
 use mathlib.Core.Path.{_≡_, sym, ap, _∙_, subst}
 use mathlib.Core.Logic.{_↔_, inl, inr, ⊎-elim}
-use mathlib.Core.Bool.{Bool, false}
+use mathlib.Core.Bool.{Bool}
 use Prim.Native.Nat.{ℕ}
 use native.Mathlib.Omega.{arith}
 use lib.Dec.{lit<, lit≤}
 use Rattle.words.specs.Ltlf.{Reading}
-use Rattle.words.specs.Word.{At, Wf, Means}
+use Rattle.words.specs.Word.{Wf, Means}
 use Rattle.words.proofs.At.{lt-wf, means-unique}
 use Rattle.sequence.specs.declared.operators.Operator.{Operator}
-use Rattle.sequence.specs.Operators.{Binary, or, and, until, release, implies, equiv, binaryCode, binaryReading, commutes}
-use Rattle.sequence.specs.Table.{Listed, unary, binary, neither}
-use Rattle.sequence.specs.Commuting.{Commutes, Differs, Marked, MarksRight}
+use Rattle.sequence.specs.Operators.{Binary, or, and, until, release, implies, equiv, commutes}
+use Rattle.sequence.specs.Table.{unary, binary, neither}
+use Rattle.sequence.specs.Commuting.{Differs, Marked, MarksRight}
 use Rattle.sequence.proofs.Groups.{unary-below, binary-between}
 use Rattle.sequence.proofs.Computed.{binaryAt, binary-at-means}
 use Rattle.sequence.proofs.Unique.{binary-one}

@@ -1,10 +1,10 @@
 -- Each operator as a computation on numbers, so that examples compute: the word of an operator at a length means its reading there.
 -- Assumes nothing.
-use Prim.Native.Nat.{ℕ, _-_, _/_, _^_, _≤_, _<_}
+use Prim.Native.Nat.{ℕ, _-_, _/_, _^_}
 use native.Mathlib.Omega.{arith}
 use lib.Bits.{bitAnd, bitOr, bitXor}
 use Rattle.words.specs.Word.{width, At, Wf, Means}
-use Rattle.words.proofs.At.{lt-wf, wf-word}
+use Rattle.words.proofs.At.{wf-word}
 use Rattle.words.proofs.Operators.{inverse, finallyWord, untilWord, or-means, and-means, not-means, implies-means, equiv-means, strong-next-means, weak-next-means, finally-means, until-means, globally-means, release-means, wide}
 use Rattle.sequence.specs.Operators.{Unary, Binary, not, weakNext, strongNext, finally, globally, or, and, until, release, implies, equiv, unaryReading, binaryReading}
 use Rattle.sequence.specs.Masked.{unaryMasked, binaryMasked}

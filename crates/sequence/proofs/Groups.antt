@@ -1,11 +1,11 @@
 -- Codes and groups: the unary codes are those below 5, the binary ones those from 5 to 10, and a row's group says which of them its code is.
 -- Assumes nothing.
-use mathlib.Core.Path.{_≡_, refl, sym, ap, _∙_}
+use mathlib.Core.Path.{_≡_, ap}
 use Prim.Native.Nat.{ℕ, _≤_, _<_}
 use native.Mathlib.Omega.{arith}
 use lib.Dec.{lit<, lit≤}
 use Rattle.sequence.specs.declared.operators.Operator.{Operator}
-use Rattle.sequence.specs.declared.operators.Group.the-variants.{Unary, Binary, Neither}
+use Rattle.sequence.specs.declared.operators.Group.the-variants.{Unary, Binary}
 use Rattle.sequence.specs.Operators as ops
 use Rattle.sequence.specs.Operators.{not, weakNext, strongNext, finally, globally, or, and, until, release, implies, equiv}
 use Rattle.sequence.specs.Table.{Listed, unary, binary, neither}

@@ -1,8 +1,7 @@
 -- Well-formedness by leading zeros: a word has 64 - n of them exactly where it is below 2 ^ n, and there no bit at or above n is set.
 -- Assumes nothing.
-use mathlib.Core.Path.{_≡_}
 use mathlib.Core.Logic.{_↔_}
-use Prim.Native.Nat.{ℕ, suc, _+_, _-_, _^_, _≤_, _<_}
+use Prim.Native.Nat.{ℕ, suc, _-_, _^_, _≤_, _<_}
 use native.Mathlib.Nat.{lt-of-lt-of-le, lt-of-not-le}
 use native.Mathlib.Omega.{arith}
 use lib.Pow.{pow-mono}

@@ -1,15 +1,14 @@
 -- A session's mask, and each operator on a bare word cut to the session's length: one law over the operator.
 -- Assumes nothing.
-use mathlib.Core.Path.{_≡_, sym, _∙_, subst}
-use mathlib.Core.Logic.{_↔_}
+use mathlib.Core.Path.{_≡_, _∙_}
 use Prim.Native.Nat.{ℕ, _-_, _*_, _%_, _^_, _≤_, _<_}
 use native.Mathlib.Nat.{lt-of-not-le, lt-of-lt-of-le}
 use native.Mathlib.Omega.{arith}
 use lib.Pow.{ones-lt, pow-mono, shl-exact}
 use Rattle.words.specs.Ltlf.{Not, Implies, Equiv}
-use Rattle.words.specs.Word.{width, bit, At, Wf, Means}
+use Rattle.words.specs.Word.{width, At, Wf, Means}
 use Rattle.words.proofs.Bits.{bit-ones, bit-high}
-use Rattle.words.proofs.At.{lt-wf, means-unique}
+use Rattle.words.proofs.At.{lt-wf}
 use Rattle.words.proofs.Lengths.{Mask, masked-cut, weak-next-cut, globally-cut, release-cut, strong-next-cut, finally-cut, or-cut, and-cut, until-cut}
 use Rattle.sequence.specs.Operators.{Unary, not, weakNext, strongNext, finally, globally, Binary, or, and, until, release, implies, equiv, unaryReading, binaryReading}
 use Rattle.sequence.specs.Masked.{unaryMasked, binaryMasked}

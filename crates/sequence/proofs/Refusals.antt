@@ -1,7 +1,7 @@
 -- The laws of the decision list: it decides one number, lists decide one after the other, and an answer by it is unique.
 -- Assumes nothing.
 use mathlib.Core.Path.{_≡_, refl, sym, ap, _∙_, subst}
-use mathlib.Core.Logic.{_⊎_, inl, inr}
+use mathlib.Core.Logic.{inl, inr}
 use mathlib.Core.List.{List, [], _∷_, _++_}
 use Prim.Native.Nat.{ℕ, zero, suc, _<_}
 use native.Mathlib.Omega.{arith}
@@ -54,6 +54,6 @@ decided-none row rows n (inr p) = p
 pub answers-unique : (rows : List Row) (asked : CharSeq → Type 0) → ((s t : CharSeq) → asked s → asked t → s ≡ t)
     → (a b : Answer) → Answers rows asked a → Answers rows asked b → a ≡ b
 answers-unique rows asked one (Sequence s) (Sequence t) p q = ap Sequence (one s t (p .1) (q .1))
-answers-unique rows asked one (Sequence s) (Refused k) p q = absurd (omega (arith, q .0, decided-unique rows 0 k (p .0) (q .1)))
-answers-unique rows asked one (Refused k) (Sequence t) p q = absurd (omega (arith, p .0, decided-unique rows k 0 (p .1) (q .0)))
-answers-unique rows asked one (Refused k) (Refused l) p q = ap Refused (decided-unique rows k l (p .1) (q .1))
+answers-unique rows asked one (Sequence s) (Refused k) p q = absurd (omega (arith, q .1, decided-unique rows 0 k (p .0) (q .0)))
+answers-unique rows asked one (Refused k) (Sequence t) p q = absurd (omega (arith, p .1, decided-unique rows k 0 (p .0) (q .0)))
+answers-unique rows asked one (Refused k) (Refused l) p q = ap Refused (decided-unique rows k l (p .0) (q .0))

@@ -1,6 +1,6 @@
 -- P1 to P10: one test over the list, which computes, and a law that turns the test into the claim at each example.
 -- Assumes nothing.
-use mathlib.Core.Path.{_≡_, refl, subst}
+use mathlib.Core.Path.{refl, subst}
 use mathlib.Core.Bool.{Bool, true, false}
 use mathlib.Core.List.{List, [], _∷_}
 use Prim.Native.Nat.{ℕ, _^_}

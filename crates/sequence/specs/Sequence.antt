@@ -58,10 +58,19 @@ binaryRows code s t = notBinary code ∷ (illFormed s ++ (illFormed t ++ (unequa
 
 -- ---- the answers
 
--- an answer by the rows, and where none is given a sequence as it is asked
+-- 01's number of each case of an answer; 0 where it is a sequence
+abbrev pub numberOf : Answer → ℕ
+numberOf (Sequence s) = 0
+numberOf (Refused k) = k
+
+-- and what the case carries: the sequence is as it is asked, and a refusal has only its number, which is not 0
+abbrev pub Carries : (CharSeq → Type 0) → Answer → Type 0
+Carries asked (Sequence s) = asked s
+Carries asked (Refused k) = 0 < k
+
+-- an answer by the rows
 abbrev pub Answers : List Row → (CharSeq → Type 0) → Answer → Type 0
-Answers rows asked (Sequence s) = Decided rows 0 × asked s
-Answers rows asked (Refused k) = (0 < k) × Decided rows k
+Answers rows asked a = Decided rows (numberOf a) × Carries asked a
 
 -- the sequence of that length and word
 abbrev pub NewAnswer : ℕ → ℕ → Answer → Type 0

@@ -15,6 +15,7 @@ use Rattle.sequence.specs.Operators.Binary.{or, and, until, release, implies, e
 use Rattle.session.specs.Numbers.{bound}
 use Rattle.session.specs.Format.{one, section, GoodUnary, GoodBinary}
 use Rattle.session.specs.Offence.{got, byte, within, isIn, isUnary, isBinary, code, Settings, settings}
+use Rattle.session.specs.Inner.{groupOf}
 use Rattle.session.proofs.Spans.{Spans, both, first, second}
 use Rattle.session.proofs.Lists.{and-first, and-second, and-both, not-in, in-not, within-low, within-high, within-is}
 use Rattle.session.proofs.Readers.{got-value, got-next, in-turn, byte-sound, byte-complete, Sound, Complete}
@@ -54,6 +55,50 @@ binary-in release = refl
 binary-in implies = refl
 binary-in equiv = refl
 
+-- the group that a code is in, as the code asks for it
+module _ (c : ℕ) where
+  unary-off : (op : Unary) → isBinary (unaryCode op) ≡ false
+  unary-off not = refl
+  unary-off weakNext = refl
+  unary-off strongNext = refl
+  unary-off finally = refl
+  unary-off globally = refl
+
+  binary-off : (op : Binary) → isUnary (binaryCode op) ≡ false
+  binary-off or = refl
+  binary-off and = refl
+  binary-off until = refl
+  binary-off release = refl
+  binary-off implies = refl
+  binary-off equiv = refl
+
+  pub group-unary : (u : Bool) (op : Unary) → unaryCode op ≡ c → u ≡ groupOf u c
+  group-unary true op e = sym (subst (λ (x : ℕ). isUnary x ≡ true) e (unary-in op))
+  group-unary false op e = sym (subst (λ (x : ℕ). isBinary x ≡ false) e (unary-off op))
+
+  pub group-binary : (u : Bool) (op : Binary) → binaryCode op ≡ c → bool.not u ≡ groupOf u c
+  group-binary true op e = sym (subst (λ (x : ℕ). isUnary x ≡ false) e (binary-off op))
+  group-binary false op e = sym (subst (λ (x : ℕ). isBinary x ≡ true) e (binary-in op))
+
+  binary-at : isBinary c ≡ true → (op : Binary) × (binaryCode op ≡ c)
+  binary-at t =
+      let lo = within-low 5 10 c t in
+      let hi = within-high 5 10 c t in
+      let b = binary-of (c - 5) (omega arith) in
+      (b .0, b .1 ∙ omega arith)
+
+  pub group-neither : (u : Bool) → ((op : Unary) → unaryCode op ≡ c → ⊥) → ((op : Binary) → binaryCode op ≡ c → ⊥) → false ≡ groupOf u c
+  group-neither true n m = go (isUnary c) refl
+    where
+      go : (b : Bool) → isUnary c ≡ b → false ≡ isUnary c
+      go true e = let op = unary-of c (within-high 0 4 c e) in absurd (n (op .0) (op .1))
+      go false e = sym e
+  group-neither false n m = go (isBinary c) refl
+    where
+      go : (b : Bool) → isBinary c ≡ b → false ≡ isBinary c
+      go true e = let op = binary-at e in absurd (m (op .0) (op .1))
+      go false e = sym e
+
 -- ---- codes
 
 -- a code of the group that is none of those before it
@@ -79,11 +124,7 @@ pub good-unary : (before : List ℕ) (c : ℕ) → GoodUnary before c → New is
 good-unary before c g = (subst (λ (x : ℕ). isUnary x ≡ true) (g .0 .1) (unary-in (g .0 .0)), g .1)
 
 pub binary-good : (before : List ℕ) (c : ℕ) → New isBinary before c → GoodBinary before c
-binary-good before c n =
-    let lo = within-low 5 10 c (n .0) in
-    let hi = within-high 5 10 c (n .0) in
-    let b = binary-of (c - 5) (omega arith) in
-    ((b .0, b .1 ∙ omega arith), n .1)
+binary-good before c n = (binary-at c (n .0), n .1)
 
 pub good-binary : (before : List ℕ) (c : ℕ) → GoodBinary before c → New isBinary before c
 good-binary before c g = (subst (λ (x : ℕ). isBinary x ≡ true) (g .0 .1) (binary-in (g .0 .0)), g .1)

@@ -8,3 +8,7 @@ pub mod SessionLaws
 pub mod CodeLaws
 pub mod Few
 pub mod Whole
+pub mod Steps
+pub mod Walks
+pub mod Turns
+pub mod Sections

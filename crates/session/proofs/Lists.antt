@@ -27,6 +27,18 @@ and-second false b e = absurd (true-false {b = false} e refl)
 pub and-both : (a b : Bool) → a ≡ true → b ≡ true → (a && b) ≡ true
 and-both a b p q = rw (p, q)
 
+pub and-on : {b : Bool} (rest : Bool) → b ≡ true → (b && rest) ≡ rest
+and-on rest e = rw e
+
+pub and-stop : {b : Bool} (rest : Bool) → b ≡ false → (b && rest) ≡ false
+and-stop rest e = rw e
+
+pub or-on : {b : Bool} (rest : Bool) → b ≡ false → (b || rest) ≡ rest
+or-on rest e = rw e
+
+pub or-stop : {b : Bool} (rest : Bool) → b ≡ true → (b || rest) ≡ true
+or-stop rest e = rw e
+
 pub within-low : (lo hi b : ℕ) → within lo hi b ≡ true → lo ≤ b
 within-low lo hi b e = leb-true lo b (and-first (leb lo b) (leb b hi) e)
 

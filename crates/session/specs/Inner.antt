@@ -12,7 +12,7 @@ use Rattle.session.specs.declared.file.Tail.{Tail}
 use Rattle.session.specs.declared.file.Tail.the-variants.{Read as TailRead, Broken as TailBroken}
 use Rattle.session.specs.declared.file.ReadAnswer.{ReadAnswer}
 use Rattle.session.specs.declared.file.ReadAnswer.the-variants.{Parts as AllParts, Broken as FileBroken}
-use Rattle.session.specs.Format.{Parts, section, nameBytes, isLetter, isNameByte}
+use Rattle.session.specs.Format.{Parts, Session, section, nameBytes, isLetter, isNameByte}
 use Rattle.session.specs.Offence.{Got, got, bad, number, isUnary, isBinary, Settings, settings, atEnd, wholeFile}
 
 -- of what was read a sub-reader hands up one number
@@ -22,6 +22,9 @@ stepOf value (bad o) = Broken o
 
 abbrev pub nothing : {A : Type 0} → A → ℕ
 nothing a = 0
+
+abbrev pub wordCount : Session → ℕ
+wordCount s = length (s .words)
 
 -- ---- names
 

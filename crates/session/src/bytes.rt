@@ -39,7 +39,7 @@ pub(crate) fn bytes_left(file: &[u8], at: usize) -> usize
 }
 
 fn wide(b: u8) -> u64
-    ensures { λ r. ⌜ r ≡ b ⌝ }
+    ensures { λ r. ⌜ (r ≡ b) × (r < 256) ⌝ }
 {
     b as u64
 }

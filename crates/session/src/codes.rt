@@ -1,6 +1,8 @@
 // A section of operator codes: each in its group, none twice.
 use crate::bytes::Step;
 use crate::bytes::byte_within;
+use sequence::operators;
+use sequence::operators::Group;
 ghost use mathlib.Core.Path.{_≡_};
 ghost use mathlib.Core.List.{[]};
 ghost use Prim.Native.Nat.{ℕ, _+_, _-_, _≤_, _<_};
@@ -9,17 +11,16 @@ ghost use lib.Dec.{eqb};
 ghost use Rattle.session.specs.Offence.{each, code, codes, isIn};
 ghost use Rattle.session.specs.Inner.{stepOf, groupOf};
 
-// "unary 0-4, binary 5-10"
+// Whether the code's group, by the table of operators, is the one asked for.
 fn in_group(c: u8, unary: bool) -> bool
     ensures { λ r. ⌜ r ≡ groupOf unary c ⌝ }
 {
-    if unary {
-        return c <= 4;
+    let group = operators::operator_of(c).group;
+    match group {
+        Group::Unary => unary,
+        Group::Binary => !unary,
+        Group::Neither => false,
     }
-    if c < 5 {
-        return false;
-    }
-    c <= 10
 }
 
 // Whether the code is one of the `count` from an offset on.
@@ -65,21 +66,20 @@ fn codes_from(file: &[u8], from: usize, count: usize, unary: bool) -> Step
     ensures { λ r. ⌜ r ≡ stepOf length (each (code (groupOf unary)) count [] (now (file .entry)) from) ⌝ }
 {
     let mut i: usize = 0;
+    let mut p = from;
     while i < count {
         let s = code_at(file, from, i, unary);
         match s {
-            Step::Read { value: _, next: _ } => {
-                i += 1;
+            Step::Read { value: _, next } => {
+                p = next;
             }
             Step::Broken(o) => {
                 return Step::Broken(o);
             }
         }
+        i += 1;
     }
-    Step::Read {
-        value: count,
-        next: from + i,
-    }
+    Step::Read { value: count, next: p }
 }
 
 pub(crate) fn codes_section(file: &[u8], at: usize, unary: bool) -> Step

@@ -3,6 +3,7 @@ use crate::bytes::Step;
 use crate::bytes::byte_within;
 use crate::bytes::bytes_left;
 use crate::bytes::word_at;
+use sequence::CharSeq;
 ghost use mathlib.Core.Path.{_≡_};
 ghost use mathlib.Core.List.{[]};
 ghost use Prim.Native.Nat.{ℕ, _+_, _^_, _≤_, _<_};
@@ -10,14 +11,15 @@ ghost use lib.ListN.{length};
 ghost use lib.Dec.{ltb};
 ghost use Rattle.words.specs.Word.{width};
 ghost use Rattle.session.specs.Offence.{each, word, session, allSessions};
-ghost use Rattle.session.specs.Inner.{stepOf, nothing};
+ghost use Rattle.session.specs.Inner.{stepOf, nothing, wordCount};
 
 // No bit at or above n is set.
 pub(crate) fn is_clear(n: usize, w: u64) -> bool
     requires { ⌜ n ≤ width ⌝ }
     ensures { λ r. ⌜ r ≡ ltb w (2 ^ n) ⌝ }
 {
-    u64::leading_zeros(w) as usize + n >= 64
+    let word = CharSeq { length: n, values: w };
+    word.is_well_formed()
 }
 
 // The word at an offset, of a session of length n.
@@ -43,7 +45,7 @@ fn word_step(file: &[u8], at: usize, n: usize) -> Step
 // m words of a session of length n.
 fn words_from(file: &[u8], at: usize, n: usize, m: usize) -> Step
     requires { ⌜ n ≤ width ⌝ }
-    ensures { λ r. ⌜ r ≡ stepOf nothing (each (λ _. word n) m [] (now (file .entry)) at) ⌝ }
+    ensures { λ r. ⌜ r ≡ stepOf length (each (λ _. word n) m [] (now (file .entry)) at) ⌝ }
 {
     let mut i: usize = 0;
     let mut p = at;
@@ -59,11 +61,11 @@ fn words_from(file: &[u8], at: usize, n: usize, m: usize) -> Step
         }
         i += 1;
     }
-    Step::Read { value: 0, next: p }
+    Step::Read { value: m, next: p }
 }
 
 fn session_at(file: &[u8], at: usize, m: usize) -> Step
-    ensures { λ r. ⌜ r ≡ stepOf nothing (session m (now (file .entry)) at) ⌝ }
+    ensures { λ r. ⌜ r ≡ stepOf wordCount (session m (now (file .entry)) at) ⌝ }
 {
     let mark = byte_within(file, at, 0, 1);
     match mark {

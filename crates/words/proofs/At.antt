@@ -1,15 +1,15 @@
--- Bits as readings: what `|`, `&`, `!` and a single bit hold at a place, what makes a `Means`, and that a reading has one word.
+-- Bits as readings: what `|`, `&`, `!` and the low bit hold at a place, a bounded search, what makes a `Means`, and that a reading has one word.
 -- Assumes nothing.
-use mathlib.Core.Path.{_≡_, refl, sym, ap, _∙_, subst}
+use mathlib.Core.Path.{_≡_, refl, sym, _∙_, subst}
 use mathlib.Core.Logic.{_↔_, _⊎_, inl, inr, ⊎-elim}
-use Prim.Native.Nat.{ℕ, zero, suc, _+_, _-_, _*_, _/_, _%_, _^_, _≤_, _<_, min, max}
-use native.Mathlib.Nat.{lt-of-not-le, lt-of-lt-of-le, lt-suc-self, eq-or-lt-of-le}
+use Prim.Native.Nat.{ℕ, zero, suc, _+_, _-_, _^_, _≤_, _<_}
+use native.Mathlib.Nat.{lt-of-not-le, lt-of-lt-of-le, eq-or-lt-of-le}
 use native.Mathlib.Omega.{arith}
 use lib.Bits.{bitAnd, bitOr, and-mask}
-use lib.Pow.{ones-lt, pow-lt, pow-mono}
+use lib.Pow.{pow-mono}
 use Rattle.words.specs.Ltlf.{Reading}
 use Rattle.words.specs.Word.{width, bit, At, Wf, Means}
-use Rattle.words.proofs.Bits.{bit-lt, bit-first, bit-shr, bit-and, bit-or, bit-not, bit-high, bit-ones, bit-one-below, bits-ext, clear-lt}
+use Rattle.words.proofs.Bits.{bit-lt, bit-first, bit-and, bit-or, bit-not, bit-high, bits-ext, clear-lt}
 
 -- a bit is set or not
 pub at-or-not : (x i : ℕ) → At x i ⊎ (At x i → ⊥)
@@ -61,12 +61,6 @@ and-at a b i h k = omega (arith, bit-and a b i)
 pub at-not : (m a i : ℕ) → i < m → a < 2 ^ m → At ((2 ^ m - 1) - a) i ↔ (At a i → ⊥)
 at-not m a i h l = (λ p q. omega (arith, bit-not m i a h l), λ p. omega (arith, bit-not m i a h l, bit-lt a i))
 
-pub at-one : (k i : ℕ) → At (2 ^ k) i → i ≡ k
-at-one k i h =
-    let low : k < suc i = lt-of-not-le λ g. omega (arith, bit-one-below k i g) in
-    let high : i < suc k = lt-of-not-le λ g. omega (arith, bit-high (suc k) (2 ^ k) i (pow-lt (lt-suc-self k)) g) in
-    omega arith
-
 -- a set bit stands below the length
 pub at-below : {n x : ℕ} → Wf n x → (i : ℕ) → At x i → i < n
 at-below w i h = lt-of-not-le λ g. omega (arith, w .clear i g)
@@ -86,15 +80,6 @@ means {n} {r} s to from = record {
   wf = record { short = s; clear = λ i h. not-at r i (λ p. let t = to i p in omega arith) };
   holds = λ i h. (λ p. to i p .1, from i h);
 }
-
--- a word masked to n bits
-pub masked : {n : ℕ} {f : Reading} (w : ℕ) → n ≤ 64 → ((i : ℕ) → i < n → At w i ↔ f i) → Means n (bitAnd w (2 ^ n - 1)) f
-masked {n} {f} w s e = means s (λ i h. to i (at-and w (2 ^ n - 1) i h)) (λ i h p. and-at w (2 ^ n - 1) i (e i h .1 p) (bit-ones n i h))
-  where
-    to : (i : ℕ) → At w i × At (2 ^ n - 1) i → (i < n) × f i
-    to i p =
-        let l : i < n = lt-of-not-le λ g. omega (arith, bit-high n (2 ^ n - 1) i (ones-lt n) g) in
-        (l, e i l .0 (p .0))
 
 -- a reading has one word
 pub means-unique : {n a b : ℕ} {f : Reading} → Means n a f → Means n b f → a ≡ b

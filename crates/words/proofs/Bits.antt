@@ -1,12 +1,11 @@
 -- The laws of `bit`: of `|`, `&`, `^`, `!`, shifts and masks; a word is told by its bits. Each goes by the digits, lowest first.
 -- Assumes nothing.
-use mathlib.Core.Path.{_≡_, refl, sym, ap, _∙_, subst}
-use mathlib.Core.Logic.{_↔_, _⊎_, inl, inr}
-use Prim.Native.Nat.{ℕ, zero, suc, _+_, _-_, _*_, _/_, _%_, _^_, _≤_, _<_, zero-le, min, max}
-use native.Mathlib.Nat.{div-one, div-eq-of-lt, pow-suc, lt-of-lt-of-le, one-le-pow}
+use mathlib.Core.Path.{_≡_, sym, ap, _∙_}
+use Prim.Native.Nat.{ℕ, zero, suc, _+_, _-_, _/_, _%_, _^_, _≤_, _<_, zero-le, min, max}
+use native.Mathlib.Nat.{div-one, div-eq-of-lt, lt-of-lt-of-le}
 use native.Mathlib.Numerals.{one-add}
 use native.Mathlib.Omega.{arith}
-use lib.Pow.{pow-pos, pow-mono, shr-shr, ones-lt}
+use lib.Pow.{pow-pos, pow-mono, shr-shr}
 use lib.Bits.{bitAnd, bitOr, bitXor, and-step, or-step, xor-add-and, and-shr, or-shr, xor-shr}
 use Rattle.words.specs.Word.{bit}
 
@@ -86,17 +85,3 @@ pub bit-ones : (n i : ℕ) → i < n → bit (2 ^ n - 1) i ≡ 1
 bit-ones n i h =
     let e : (2 ^ n - 1) - 0 ≡ 2 ^ n - 1 = omega arith in
     ap (λ (x : ℕ). bit x i) (sym e) ∙ bit-not n i 0 h (pow-pos n) ∙ ap (λ (x : ℕ). 1 - x) (bit-zero i)
-
--- a single bit
-pub bit-one-at : (k : ℕ) → bit (2 ^ k) k ≡ 1
-bit-one-at zero = bit-first 1
-bit-one-at (suc k) =
-    let e : 2 ^ suc k / 2 ≡ 2 ^ k = omega arith in
-    bit-rest (2 ^ suc k) k ∙ ap (λ (n : ℕ). bit n k) e ∙ bit-one-at k
-
-pub bit-one-below : (k i : ℕ) → i < k → bit (2 ^ k) i ≡ 0
-bit-one-below zero i h = absurd (omega arith)
-bit-one-below (suc k) zero h = bit-first (2 ^ suc k) ∙ omega arith
-bit-one-below (suc k) (suc i) h =
-    let e : 2 ^ suc k / 2 ≡ 2 ^ k = omega arith in
-    bit-rest (2 ^ suc k) i ∙ ap (λ (n : ℕ). bit n i) e ∙ bit-one-below k i (omega arith)

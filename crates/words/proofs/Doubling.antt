@@ -1,13 +1,13 @@
 -- Doubling shifts: what one step by d does to a word that looks d places ahead, for any d.
 -- Assumes nothing.
-use mathlib.Core.Path.{_≡_, refl, sym, ap, _∙_, subst}
+use mathlib.Core.Path.{_≡_, sym, _∙_, subst}
 use mathlib.Core.Logic.{_↔_, _⊎_, inl, inr}
-use Prim.Native.Nat.{ℕ, zero, suc, _+_, _-_, _*_, _/_, _%_, _^_, _≤_, _<_}
+use Prim.Native.Nat.{ℕ, _+_, _-_, _/_, _^_, _≤_, _<_}
 use native.Mathlib.Decide.{decLt}
 use native.Mathlib.Omega.{arith}
 use lib.Bits.{bitAnd, bitOr}
 use Rattle.words.specs.Ltlf.{Reading}
-use Rattle.words.specs.Word.{bit, At}
+use Rattle.words.specs.Word.{At}
 use Rattle.words.proofs.Bits.{bit-shr}
 use Rattle.words.proofs.At.{at-or, or-left, or-right, at-and, and-at}
 

@@ -1,6 +1,5 @@
 // The operators of cs.rs on bare words. A word has no length to get wrong, so nothing here refuses: the operators that have to know where a
 // session ends are handed the mask of its snapshots. Each contract is a reading at all 64 positions, for any words and any mask.
-ghost use Prim.Native.Nat.{_<_};
 ghost use Rattle.words.specs.Ltlf.{Not, Or, And, Implies, Equiv, StrongNext, Finally, Globally, Until, Release};
 ghost use Rattle.words.specs.Word.{width, At, Means};
 

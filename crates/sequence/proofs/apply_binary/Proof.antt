@@ -1,6 +1,6 @@
 -- `apply_binary` meets its contract: the tests decide the rows, and what passes them is cut to its length.
 -- Assumes nothing.
-use mathlib.Core.Path.{_≡_, refl, sym, subst}
+use mathlib.Core.Path.{refl, sym, subst}
 use Prim.Native.Nat.{ℕ}
 use native.Mathlib.Omega.{arith}
 use borrow.Author.Needs.{needs}
@@ -50,7 +50,7 @@ decided c =
     (group .binary-refusal .ensures) (left .refusal .ensures) (right .refusal2 .ensures) (lengths .before .first .ensures) (lengths .unequal-refusal .ensures) (c .before .first2 .ensures) (c .first3 .ensures)
 
 returns : tie.Need-returns
-returns c = (omega arith, decided (c .before))
+returns c = (decided (c .before), omega arith)
 
 mask-requires : tie.Need-mask-requires
 mask-requires c κs = search needs

@@ -1,10 +1,9 @@
 -- `apply_unary` meets its contract: the tests decide the rows, and what passes them is cut to its length.
 -- Assumes nothing.
-use mathlib.Core.Path.{_≡_, refl, sym, subst}
+use mathlib.Core.Path.{refl, subst}
 use Prim.Native.Nat.{ℕ}
 use native.Mathlib.Omega.{arith}
 use borrow.Author.Needs.{needs}
-use Rattle.words.specs.Word.{Means}
 use Rattle.words.proofs.Lengths.{Mask}
 use Rattle.sequence.specs.declared.CharSeq.{CharSeq}
 use Rattle.sequence.specs.Refusals.{Decided}
@@ -32,7 +31,7 @@ decided c =
     unary-decided (s .code) (s .seq) (c .before .before .unary-refusal .result) (c .before .refusal .result) (c .before .before .unary-refusal .ensures) (c .before .refusal .ensures) (c .first .ensures)
 
 returns : tie.Need-returns
-returns c = (omega arith, decided (c .before))
+returns c = (decided (c .before), omega arith)
 
 mask-requires : tie.Need-mask-requires
 mask-requires c κs = search needs

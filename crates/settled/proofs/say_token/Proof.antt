@@ -1,7 +1,6 @@
 -- `say_token` is safe: the table's tokens lie within their bytes.
 -- Assumes nothing.
 use mathlib.Core.Path.{sym}
-use native.Mathlib.Omega.{arith}
 use lib.Seq.{length-take-le}
 use borrow.Author.Needs.{needs}
 use Rattle.sequence.proofs.Table.{token-fits}

@@ -1,7 +1,6 @@
 -- `CharSeq::mask` meets its contract: below 64 the shift is exact, and from 64 on every place of the word is below the length.
 -- Assumes nothing.
-use mathlib.Core.Path.{_≡_, subst, sym}
-use Prim.Native.Nat.{ℕ, _-_, _^_}
+use Prim.Native.Nat.{_-_}
 use native.Mathlib.Omega.{arith}
 use lib.Pow.{pow-pos}
 use borrow.Author.Needs.{needs}

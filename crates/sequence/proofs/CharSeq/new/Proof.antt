@@ -1,7 +1,6 @@
 -- `CharSeq::new` meets its contract: the refusal decides.
 -- Assumes nothing.
 use mathlib.Core.Path.{refl, subst}
-use native.Mathlib.Omega.{arith}
 use borrow.Author.Needs.{needs}
 use Rattle.sequence.specs.Refusals.{Decided}
 use Rattle.sequence.proofs.CharSeq.new.Statement.{statement}

@@ -5,7 +5,6 @@ use mathlib.Core.Bool.{true≢false}
 use mathlib.Core.Logic.{inl, inr, ⊎-elim}
 use native.Mathlib.Omega.{arith}
 use borrow.Author.Needs.{needs}
-use Rattle.words.specs.Word.{Wf}
 use Rattle.words.proofs.At.{wf-or-above}
 use Rattle.sequence.specs.Refusals.{Decided}
 use Rattle.sequence.proofs.CharSeq.refusal.Statement.{statement}

@@ -4,7 +4,6 @@ use mathlib.Core.Path.{refl, sym}
 use native.Mathlib.Omega.{arith}
 use borrow.Author.Needs.{needs}
 use Rattle.sequence.specs.Operators.{or, and, until, release, implies, equiv}
-use Rattle.sequence.specs.Masked.{BinaryWord}
 use Rattle.sequence.specs.Masked.BinaryWord.{word, nothing}
 use Rattle.sequence.proofs.Groups.{not-binary}
 use Rattle.sequence.proofs.operators.binary_word.Statement.{statement}

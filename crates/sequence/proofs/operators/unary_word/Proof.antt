@@ -4,7 +4,6 @@ use mathlib.Core.Path.{refl, sym}
 use native.Mathlib.Omega.{arith}
 use borrow.Author.Needs.{needs}
 use Rattle.sequence.specs.Operators.{not, weakNext, strongNext, finally, globally}
-use Rattle.sequence.specs.Masked.{UnaryWord}
 use Rattle.sequence.specs.Masked.UnaryWord.{word, nothing}
 use Rattle.sequence.proofs.Groups.{not-unary}
 use Rattle.sequence.proofs.operators.unary_word.Statement.{statement}
