@@ -3,3 +3,4 @@ pub mod Faults
 pub mod Tests
 pub mod Spelled
 pub mod Evaluation
+pub mod Checking
