@@ -21,7 +21,7 @@ use Rattle.session.proofs.SessionLaws.{Fit, sessions-sound, sessions-co
 use Rattle.session.proofs.CodeLaws.{New, new-sound, new-complete, unary-good, good-unary, binary-good, good-binary, Set, settingsBytes, settings-sound, settings-complete}
 use Rattle.session.proofs.Few.{few}
 
-each-map : {A : Type 0} {fit more : List A → A → Type 0} → ((before : List A) (a : A) → fit before a → more before a) → (l before : List A) → Each fit before l → Each more before l
+pub each-map : {A : Type 0} {fit more : List A → A → Type 0} → ((before : List A) (a : A) → fit before a → more before a) → (l before : List A) → Each fit before l → Each more before l
 unfolding Each
 each-map f [] before e = tt
 each-map f (a ∷ l) before e = (f before a (e .0), each-map f l (before ++ (a ∷ [])) (e .1))
@@ -137,7 +137,7 @@ module _ (file : List ℕ) where
         settings-complete file (at + length a + length b + length g + length h) s next (record { constants = w .constants; some = w .someBound; low = w .lowBound }) r4,
       )
 
-  whole-run : (run : List ℕ) → run ≡ file → Spans file 0 run (length file)
+  pub whole-run : (run : List ℕ) → run ≡ file → Spans file 0 run (length file)
   whole-run run e = record { is = sym e ∙ sym (append-nil run) ∙ ap (λ (l : List ℕ). run ++ l) (sym (drop-length file)); end = omega (arith, ap length e) }
 
   run-whole : (run : List ℕ) → Spans file 0 run (length file) → run ≡ file

@@ -1,5 +1,5 @@
 // The tests of session data that search and check share.
-use crate::sessions::is_clear;
+use sequence::CharSeq;
 ghost use mathlib.Core.Path.{_≡_};
 ghost use mathlib.Core.Bool.{true};
 ghost use Prim.Native.Nat.{ℕ, _+_, _*_, _≤_, _<_};
@@ -31,7 +31,11 @@ fn session_clear(words: &[u64], from: usize, m: usize, n: usize) -> bool
 {
     let mut p: usize = 0;
     while p < m {
-        if is_clear(n, words[from + p]) {
+        let word = CharSeq {
+            length: n,
+            values: words[from + p],
+        };
+        if word.is_well_formed() {
             p += 1;
         } else {
             return false;
