@@ -4,3 +4,5 @@ pub mod Tests
 pub mod Spelled
 pub mod Evaluation
 pub mod Checking
+pub mod Names
+pub mod Writing

@@ -3,11 +3,12 @@
 use mathlib.Core.Path.{_≡_}
 use mathlib.Core.Bool.{Bool, true, false}
 use mathlib.Core.Logic.{_↔_}
-use mathlib.Core.List.{List, [], flatMap}
+use mathlib.Core.List.{List, [], _∷_, _++_, flatMap}
 use Prim.Native.Nat.{ℕ, _+_, _*_, _≤_, _<_}
 use lib.ListN.{length, getD, take}
 use lib.Seq.{sets}
 use Rattle.words.specs.Word.{width, At, Wf, Means}
+use Rattle.sequence.specs.declared.operators.Operator.{Operator}
 use Rattle.sequence.specs.Operators.{Unary, Binary, unaryCode, binaryCode}
 use Rattle.walk.specs.Formula.{Leaf, proposition, constant, Formula, Trace, Holds}
 use Rattle.walk.specs.Nodes.{Node, nodeAt, Spells, codes, leafCode, leafNumber}
@@ -122,7 +123,15 @@ Long file k node r = (t : Formula) → Spells codes k node t → r ≡ length (t
 abbrev pub Fitting : List ℕ → List Node → Node → List ℕ → ℕ → Type 0
 Fitting file k node room at = (t : Formula) → Spells codes k node t → at + length (text (namesIn file) t) ≤ length room
 
--- the text stands there, and the place after it is r
+-- bytes written from a place on: what the room holds then, and the place after them
+pub record Wrote (old : List ℕ) (at : ℕ) (bytes : List ℕ) (new : List ℕ) (r : ℕ) : Type 0 where
+  pub next : r ≡ at + length bytes
+  pub holds : new ≡ sets old at bytes
+
+-- an operator's token, a space and a bracket
+abbrev pub beforeLast : Operator → List ℕ
+beforeLast o = take (o .bytes) (o .token) ++ (32 ∷ 40 ∷ [])
+
+-- the text of whatever formula the node spells is written
 abbrev pub Written : List ℕ → List Node → Node → List ℕ → ℕ → List ℕ → ℕ → Type 0
-Written file k node old at new r =
-    (t : Formula) → Spells codes k node t → (r ≡ at + length (text (namesIn file) t)) × (new ≡ sets old at (text (namesIn file) t))
+Written file k node old at new r = (t : Formula) → Spells codes k node t → Wrote old at (text (namesIn file) t) new r

@@ -19,7 +19,7 @@ length-at t = and 5 length-kinds.ps (is 5 length-kinds.ps μ-length t) length.Pr
 abbrev length-below : ℕ → In 5 length-kinds.ps
 length-below t = and 5 length-kinds.ps (falls 5 length-kinds.ps _<_ μ-length t) length.Pre
 
--- src/text.rt:49:9
+-- src/text.rt:57:9
 length-operator-of-requires : (t : ℕ) → length-lts.Need-operator-of-requires (
   operator-of-reads.Asked,
   operator-of-reads.Learnt,
@@ -32,7 +32,7 @@ length-operator-of-requires : (t : ℕ) → length-lts.Need-operator-of-requires
 ) (length-at t) length.Post
 length-operator-of-requires t c κs = ?
 
--- src/text.rt:54:24
+-- src/text.rt:62:24
 length-enum-told : (t : ℕ) → length-lts.Need-enum-told (
   operator-of-reads.Asked,
   operator-of-reads.Learnt,
@@ -45,7 +45,7 @@ length-enum-told : (t : ℕ) → length-lts.Need-enum-told (
 ) (length-at t) length.Post
 length-enum-told t c = ?
 
--- src/text.rt:54:24
+-- src/text.rt:62:24
 length-cast-left : (t : ℕ) → length-lts.Need-cast-left (
   operator-of-reads.Asked,
   operator-of-reads.Learnt,
@@ -58,7 +58,7 @@ length-cast-left : (t : ℕ) → length-lts.Need-cast-left (
 ) (length-at t) length.Post
 length-cast-left t c = ?
 
--- src/text.rt:55:17
+-- src/text.rt:63:17
 length-node-at-requires : (t : ℕ) → length-lts.Need-node-at-requires (
   operator-of-reads.Asked,
   operator-of-reads.Learnt,
@@ -71,7 +71,7 @@ length-node-at-requires : (t : ℕ) → length-lts.Need-node-at-requires (
 ) (length-at t) length.Post
 length-node-at-requires t c κs = ?
 
--- src/text.rt:56:17
+-- src/text.rt:64:17
 length-length-requires : (t : ℕ) → length-lts.Need-length-requires (
   operator-of-reads.Asked,
   operator-of-reads.Learnt,
@@ -84,7 +84,7 @@ length-length-requires : (t : ℕ) → length-lts.Need-length-requires (
 ) (length-at t) length.Post
 length-length-requires t c κs = ?
 
--- src/text.rt:57:13
+-- src/text.rt:65:13
 length-add-result : (t : ℕ) → length-lts.Need-add-result (
   operator-of-reads.Asked,
   operator-of-reads.Learnt,
@@ -97,7 +97,7 @@ length-add-result : (t : ℕ) → length-lts.Need-add-result (
 ) (length-at t) length.Post
 length-add-result t c = ?
 
--- src/text.rt:57:13
+-- src/text.rt:65:13
 length-add-result-2 : (t : ℕ) → length-lts.Need-add-result-2 (
   operator-of-reads.Asked,
   operator-of-reads.Learnt,
@@ -110,7 +110,7 @@ length-add-result-2 : (t : ℕ) → length-lts.Need-add-result-2 (
 ) (length-at t) length.Post
 length-add-result-2 t c = ?
 
--- src/text.rt:60:24
+-- src/text.rt:68:24
 length-enum-told-2 : (t : ℕ) → length-lts.Need-enum-told-2 (
   operator-of-reads.Asked,
   operator-of-reads.Learnt,
@@ -123,7 +123,7 @@ length-enum-told-2 : (t : ℕ) → length-lts.Need-enum-told-2 (
 ) (length-at t) length.Post
 length-enum-told-2 t c = ?
 
--- src/text.rt:60:24
+-- src/text.rt:68:24
 length-cast-left-2 : (t : ℕ) → length-lts.Need-cast-left-2 (
   operator-of-reads.Asked,
   operator-of-reads.Learnt,
@@ -136,7 +136,7 @@ length-cast-left-2 : (t : ℕ) → length-lts.Need-cast-left-2 (
 ) (length-at t) length.Post
 length-cast-left-2 t c = ?
 
--- src/text.rt:61:17
+-- src/text.rt:69:17
 length-node-at-requires-2 : (t : ℕ) → length-lts.Need-node-at-requires-2 (
   operator-of-reads.Asked,
   operator-of-reads.Learnt,
@@ -149,7 +149,7 @@ length-node-at-requires-2 : (t : ℕ) → length-lts.Need-node-at-requires-2 (
 ) (length-at t) length.Post
 length-node-at-requires-2 t c κs = ?
 
--- src/text.rt:62:17
+-- src/text.rt:70:17
 length-length-requires-2 : (t : ℕ) → length-lts.Need-length-requires-2 (
   operator-of-reads.Asked,
   operator-of-reads.Learnt,
@@ -162,7 +162,7 @@ length-length-requires-2 : (t : ℕ) → length-lts.Need-length-requires-2 (
 ) (length-at t) length.Post
 length-length-requires-2 t c κs = ?
 
--- src/text.rt:63:25
+-- src/text.rt:71:25
 length-cast-right : (t : ℕ) → length-lts.Need-cast-right (
   operator-of-reads.Asked,
   operator-of-reads.Learnt,
@@ -175,7 +175,7 @@ length-cast-right : (t : ℕ) → length-lts.Need-cast-right (
 ) (length-at t) length.Post
 length-cast-right t c = ?
 
--- src/text.rt:64:17
+-- src/text.rt:72:17
 length-node-at-requires-3 : (t : ℕ) → length-lts.Need-node-at-requires-3 (
   operator-of-reads.Asked,
   operator-of-reads.Learnt,
@@ -188,7 +188,7 @@ length-node-at-requires-3 : (t : ℕ) → length-lts.Need-node-at-requires-3 (
 ) (length-at t) length.Post
 length-node-at-requires-3 t c κs = ?
 
--- src/text.rt:65:17
+-- src/text.rt:73:17
 length-length-requires-3 : (t : ℕ) → length-lts.Need-length-requires-3 (
   operator-of-reads.Asked,
   operator-of-reads.Learnt,
@@ -201,7 +201,7 @@ length-length-requires-3 : (t : ℕ) → length-lts.Need-length-requires-3 (
 ) (length-at t) length.Post
 length-length-requires-3 t c κs = ?
 
--- src/text.rt:66:13
+-- src/text.rt:74:13
 length-add-result-3 : (t : ℕ) → length-lts.Need-add-result-3 (
   operator-of-reads.Asked,
   operator-of-reads.Learnt,
@@ -214,7 +214,7 @@ length-add-result-3 : (t : ℕ) → length-lts.Need-add-result-3 (
 ) (length-at t) length.Post
 length-add-result-3 t c = ?
 
--- src/text.rt:66:13
+-- src/text.rt:74:13
 length-add-result-4 : (t : ℕ) → length-lts.Need-add-result-4 (
   operator-of-reads.Asked,
   operator-of-reads.Learnt,
@@ -227,7 +227,7 @@ length-add-result-4 : (t : ℕ) → length-lts.Need-add-result-4 (
 ) (length-at t) length.Post
 length-add-result-4 t c = ?
 
--- src/text.rt:66:13
+-- src/text.rt:74:13
 length-add-result-5 : (t : ℕ) → length-lts.Need-add-result-5 (
   operator-of-reads.Asked,
   operator-of-reads.Learnt,
@@ -240,7 +240,7 @@ length-add-result-5 : (t : ℕ) → length-lts.Need-add-result-5 (
 ) (length-at t) length.Post
 length-add-result-5 t c = ?
 
--- src/text.rt:68:27
+-- src/text.rt:76:27
 length-enum-told-3 : (t : ℕ) → length-lts.Need-enum-told-3 (
   operator-of-reads.Asked,
   operator-of-reads.Learnt,
@@ -253,7 +253,7 @@ length-enum-told-3 : (t : ℕ) → length-lts.Need-enum-told-3 (
 ) (length-at t) length.Post
 length-enum-told-3 t c = ?
 
--- src/text.rt:68:27
+-- src/text.rt:76:27
 length-leaf-length-requires : (t : ℕ) → length-lts.Need-leaf-length-requires (
   operator-of-reads.Asked,
   operator-of-reads.Learnt,
@@ -266,7 +266,7 @@ length-leaf-length-requires : (t : ℕ) → length-lts.Need-leaf-length-requires
 ) (length-at t) length.Post
 length-leaf-length-requires t c κs = ?
 
--- src/text.rt:45:1
+-- src/text.rt:53:1
 length-returns : (t : ℕ) → length-lts.Need-returns (
   operator-of-reads.Asked,
   operator-of-reads.Learnt,
@@ -279,7 +279,7 @@ length-returns : (t : ℕ) → length-lts.Need-returns (
 ) (length-at t) length.Post
 length-returns t c = ?
 
--- src/text.rt:45:1
+-- src/text.rt:53:1
 length-returns-2 : (t : ℕ) → length-lts.Need-returns-2 (
   operator-of-reads.Asked,
   operator-of-reads.Learnt,
@@ -292,7 +292,7 @@ length-returns-2 : (t : ℕ) → length-lts.Need-returns-2 (
 ) (length-at t) length.Post
 length-returns-2 t c = ?
 
--- src/text.rt:45:1
+-- src/text.rt:53:1
 length-returns-3 : (t : ℕ) → length-lts.Need-returns-3 (
   operator-of-reads.Asked,
   operator-of-reads.Learnt,

@@ -9,43 +9,43 @@ Inv-loop room₀ at bytes i₀ room i = ?
 abbrev μ-loop : tie.MeasureT-loop
 μ-loop room₀ at bytes i₀ room i = ?
 
--- src/text.rt:78:5
+-- src/text.rt:86:5
 loop-holds : tie.Need-loop-holds Inv-loop μ-loop
 loop-holds c = ?
 
--- src/text.rt:79:24
+-- src/text.rt:87:24
 shared-slice-read-room : tie.Need-shared-slice-read-room Inv-loop μ-loop
 shared-slice-read-room c = ?
 
--- src/text.rt:79:14
+-- src/text.rt:87:14
 add-room : tie.Need-add-room Inv-loop μ-loop
 add-room c = ?
 
--- src/text.rt:79:9
+-- src/text.rt:87:9
 slice-write-room : tie.Need-slice-write-room Inv-loop μ-loop
 slice-write-room c = ?
 
--- src/text.rt:80:9
+-- src/text.rt:88:9
 add-i : tie.Need-add-i Inv-loop μ-loop
 add-i c = ?
 
--- src/text.rt:78:5
+-- src/text.rt:86:5
 loop-less : tie.Need-loop-less Inv-loop μ-loop
 loop-less c = ?
 
--- src/text.rt:78:5
+-- src/text.rt:86:5
 loop-again : tie.Need-loop-again Inv-loop μ-loop
 loop-again c = ?
 
--- src/text.rt:82:5
+-- src/text.rt:90:5
 add-result : tie.Need-add-result Inv-loop μ-loop
 add-result c = ?
 
--- src/text.rt:73:1
+-- src/text.rt:81:1
 same-length : tie.Need-same-length Inv-loop μ-loop
 same-length c = ?
 
--- src/text.rt:73:1
+-- src/text.rt:81:1
 returns : tie.Need-returns Inv-loop μ-loop
 returns c = ?
 
