@@ -1,7 +1,7 @@
 -- The names of a section: where each starts, its length byte and its bytes.
 -- Assumes nothing.
 use mathlib.Core.Path.{_≡_, refl, sym, ap, _∙_, subst}
-use mathlib.Core.List.{List, [], _∷_, _++_, flatMap, append-assoc}
+use mathlib.Core.List.{List, [], _∷_, _++_, flatMap, append-assoc, append-nil}
 use Prim.Native.Nat.{ℕ, zero, suc, _+_, _≤_, _<_}
 use native.Mathlib.Omega.{arith}
 use native.Mathlib.Numerals.{add-one}
@@ -24,6 +24,10 @@ flat-both (x ∷ u) v = ap (λ (l : List ℕ). nameBytes x ++ l) (flat-both u v)
 flat-one : (x : List ℕ) (v : List (List ℕ)) → flatMap nameBytes (x ∷ v) ≡ nameBytes x ++ flatMap nameBytes v
 unfolding flatMap
 flat-one x v = refl
+
+flat-single : (x : List ℕ) → flatMap nameBytes (x ∷ []) ≡ nameBytes x
+unfolding flatMap
+flat-single x = append-nil (nameBytes x)
 
 -- every good name is short
 short-each : (before : List (List ℕ)) (ns : List (List ℕ)) → Each GoodName before ns → (p : ℕ) → length (getD ns p []) ≤ nameLength
@@ -73,10 +77,13 @@ module _ (file : List ℕ) (g : GoodNames file) where
     unfolding this
     name-byte = byte .1
 
+    longer : startOf (namesIn file) p + length (nameBytes this) ≡ startOf (namesIn file) p + 1 + length this
+    longer = let e = ap length (ones this) in omega arith
+
     letters : Spans file (startOf (namesIn file) p + 1) this (startOf (namesIn file) p + 1 + length this)
     letters = record {
       is = byte .2 ∙ ap (λ (l : List ℕ). l ++ drop (startOf (namesIn file) p + length (nameBytes this)) file) (ones this)
-          ∙ ap (λ (x : ℕ). this ++ drop x file) (let e = ap length (ones this) in omega arith);
+          ∙ ap (λ (x : ℕ). this ++ drop x file) longer;
       end = refl;
     }
 
@@ -95,5 +102,5 @@ module _ (file : List ℕ) (g : GoodNames file) where
         let x = getD ns p [] in
         let e : take (p + 1) ns ≡ take p ns ++ (x ∷ []) = ap (λ (q : ℕ). take q ns) (add-one p) ∙ take-suc ns p [] h in
         let f : flatMap nameBytes (take (p + 1) ns) ≡ flatMap nameBytes (take p ns) ++ nameBytes x =
-            ap (flatMap nameBytes) e ∙ flat-both (take p ns) (x ∷ []) ∙ ? in
+            ap (flatMap nameBytes) e ∙ flat-both (take p ns) (x ∷ []) ∙ ap (λ (l : List ℕ). flatMap nameBytes (take p ns) ++ l) (flat-single x) in
         omega (arith, ap length f, length-append (flatMap nameBytes (take p ns)) (nameBytes x), ap length (ones x))

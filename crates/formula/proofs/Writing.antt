@@ -5,8 +5,8 @@ use mathlib.Core.List.{List, [], _∷_, _++_}
 use Prim.Native.Nat.{ℕ, zero, suc, _+_, _≤_, _<_}
 use native.Mathlib.Omega.{arith}
 use native.Mathlib.Numerals.{add-one}
-use lib.ListN.{length, getD, set, take, drop, length-append, take-of-length-le}
-use lib.Seq.{sets, length-sets, take-suc}
+use lib.ListN.{length, getD, set, take, length-append}
+use lib.Seq.{sets, length-sets, take-suc, take-all, length-take-le}
 use Rattle.session.proofs.Filling.{sets-both}
 use Rattle.formula.specs.Inner.{Wrote}
 
@@ -21,10 +21,13 @@ wrote-length {l} {m} {at} u p = ap length (p .holds) ∙ length-sets l at u
 
 -- the first i bytes of a run are written
 pub first-bytes : (l : List ℕ) (at : ℕ) (u : List ℕ) (i : ℕ) → i < length u → set (sets l at (take i u)) (at + i) (getD u i 0) ≡ sets l at (take (i + 1) u)
-first-bytes l at u i h = ?
+first-bytes l at u i h =
+    let x = getD u i 0 in
+    let e : take (i + 1) u ≡ take i u ++ (x ∷ []) = ap (λ (n : ℕ). take n u) (add-one i) ∙ take-suc u i 0 h in
+    ap (λ (n : ℕ). set (sets l at (take i u)) (at + n) x) (sym (length-take-le i u (omega arith))) ∙ sym (sets-both l at (take i u) (x ∷ [])) ∙ ap (sets l at) (sym e)
 
 pub no-bytes : (l : List ℕ) (at : ℕ) (u : List ℕ) → l ≡ sets l at (take 0 u)
 no-bytes l at u = refl
 
 pub all-bytes : {l m : List ℕ} (at : ℕ) (u : List ℕ) (i : ℕ) → i ≡ length u → m ≡ sets l at (take i u) → Wrote l at u m (at + i)
-all-bytes {l} {m} at u i e q = record { next = omega arith; holds = q ∙ ap (λ (x : ℕ). sets l at (take x u)) e ∙ ap (sets l at) (take-of-length-le u (omega arith)) }
+all-bytes {l} {m} at u i e q = record { next = omega arith; holds = q ∙ ap (λ (x : ℕ). sets l at (take x u)) e ∙ ap (sets l at) (take-all (length u) u (omega arith)) }
