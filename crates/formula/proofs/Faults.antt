@@ -171,6 +171,11 @@ module _ (m : ℕ) (k : List Node) (b : ℕ) (n : Node) where
   fits-no-fault (binary op e l r s q) (binarySize u h) = h s
   fits-no-fault (binary op e l r s q) (tooLarge h) = omega arith
 
+  pub fits-small : Fits m k b n → n .size ≤ mostSize
+  fits-small (leaf c e l i r s) = omega arith
+  fits-small (unary op e l r s q) = q
+  fits-small (binary op e l r s q) = q
+
   -- the children of a node that fits stand below it
   pub left-under : Fits m k b n → IsUnary (n .code) ⊎ IsBinary (n .code) → n .left < b
   left-under (leaf c e l i t z) (inl v) = absurd (not-unary-leaf (n .code) v (c, sym e))

@@ -6,3 +6,5 @@ pub mod Evaluation
 pub mod Checking
 pub mod Names
 pub mod Writing
+pub mod Texts
+pub mod Printing
