@@ -2,7 +2,7 @@
 -- Assumes nothing.
 use mathlib.Core.Path.{_≡_, refl, sym, ap, _∙_, subst}
 use mathlib.Core.List.{List, [], _∷_, _++_, flatMap, append-assoc, append-nil}
-use Prim.Native.Nat.{ℕ, zero, suc, _+_, _≤_, _<_}
+use Prim.Native.Nat.{ℕ, zero, suc, _+_, _-_, _≤_, _<_}
 use native.Mathlib.Omega.{arith}
 use native.Mathlib.Numerals.{add-one}
 use lib.ListN.{length, getD, take, drop, length-append, take-append-drop}
@@ -35,6 +35,11 @@ unfolding Each
 short-each before [] e p = omega arith
 short-each before (x ∷ ns) e zero = e .0 .short
 short-each before (x ∷ ns) e (suc p) = short-each (before ++ (x ∷ [])) ns (e .1) p
+
+-- the first name starts after the count
+pub start-first : (ns : List (List ℕ)) → startOf ns 0 ≡ 1
+unfolding flatMap
+start-first ns = refl
 
 module _ (file : List ℕ) (g : GoodNames file) where
   whole : Section name GoodName nameBytes file 1 propositions 0 (namesIn file) (g .0)
@@ -104,3 +109,11 @@ module _ (file : List ℕ) (g : GoodNames file) where
         let f : flatMap nameBytes (take (p + 1) ns) ≡ flatMap nameBytes (take p ns) ++ nameBytes x =
             ap (flatMap nameBytes) e ∙ flat-both (take p ns) (x ∷ []) ∙ ap (λ (l : List ℕ). flatMap nameBytes (take p ns) ++ l) (flat-single x) in
         omega (arith, ap length f, length-append (flatMap nameBytes (take p ns)) (nameBytes x), ap length (ones x))
+
+    -- the letters, cut out of the file from the length byte on
+    pub name-part : (start : ℕ) → start ≡ startOf (namesIn file) p → take (start + 1 + getD file start 0 - (start + 1)) (drop (start + 1) file) ≡ getD (namesIn file) p []
+    name-part start e =
+        let x = getD (namesIn file) p [] in
+        let b = ap (λ (q : ℕ). getD file q 0) e ∙ name-byte in
+        let n : start + 1 + getD file start 0 - (start + 1) ≡ length x = omega arith in
+        ap (λ (q : ℕ). take q (drop (start + 1) file)) n ∙ ap (λ (q : ℕ). take (length x) (drop (q + 1) file)) e ∙ name-bytes

@@ -1,3 +1,17 @@
+-- `write` meets its contract, by the place below which the children stand.
+-- Assumes nothing.
+use mathlib.Core.Path.{_≡_}
+use mathlib.Core.Logic.{inl, inr}
+use native.Mathlib.Omega.{arith}
+use lib.ListN.{length}
+use Rattle.sequence.proofs.Groups.{in-unary, in-binary, off-unary, off-binary}
+use Rattle.formula.specs.Kinds.{nodeOf, nodes}
+use Rattle.formula.specs.Inner.{namesIn}
+use Rattle.formula.proofs.Listed.{length-nodes}
+use Rattle.formula.proofs.Faults.{left-under, right-under}
+use Rattle.sequence.proofs.Table.{token-fits}
+use Rattle.formula.proofs.Printing.{printable-at, room-before, room-child, room-close, unary-written, room-open, room-left, room-between, room-right, room-end, binary-written}
+use borrow.Author.Needs.{needs}
 use Prim.Native.Nat.{ℕ, _<_}
 use borrow.Fn.Kinds.{In}
 use borrow.Fn.PlainCycle.{Measures, is, falls, and}
@@ -14,7 +28,7 @@ use Rattle.formula.proofs.text.+write.{statement}
 use Rattle.formula.proofs.text.+write.Tie.{close}
 
 abbrev μ-write : Measures 6 write-kinds.ps ℕ
-μ-write κs a = ?
+μ-write κs a = a .1 .1 .1 .1 .1 .0
 
 abbrev write-at : ℕ → In 6 write-kinds.ps
 write-at t = and 6 write-kinds.ps (is 6 write-kinds.ps μ-write t) write.Pre
@@ -22,7 +36,6 @@ write-at t = and 6 write-kinds.ps (is 6 write-kinds.ps μ-write t) write.Pre
 abbrev write-below : ℕ → In 6 write-kinds.ps
 write-below t = and 6 write-kinds.ps (falls 6 write-kinds.ps _<_ μ-write t) write.Pre
 
--- src/text.rt:144:9
 write-operator-of-requires : (t : ℕ) → write-lts.Need-operator-of-requires (
   operator-of-reads.Asked,
   operator-of-reads.Learnt,
@@ -39,9 +52,8 @@ write-operator-of-requires : (t : ℕ) → write-lts.Need-operator-of-requires (
   put-leaf-reads.Asked,
   put-leaf-reads.Learnt,
 ) (write-at t) write.Post
-write-operator-of-requires t c κs = ?
+write-operator-of-requires t c κs = search needs
 
--- src/text.rt:148:24
 write-enum-told : (t : ℕ) → write-lts.Need-enum-told (
   operator-of-reads.Asked,
   operator-of-reads.Learnt,
@@ -58,9 +70,8 @@ write-enum-told : (t : ℕ) → write-lts.Need-enum-told (
   put-leaf-reads.Asked,
   put-leaf-reads.Learnt,
 ) (write-at t) write.Post
-write-enum-told t c = ?
+write-enum-told t c = search needs
 
--- src/text.rt:148:24
 write-cast-left : (t : ℕ) → write-lts.Need-cast-left (
   operator-of-reads.Asked,
   operator-of-reads.Learnt,
@@ -77,9 +88,8 @@ write-cast-left : (t : ℕ) → write-lts.Need-cast-left (
   put-leaf-reads.Asked,
   put-leaf-reads.Learnt,
 ) (write-at t) write.Post
-write-cast-left t c = ?
+write-cast-left t c = search needs
 
--- src/text.rt:149:17
 write-node-at-requires : (t : ℕ) → write-lts.Need-node-at-requires (
   operator-of-reads.Asked,
   operator-of-reads.Learnt,
@@ -96,9 +106,12 @@ write-node-at-requires : (t : ℕ) → write-lts.Need-node-at-requires (
   put-leaf-reads.Asked,
   put-leaf-reads.Learnt,
 ) (write-at t) write.Post
-write-node-at-requires t c κs = ?
+write-node-at-requires t c κs = let s = c .before .before .before .before .before .before .before .before .before .before in
+    let a = s .args in
+    let f = c .before .before .before .operator-of in
+    let u = in-unary _ (f .result) (f .ensures) (c .before .enum-told .given .1) in
+    omega (arith, left-under (length (namesIn (a .names .now))) (nodes (a .codes .now) (a .lefts .now) (a .rights .now) (a .sizes .now)) (a .below) (nodeOf (a .node)) (s .pre .1 .0 .fits) (inl u), s .pre .1 .0 .within, length-nodes (a .codes .now) (a .lefts .now) (a .rights .now) (a .sizes .now))
 
--- src/text.rt:150:17
 write-put-before-requires : (t : ℕ) → write-lts.Need-put-before-requires (
   operator-of-reads.Asked,
   operator-of-reads.Learnt,
@@ -115,9 +128,12 @@ write-put-before-requires : (t : ℕ) → write-lts.Need-put-before-requires (
   put-leaf-reads.Asked,
   put-leaf-reads.Learnt,
 ) (write-at t) write.Post
-write-put-before-requires t c κs = ?
+write-put-before-requires t c κs = let s = c .before .before .before .before .before .before .before .before .before .before .before .before in
+    let a = s .args in
+    let f = c .before .before .before .before .before .operator-of in
+    let u = in-unary _ (f .result) (f .ensures) (c .before .before .before .enum-told .given .1) in
+    (token-fits (f .ensures), room-before (a .names .now) (nodes (a .codes .now) (a .lefts .now) (a .rights .now) (a .sizes .now)) (nodeOf (a .node)) (s .pre .1 .0) (f .result) (f .ensures) u (c .before .node-at .ensures) (a .room .now) (a .at) (s .pre .1 .1))
 
--- src/text.rt:151:17
 write-write-requires : (t : ℕ) → write-lts.Need-write-requires (
   operator-of-reads.Asked,
   operator-of-reads.Learnt,
@@ -134,9 +150,13 @@ write-write-requires : (t : ℕ) → write-lts.Need-write-requires (
   put-leaf-reads.Asked,
   put-leaf-reads.Learnt,
 ) (write-at t) write.Post
-write-write-requires t c κs = ?
+write-write-requires t c κs = let s = c .before .before .before .before .before .before .before .before .before .before .before .before .before .before .before .before in
+    let a = s .args in
+    let f = c .before .before .before .before .before .before .before .before .before .operator-of in
+    let u = in-unary _ (f .result) (f .ensures) (c .before .before .before .before .before .before .before .enum-told .given .1) in
+    let h = left-under (length (namesIn (a .names .now))) (nodes (a .codes .now) (a .lefts .now) (a .rights .now) (a .sizes .now)) (a .below) (nodeOf (a .node)) (s .pre .1 .0 .fits) (inl u) in
+    (omega arith, (printable-at (a .names .now) (nodes (a .codes .now) (a .lefts .now) (a .rights .now) (a .sizes .now)) (s .pre .1 .0) (a .node .left .0) h (c .before .before .before .before .before .node-at .ensures), room-child (a .names .now) (nodes (a .codes .now) (a .lefts .now) (a .rights .now) (a .sizes .now)) (nodeOf (a .node)) (s .pre .1 .0) (f .result) (f .ensures) u (c .before .before .before .before .before .node-at .ensures) (a .room .now) (a .at) (s .pre .1 .1) (c .before .before .before .put-before .ensures)))
 
--- src/text.rt:152:26
 write-slice-aggregate-put : (t : ℕ) → write-lts.Need-slice-aggregate-put (
   operator-of-reads.Asked,
   operator-of-reads.Learnt,
@@ -153,9 +173,8 @@ write-slice-aggregate-put : (t : ℕ) → write-lts.Need-slice-aggregate-put (
   put-leaf-reads.Asked,
   put-leaf-reads.Learnt,
 ) (write-at t) write.Post
-write-slice-aggregate-put t c = ?
+write-slice-aggregate-put t c = search needs
 
--- src/text.rt:152:13
 write-put-requires : (t : ℕ) → write-lts.Need-put-requires (
   operator-of-reads.Asked,
   operator-of-reads.Learnt,
@@ -172,9 +191,12 @@ write-put-requires : (t : ℕ) → write-lts.Need-put-requires (
   put-leaf-reads.Asked,
   put-leaf-reads.Learnt,
 ) (write-at t) write.Post
-write-put-requires t c κs = ?
+write-put-requires t c κs = let s = c .before .before .before .before .before .before .before .before .before .before .before .before .before .before .before .before .before .before .before .before .before in
+    let a = s .args in
+    let f = c .before .before .before .before .before .before .before .before .before .before .before .before .before .before .operator-of in
+    let u = in-unary _ (f .result) (f .ensures) (c .before .before .before .before .before .before .before .before .before .before .before .before .enum-told .given .1) in
+    room-close (a .names .now) (nodes (a .codes .now) (a .lefts .now) (a .rights .now) (a .sizes .now)) (nodeOf (a .node)) (s .pre .1 .0) (f .result) (f .ensures) u (c .before .before .before .before .before .before .before .before .before .before .node-at .ensures) (a .room .now) (a .at) (s .pre .1 .1) (c .before .before .before .before .before .before .before .before .put-before .ensures) (c .before .before .before .before .write .ensures)
 
--- src/text.rt:155:24
 write-enum-told-2 : (t : ℕ) → write-lts.Need-enum-told-2 (
   operator-of-reads.Asked,
   operator-of-reads.Learnt,
@@ -191,9 +213,8 @@ write-enum-told-2 : (t : ℕ) → write-lts.Need-enum-told-2 (
   put-leaf-reads.Asked,
   put-leaf-reads.Learnt,
 ) (write-at t) write.Post
-write-enum-told-2 t c = ?
+write-enum-told-2 t c = search needs
 
--- src/text.rt:155:24
 write-cast-left-2 : (t : ℕ) → write-lts.Need-cast-left-2 (
   operator-of-reads.Asked,
   operator-of-reads.Learnt,
@@ -210,9 +231,8 @@ write-cast-left-2 : (t : ℕ) → write-lts.Need-cast-left-2 (
   put-leaf-reads.Asked,
   put-leaf-reads.Learnt,
 ) (write-at t) write.Post
-write-cast-left-2 t c = ?
+write-cast-left-2 t c = search needs
 
--- src/text.rt:156:17
 write-node-at-requires-2 : (t : ℕ) → write-lts.Need-node-at-requires-2 (
   operator-of-reads.Asked,
   operator-of-reads.Learnt,
@@ -229,9 +249,12 @@ write-node-at-requires-2 : (t : ℕ) → write-lts.Need-node-at-requires-2 (
   put-leaf-reads.Asked,
   put-leaf-reads.Learnt,
 ) (write-at t) write.Post
-write-node-at-requires-2 t c κs = ?
+write-node-at-requires-2 t c κs = let s = c .before .before .before .before .before .before .before .before .before .before in
+    let a = s .args in
+    let f = c .before .before .before .operator-of in
+    let u = in-binary _ (f .result) (f .ensures) (c .before .enum-told2 .given .1) in
+    omega (arith, left-under (length (namesIn (a .names .now))) (nodes (a .codes .now) (a .lefts .now) (a .rights .now) (a .sizes .now)) (a .below) (nodeOf (a .node)) (s .pre .1 .0 .fits) (inr u), s .pre .1 .0 .within, length-nodes (a .codes .now) (a .lefts .now) (a .rights .now) (a .sizes .now))
 
--- src/text.rt:157:25
 write-cast-right : (t : ℕ) → write-lts.Need-cast-right (
   operator-of-reads.Asked,
   operator-of-reads.Learnt,
@@ -248,9 +271,8 @@ write-cast-right : (t : ℕ) → write-lts.Need-cast-right (
   put-leaf-reads.Asked,
   put-leaf-reads.Learnt,
 ) (write-at t) write.Post
-write-cast-right t c = ?
+write-cast-right t c = search needs
 
--- src/text.rt:158:17
 write-node-at-requires-3 : (t : ℕ) → write-lts.Need-node-at-requires-3 (
   operator-of-reads.Asked,
   operator-of-reads.Learnt,
@@ -267,9 +289,12 @@ write-node-at-requires-3 : (t : ℕ) → write-lts.Need-node-at-requires-3 (
   put-leaf-reads.Asked,
   put-leaf-reads.Learnt,
 ) (write-at t) write.Post
-write-node-at-requires-3 t c κs = ?
+write-node-at-requires-3 t c κs = let s = c .before .before .before .before .before .before .before .before .before .before .before .before in
+    let a = s .args in
+    let f = c .before .before .before .before .before .operator-of in
+    let u = in-binary _ (f .result) (f .ensures) (c .before .before .before .enum-told2 .given .1) in
+    omega (arith, right-under (length (namesIn (a .names .now))) (nodes (a .codes .now) (a .lefts .now) (a .rights .now) (a .sizes .now)) (a .below) (nodeOf (a .node)) (s .pre .1 .0 .fits) u, s .pre .1 .0 .within, length-nodes (a .codes .now) (a .lefts .now) (a .rights .now) (a .sizes .now))
 
--- src/text.rt:159:35
 write-slice-aggregate-put-2 : (t : ℕ) → write-lts.Need-slice-aggregate-put-2 (
   operator-of-reads.Asked,
   operator-of-reads.Learnt,
@@ -286,9 +311,8 @@ write-slice-aggregate-put-2 : (t : ℕ) → write-lts.Need-slice-aggregate-put-2
   put-leaf-reads.Asked,
   put-leaf-reads.Learnt,
 ) (write-at t) write.Post
-write-slice-aggregate-put-2 t c = ?
+write-slice-aggregate-put-2 t c = search needs
 
--- src/text.rt:159:17
 write-put-requires-2 : (t : ℕ) → write-lts.Need-put-requires-2 (
   operator-of-reads.Asked,
   operator-of-reads.Learnt,
@@ -305,9 +329,12 @@ write-put-requires-2 : (t : ℕ) → write-lts.Need-put-requires-2 (
   put-leaf-reads.Asked,
   put-leaf-reads.Learnt,
 ) (write-at t) write.Post
-write-put-requires-2 t c κs = ?
+write-put-requires-2 t c κs = let s = c .before .before .before .before .before .before .before .before .before .before .before .before .before .before .before in
+    let a = s .args in
+    let f = c .before .before .before .before .before .before .before .before .operator-of in
+    let u = in-binary _ (f .result) (f .ensures) (c .before .before .before .before .before .before .enum-told2 .given .1) in
+    room-open (a .names .now) (nodes (a .codes .now) (a .lefts .now) (a .rights .now) (a .sizes .now)) (nodeOf (a .node)) (s .pre .1 .0) (f .result) (f .ensures) u (c .before .before .before .before .node-at2 .ensures) (c .before .before .node-at3 .ensures) (a .room .now) (a .at) (s .pre .1 .1)
 
--- src/text.rt:160:17
 write-write-requires-2 : (t : ℕ) → write-lts.Need-write-requires-2 (
   operator-of-reads.Asked,
   operator-of-reads.Learnt,
@@ -324,9 +351,13 @@ write-write-requires-2 : (t : ℕ) → write-lts.Need-write-requires-2 (
   put-leaf-reads.Asked,
   put-leaf-reads.Learnt,
 ) (write-at t) write.Post
-write-write-requires-2 t c κs = ?
+write-write-requires-2 t c κs = let s = c .before .before .before .before .before .before .before .before .before .before .before .before .before .before .before .before .before .before .before in
+    let a = s .args in
+    let f = c .before .before .before .before .before .before .before .before .before .before .before .before .operator-of in
+    let u = in-binary _ (f .result) (f .ensures) (c .before .before .before .before .before .before .before .before .before .before .enum-told2 .given .1) in
+    let h = left-under (length (namesIn (a .names .now))) (nodes (a .codes .now) (a .lefts .now) (a .rights .now) (a .sizes .now)) (a .below) (nodeOf (a .node)) (s .pre .1 .0 .fits) (inr u) in
+    (omega arith, (printable-at (a .names .now) (nodes (a .codes .now) (a .lefts .now) (a .rights .now) (a .sizes .now)) (s .pre .1 .0) (a .node .left .0) h (c .before .before .before .before .before .before .before .before .node-at2 .ensures), room-left (a .names .now) (nodes (a .codes .now) (a .lefts .now) (a .rights .now) (a .sizes .now)) (nodeOf (a .node)) (s .pre .1 .0) (f .result) (f .ensures) u (c .before .before .before .before .before .before .before .before .node-at2 .ensures) (c .before .before .before .before .before .before .node-at3 .ensures) (a .room .now) (a .at) (s .pre .1 .1) (c .before .before .before .put2 .ensures)))
 
--- src/text.rt:161:17
 write-put-between-requires : (t : ℕ) → write-lts.Need-put-between-requires (
   operator-of-reads.Asked,
   operator-of-reads.Learnt,
@@ -343,9 +374,12 @@ write-put-between-requires : (t : ℕ) → write-lts.Need-put-between-requires (
   put-leaf-reads.Asked,
   put-leaf-reads.Learnt,
 ) (write-at t) write.Post
-write-put-between-requires t c κs = ?
+write-put-between-requires t c κs = let s = c .before .before .before .before .before .before .before .before .before .before .before .before .before .before .before .before .before .before .before .before .before .before .before in
+    let a = s .args in
+    let f = c .before .before .before .before .before .before .before .before .before .before .before .before .before .before .before .before .operator-of in
+    let u = in-binary _ (f .result) (f .ensures) (c .before .before .before .before .before .before .before .before .before .before .before .before .before .before .enum-told2 .given .1) in
+    (token-fits (f .ensures), room-between (a .names .now) (nodes (a .codes .now) (a .lefts .now) (a .rights .now) (a .sizes .now)) (nodeOf (a .node)) (s .pre .1 .0) (f .result) (f .ensures) u (c .before .before .before .before .before .before .before .before .before .before .before .before .node-at2 .ensures) (c .before .before .before .before .before .before .before .before .before .before .node-at3 .ensures) (a .room .now) (a .at) (s .pre .1 .1) (c .before .before .before .before .before .before .before .put2 .ensures) (c .before .before .before .write2 .ensures))
 
--- src/text.rt:162:17
 write-write-requires-3 : (t : ℕ) → write-lts.Need-write-requires-3 (
   operator-of-reads.Asked,
   operator-of-reads.Learnt,
@@ -362,9 +396,13 @@ write-write-requires-3 : (t : ℕ) → write-lts.Need-write-requires-3 (
   put-leaf-reads.Asked,
   put-leaf-reads.Learnt,
 ) (write-at t) write.Post
-write-write-requires-3 t c κs = ?
+write-write-requires-3 t c κs = let s = c .before .before .before .before .before .before .before .before .before .before .before .before .before .before .before .before .before .before .before .before .before .before .before .before .before .before .before in
+    let a = s .args in
+    let f = c .before .before .before .before .before .before .before .before .before .before .before .before .before .before .before .before .before .before .before .before .operator-of in
+    let u = in-binary _ (f .result) (f .ensures) (c .before .before .before .before .before .before .before .before .before .before .before .before .before .before .before .before .before .before .enum-told2 .given .1) in
+    let h = right-under (length (namesIn (a .names .now))) (nodes (a .codes .now) (a .lefts .now) (a .rights .now) (a .sizes .now)) (a .below) (nodeOf (a .node)) (s .pre .1 .0 .fits) u in
+    (omega arith, (printable-at (a .names .now) (nodes (a .codes .now) (a .lefts .now) (a .rights .now) (a .sizes .now)) (s .pre .1 .0) (a .node .right .0) h (c .before .before .before .before .before .before .before .before .before .before .before .before .before .before .node-at3 .ensures), room-right (a .names .now) (nodes (a .codes .now) (a .lefts .now) (a .rights .now) (a .sizes .now)) (nodeOf (a .node)) (s .pre .1 .0) (f .result) (f .ensures) u (c .before .before .before .before .before .before .before .before .before .before .before .before .before .before .before .before .node-at2 .ensures) (c .before .before .before .before .before .before .before .before .before .before .before .before .before .before .node-at3 .ensures) (a .room .now) (a .at) (s .pre .1 .1) (c .before .before .before .before .before .before .before .before .before .before .before .put2 .ensures) (c .before .before .before .before .before .before .before .write2 .ensures) (c .before .before .before .put-between .ensures)))
 
--- src/text.rt:163:26
 write-slice-aggregate-put-3 : (t : ℕ) → write-lts.Need-slice-aggregate-put-3 (
   operator-of-reads.Asked,
   operator-of-reads.Learnt,
@@ -381,9 +419,8 @@ write-slice-aggregate-put-3 : (t : ℕ) → write-lts.Need-slice-aggregate-put-3
   put-leaf-reads.Asked,
   put-leaf-reads.Learnt,
 ) (write-at t) write.Post
-write-slice-aggregate-put-3 t c = ?
+write-slice-aggregate-put-3 t c = search needs
 
--- src/text.rt:163:13
 write-put-requires-3 : (t : ℕ) → write-lts.Need-put-requires-3 (
   operator-of-reads.Asked,
   operator-of-reads.Learnt,
@@ -400,9 +437,12 @@ write-put-requires-3 : (t : ℕ) → write-lts.Need-put-requires-3 (
   put-leaf-reads.Asked,
   put-leaf-reads.Learnt,
 ) (write-at t) write.Post
-write-put-requires-3 t c κs = ?
+write-put-requires-3 t c κs = let s = c .before .before .before .before .before .before .before .before .before .before .before .before .before .before .before .before .before .before .before .before .before .before .before .before .before .before .before .before .before .before .before .before in
+    let a = s .args in
+    let f = c .before .before .before .before .before .before .before .before .before .before .before .before .before .before .before .before .before .before .before .before .before .before .before .before .before .operator-of in
+    let u = in-binary _ (f .result) (f .ensures) (c .before .before .before .before .before .before .before .before .before .before .before .before .before .before .before .before .before .before .before .before .before .before .before .enum-told2 .given .1) in
+    room-end (a .names .now) (nodes (a .codes .now) (a .lefts .now) (a .rights .now) (a .sizes .now)) (nodeOf (a .node)) (s .pre .1 .0) (f .result) (f .ensures) u (c .before .before .before .before .before .before .before .before .before .before .before .before .before .before .before .before .before .before .before .before .before .node-at2 .ensures) (c .before .before .before .before .before .before .before .before .before .before .before .before .before .before .before .before .before .before .before .node-at3 .ensures) (a .room .now) (a .at) (s .pre .1 .1) (c .before .before .before .before .before .before .before .before .before .before .before .before .before .before .before .before .put2 .ensures) (c .before .before .before .before .before .before .before .before .before .before .before .before .write2 .ensures) (c .before .before .before .before .before .before .before .before .put-between .ensures) (c .before .before .before .before .write3 .ensures)
 
--- src/text.rt:165:85
 write-enum-told-3 : (t : ℕ) → write-lts.Need-enum-told-3 (
   operator-of-reads.Asked,
   operator-of-reads.Learnt,
@@ -419,9 +459,8 @@ write-enum-told-3 : (t : ℕ) → write-lts.Need-enum-told-3 (
   put-leaf-reads.Asked,
   put-leaf-reads.Learnt,
 ) (write-at t) write.Post
-write-enum-told-3 t c = ?
+write-enum-told-3 t c = search needs
 
--- src/text.rt:165:27
 write-put-leaf-requires : (t : ℕ) → write-lts.Need-put-leaf-requires (
   operator-of-reads.Asked,
   operator-of-reads.Learnt,
@@ -438,9 +477,9 @@ write-put-leaf-requires : (t : ℕ) → write-lts.Need-put-leaf-requires (
   put-leaf-reads.Asked,
   put-leaf-reads.Learnt,
 ) (write-at t) write.Post
-write-put-leaf-requires t c κs = ?
+write-put-leaf-requires t c κs = let f = c .before .before .before .operator-of in
+    (c .before .before .before .before .before .before .before .before .before .before .pre .1 .0, λ u. off-unary _ (f .result) (f .ensures) (λ g. let z : _≡_ {A = ℕ} 0 1 = cc (c .before .enum-told3 .given .1) in omega arith) (u .0) (u .1), λ u. off-binary _ (f .result) (f .ensures) (λ g. let z : _≡_ {A = ℕ} 0 1 = cc (c .before .enum-told3 .given .1) in omega arith) (u .0) (u .1), c .before .before .before .before .before .before .before .before .before .before .pre .1 .1)
 
--- src/text.rt:139:1
 write-same-length : (t : ℕ) → write-lts.Need-same-length (
   operator-of-reads.Asked,
   operator-of-reads.Learnt,
@@ -457,9 +496,8 @@ write-same-length : (t : ℕ) → write-lts.Need-same-length (
   put-leaf-reads.Asked,
   put-leaf-reads.Learnt,
 ) (write-at t) write.Post
-write-same-length t c = ?
+write-same-length t c = search needs
 
--- src/text.rt:139:1
 write-returns : (t : ℕ) → write-lts.Need-returns (
   operator-of-reads.Asked,
   operator-of-reads.Learnt,
@@ -476,9 +514,12 @@ write-returns : (t : ℕ) → write-lts.Need-returns (
   put-leaf-reads.Asked,
   put-leaf-reads.Learnt,
 ) (write-at t) write.Post
-write-returns t c = ?
+write-returns t c = let s = c .before .before .before .before .before .before .before .before .before .before .before .before .before .before .before .before .before .before .before .before .before .before .before .before in
+    let a = s .args in
+    let f = c .before .before .before .before .before .before .before .before .before .before .before .before .before .before .before .before .before .operator-of in
+    let u = in-unary _ (f .result) (f .ensures) (c .before .before .before .before .before .before .before .before .before .before .before .before .before .before .before .enum-told .given .1) in
+    unary-written (a .names .now) (nodes (a .codes .now) (a .lefts .now) (a .rights .now) (a .sizes .now)) (nodeOf (a .node)) (s .pre .1 .0) (f .result) (f .ensures) u (c .before .before .before .before .before .before .before .before .before .before .before .before .before .node-at .ensures) (c .before .before .before .before .before .before .before .before .before .before .before .put-before .ensures) (c .before .before .before .before .before .before .before .write .ensures) (c .before .before .put .ensures)
 
--- src/text.rt:139:1
 write-same-length-2 : (t : ℕ) → write-lts.Need-same-length-2 (
   operator-of-reads.Asked,
   operator-of-reads.Learnt,
@@ -495,9 +536,8 @@ write-same-length-2 : (t : ℕ) → write-lts.Need-same-length-2 (
   put-leaf-reads.Asked,
   put-leaf-reads.Learnt,
 ) (write-at t) write.Post
-write-same-length-2 t c = ?
+write-same-length-2 t c = search needs
 
--- src/text.rt:139:1
 write-returns-2 : (t : ℕ) → write-lts.Need-returns-2 (
   operator-of-reads.Asked,
   operator-of-reads.Learnt,
@@ -514,9 +554,12 @@ write-returns-2 : (t : ℕ) → write-lts.Need-returns-2 (
   put-leaf-reads.Asked,
   put-leaf-reads.Learnt,
 ) (write-at t) write.Post
-write-returns-2 t c = ?
+write-returns-2 t c = let s = c .before .before .before .before .before .before .before .before .before .before .before .before .before .before .before .before .before .before .before .before .before .before .before .before .before .before .before .before .before .before .before .before .before .before .before in
+    let a = s .args in
+    let f = c .before .before .before .before .before .before .before .before .before .before .before .before .before .before .before .before .before .before .before .before .before .before .before .before .before .before .before .before .operator-of in
+    let u = in-binary _ (f .result) (f .ensures) (c .before .before .before .before .before .before .before .before .before .before .before .before .before .before .before .before .before .before .before .before .before .before .before .before .before .before .enum-told2 .given .1) in
+    binary-written (a .names .now) (nodes (a .codes .now) (a .lefts .now) (a .rights .now) (a .sizes .now)) (nodeOf (a .node)) (s .pre .1 .0) (f .result) (f .ensures) u (c .before .before .before .before .before .before .before .before .before .before .before .before .before .before .before .before .before .before .before .before .before .before .before .before .node-at2 .ensures) (c .before .before .before .before .before .before .before .before .before .before .before .before .before .before .before .before .before .before .before .before .before .before .node-at3 .ensures) (c .before .before .before .before .before .before .before .before .before .before .before .before .before .before .before .before .before .before .before .put2 .ensures) (c .before .before .before .before .before .before .before .before .before .before .before .before .before .before .before .write2 .ensures) (c .before .before .before .before .before .before .before .before .before .before .before .put-between .ensures) (c .before .before .before .before .before .before .before .write3 .ensures) (c .before .before .put3 .ensures)
 
--- src/text.rt:139:1
 write-same-length-3 : (t : ℕ) → write-lts.Need-same-length-3 (
   operator-of-reads.Asked,
   operator-of-reads.Learnt,
@@ -533,9 +576,8 @@ write-same-length-3 : (t : ℕ) → write-lts.Need-same-length-3 (
   put-leaf-reads.Asked,
   put-leaf-reads.Learnt,
 ) (write-at t) write.Post
-write-same-length-3 t c = ?
+write-same-length-3 t c = search needs
 
--- src/text.rt:139:1
 write-returns-3 : (t : ℕ) → write-lts.Need-returns-3 (
   operator-of-reads.Asked,
   operator-of-reads.Learnt,
@@ -552,7 +594,7 @@ write-returns-3 : (t : ℕ) → write-lts.Need-returns-3 (
   put-leaf-reads.Asked,
   put-leaf-reads.Learnt,
 ) (write-at t) write.Post
-write-returns-3 t c = ?
+write-returns-3 t c = c .before .before .put-leaf .ensures
 
 pub +write-spec : {M : Type 1} → statement M
 +write-spec = close μ-write λ t. write-lts.spec (

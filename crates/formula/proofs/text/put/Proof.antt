@@ -1,53 +1,55 @@
+-- `put` meets its contract: the first bytes are written, one after the other.
+-- Assumes nothing.
+use mathlib.Core.Path.{_≡_, refl, sym, ap, _∙_, subst}
+use Prim.Native.Nat.{ℕ, _≤_, _-_, _+_}
+use native.Mathlib.Omega.{arith}
+use mathlib.Core.List.{List}
+use lib.ListN.{length, getD, set, take}
+use lib.Seq.{sets, length-sets}
+use Rattle.formula.proofs.Writing.{first-bytes, no-bytes, all-bytes}
 use Rattle.formula.proofs.text.put.Statement.{statement}
 use Rattle.formula.proofs.text.put.Tie as tie
-use Rattle.formula.proofs.text.put.Reads as reads
-use Rattle.formula.proofs.text.put.Lts as lts
 
 abbrev Inv-loop : tie.InvT-loop
-Inv-loop room₀ at bytes i₀ room i = ?
+Inv-loop room₀ at bytes i₀ room i = (i ≤ length bytes) × (room ≡ sets room₀ at (take i bytes))
 
 abbrev μ-loop : tie.MeasureT-loop
-μ-loop room₀ at bytes i₀ room i = ?
+μ-loop room₀ at bytes i₀ room i = length bytes - i
 
--- src/text.rt:86:5
 loop-holds : tie.Need-loop-holds Inv-loop μ-loop
-loop-holds c = ?
+loop-holds c = (omega arith, no-bytes (c .args .room .now) (c .args .at) (c .args .bytes .now))
 
--- src/text.rt:87:24
 shared-slice-read-room : tie.Need-shared-slice-read-room Inv-loop μ-loop
-shared-slice-read-room c = ?
+shared-slice-read-room c = omega arith
 
--- src/text.rt:87:14
 add-room : tie.Need-add-room Inv-loop μ-loop
-add-room c = ?
+add-room c = omega arith
 
--- src/text.rt:87:9
 slice-write-room : tie.Need-slice-write-room Inv-loop μ-loop
-slice-write-room c = ?
+slice-write-room c = let a = c .before .before .before .args in let l = c .before .before .loop in omega (arith, ap length (l .inv .1), length-sets (a .room .now) (a .at) (take (l .i) (a .bytes .now)))
 
--- src/text.rt:88:9
 add-i : tie.Need-add-i Inv-loop μ-loop
-add-i c = ?
+add-i c = omega arith
 
--- src/text.rt:86:5
 loop-less : tie.Need-loop-less Inv-loop μ-loop
-loop-less c = ?
+loop-less c = omega arith
 
--- src/text.rt:86:5
 loop-again : tie.Need-loop-again Inv-loop μ-loop
-loop-again c = ?
+loop-again c = let a = c .before .before .before .args in
+    let l = c .before .before .loop in
+    (
+      omega arith,
+      ap (λ (r : List ℕ). set r (a .at + l .i) (getD (a .bytes .now) (l .i) 0)) (l .inv .1) ∙ first-bytes (a .room .now) (a .at) (a .bytes .now) (l .i) (omega arith),
+    )
 
--- src/text.rt:90:5
 add-result : tie.Need-add-result Inv-loop μ-loop
-add-result c = ?
+add-result c = omega arith
 
--- src/text.rt:81:1
 same-length : tie.Need-same-length Inv-loop μ-loop
-same-length c = ?
+same-length c = let a = c .before .before .args in let l = c .before .loop in ap length (l .inv .1) ∙ length-sets (a .room .now) (a .at) (take (l .i) (a .bytes .now))
 
--- src/text.rt:81:1
 returns : tie.Need-returns Inv-loop μ-loop
-returns c = ?
+returns c = let a = c .before .before .args in let l = c .before .loop in all-bytes (a .at) (a .bytes .now) (l .i) (omega arith) (l .inv .1)
 
 pub put-spec : {M : Type 1} → statement M
 put-spec =

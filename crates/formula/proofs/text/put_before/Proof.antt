@@ -1,37 +1,38 @@
+-- `put_before` meets its contract.
+-- Assumes nothing.
+use mathlib.Core.Path.{_≡_, refl, sym, ap, _∙_, subst}
+use native.Mathlib.Omega.{arith}
+use mathlib.Core.List.{[], _∷_}
+use lib.ListN.{take}
+use lib.Seq.{length-take-le}
+use Rattle.formula.proofs.Writing.{wrote-both, wrote-length}
 use borrow.Author.Needs.{needs}
 use Rattle.formula.proofs.text.put_before.Statement.{statement}
 use Rattle.formula.proofs.text.put_before.Tie as tie
-use Rattle.formula.proofs.text.put_before.Reads as reads
-use Rattle.formula.proofs.text.put_before.Lts as lts
-use Rattle.formula.proofs.text.put.Reads as put-reads
 
--- src/text.rt:100:27
 array-share-prefix-token : tie.Need-array-share-prefix-token
 array-share-prefix-token c = search needs
 
--- src/text.rt:100:27
 slice-aggregate-put : tie.Need-slice-aggregate-put
-slice-aggregate-put c = ?
+slice-aggregate-put c = let s = c .before .before .before .before in sym (length-take-le (s .args .operator .bytes) (s .args .operator .token) (s .pre .0))
 
--- src/text.rt:100:9
 put-requires : tie.Need-put-requires
-put-requires c κs = ?
+put-requires c κs = let s = c .before .before .before .before in omega (arith, s .pre .1, length-take-le (s .args .operator .bytes) (s .args .operator .token) (s .pre .0))
 
--- src/text.rt:101:18
 slice-aggregate-put-2 : tie.Need-slice-aggregate-put-2
 slice-aggregate-put-2 c = search needs
 
--- src/text.rt:101:5
 put-requires-2 : tie.Need-put-requires-2
-put-requires-2 c κs = ?
+put-requires-2 c κs = let s = c .before .before .before .before .before .before .before .before .before in
+    let o = s .args .operator in
+    let w = c .before .before .before .before .put .ensures in
+    omega (arith, s .pre .1, length-take-le (o .bytes) (o .token) (s .pre .0), w .next, wrote-length (take (o .bytes) (o .token)) w)
 
--- src/text.rt:94:1
 same-length : tie.Need-same-length
 same-length c = search needs
 
--- src/text.rt:94:1
 returns : tie.Need-returns
-returns c = ?
+returns c = let o = c .before .before .before .before .before .before .before .before .before .before .before .before .args .operator in wrote-both (take (o .bytes) (o .token)) (32 ∷ 40 ∷ []) (c .before .before .before .before .before .before .before .put .ensures) (c .before .before .put2 .ensures)
 
 pub put-before-spec : {M : Type 1} → statement M
 put-before-spec =
