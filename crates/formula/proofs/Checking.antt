@@ -45,7 +45,7 @@ module _ (i : Input) (k : List Node) (root : Node) where
       → AgreesWord (markOf i j) (lengthOf i j) w b → (t : Formula) → Spells codes k root t → (b ≡ true) ↔ Agrees (session i j) t
   agrees-word j from w b e ev a t s =
       let m : Means (lengthOf i j) w (Holds (session i j .trace) t) =
-          subst (λ (f : ℕ). Means (lengthOf i j) w (Holds (traceAt (lengthOf i j) (i .words) f) t)) e (ev t s) in
+      subst (λ (f : ℕ). Means (lengthOf i j) w (Holds (traceAt (lengthOf i j) (i .words) f) t)) e (ev t s) in
       Iff·trans a (
         λ q. (λ n. let p = q .0 n in (p .0, m .holds 0 (p .0) .0 (p .1)), λ p. q .1 (p .0, m .holds 0 (p .0) .1 (p .1))),
         λ q. (λ n. let p = q .0 n in (p .0, m .holds 0 (p .0) .1 (p .1)), λ p. q .1 (p .0, m .holds 0 (p .0) .0 (p .1))),
@@ -89,8 +89,7 @@ module _ (i : Input) (k : List Node) (root : Node) where
       let b = decided-none _ _ (lit< tt, (lit< tt, (lit< tt, (lit< tt, tt)))) (a .1) in
       let e = decided-none _ _ (lit< tt, (lit< tt, (lit< tt, tt))) (b .1) in
       let f = decided-none _ _ (lit< tt, (lit< tt, tt)) (e .1) in
-      let w = whole-fits (i .propositions) k root u in
-      (
+      let w = whole-fits (i .propositions) k root u in (
         record {
           marks-there = (let x : length (i .marks) < i .sessions → ⊥ = λ h. b .0 (inl h) in omega arith);
           lengths-there = (let x : length (i .lengths) < i .sessions → ⊥ = λ h. b .0 (inr (inl h)) in omega arith);

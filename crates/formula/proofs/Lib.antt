@@ -8,3 +8,4 @@ pub mod Names
 pub mod Writing
 pub mod Texts
 pub mod Printing
+pub mod Answers

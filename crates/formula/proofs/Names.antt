@@ -62,9 +62,9 @@ module _ (file : List ℕ) (g : GoodNames file) where
         let ns = namesIn file in
         let all = second file (length ns ∷ []) (flatMap nameBytes ns) (whole .spans) in
         let split : flatMap nameBytes ns ≡ flatMap nameBytes (take p ns) ++ flatMap nameBytes (drop p ns) =
-            ap (flatMap nameBytes) (sym (take-append-drop p ns)) ∙ flat-both (take p ns) (drop p ns) in
+        ap (flatMap nameBytes) (sym (take-append-drop p ns)) ∙ flat-both (take p ns) (drop p ns) in
         let tail : flatMap nameBytes (drop p ns) ≡ nameBytes (getD ns p []) ++ flatMap nameBytes (drop (suc p) ns) =
-            ap (flatMap nameBytes) (drop-cons ns p [] h) ∙ flat-one (getD ns p []) (drop (suc p) ns) in
+        ap (flatMap nameBytes) (drop-cons ns p [] h) ∙ flat-one (getD ns p []) (drop (suc p) ns) in
         let rest = second file (flatMap nameBytes (take p ns)) (flatMap nameBytes (drop p ns)) (subst (λ (l : List ℕ). Spans file 1 l (g .0)) split all) in
         subst (λ (l : List ℕ). Spans file (startOf ns p) l (g .0)) tail rest
 
@@ -107,7 +107,7 @@ module _ (file : List ℕ) (g : GoodNames file) where
         let x = getD ns p [] in
         let e : take (p + 1) ns ≡ take p ns ++ (x ∷ []) = ap (λ (q : ℕ). take q ns) (add-one p) ∙ take-suc ns p [] h in
         let f : flatMap nameBytes (take (p + 1) ns) ≡ flatMap nameBytes (take p ns) ++ nameBytes x =
-            ap (flatMap nameBytes) e ∙ flat-both (take p ns) (x ∷ []) ∙ ap (λ (l : List ℕ). flatMap nameBytes (take p ns) ++ l) (flat-single x) in
+        ap (flatMap nameBytes) e ∙ flat-both (take p ns) (x ∷ []) ∙ ap (λ (l : List ℕ). flatMap nameBytes (take p ns) ++ l) (flat-single x) in
         omega (arith, ap length f, length-append (flatMap nameBytes (take p ns)) (nameBytes x), ap length (ones x))
 
     -- the letters, cut out of the file from the length byte on

@@ -120,7 +120,7 @@ module _ (file : List ℕ) (k : List Node) where
           let x = text (namesIn file) t in
           let all = wrote-both (beforeLast o ++ x) (41 ∷ []) (wrote-both (beforeLast o) x w (v t s)) z in
           let same : (beforeLast o ++ x) ++ (41 ∷ []) ≡ text (namesIn file) (unary (u .0) t) =
-              ap (λ (y : List ℕ). ((y ++ (32 ∷ 40 ∷ [])) ++ x) ++ (41 ∷ [])) (token .is) ∙ simp append-assoc in
+          ap (λ (y : List ℕ). ((y ++ (32 ∷ 40 ∷ [])) ++ x) ++ (41 ∷ [])) (token .is) ∙ simp append-assoc in
           subst (λ (y : List ℕ). Wrote l at y q r) same all)
 
       module _ (room : List ℕ) (at : ℕ) (f : Fitting file k nd room at) where
@@ -161,8 +161,7 @@ module _ (file : List ℕ) (k : List Node) where
               let x = spells-size codes k other r v in
               let m = ap (λ (c : Node). c .size) e in
               let n = ap (λ (c : Node). c .size) d in
-              let h = pr .within in
-              (
+              let h = pr .within in (
                 sym (u .1),
                 omega arith,
                 omega arith,
@@ -198,7 +197,7 @@ module _ (file : List ℕ) (k : List Node) where
           let third = wrote-both (((40 ∷ []) ++ p) ++ (41 ∷ 32 ∷ beforeLast o)) q second (v2 y v) in
           let all = wrote-both ((((40 ∷ []) ++ p) ++ (41 ∷ 32 ∷ beforeLast o)) ++ q) (41 ∷ []) third w3 in
           let same : ((((40 ∷ []) ++ p) ++ (41 ∷ 32 ∷ beforeLast o)) ++ q) ++ (41 ∷ []) ≡ text (namesIn file) (binary (u .0) x y) =
-              ap (λ (z : List ℕ). ((((40 ∷ []) ++ p) ++ (41 ∷ 32 ∷ (z ++ (32 ∷ 40 ∷ [])))) ++ q) ++ (41 ∷ [])) (token-b .is) ∙ simp append-assoc in
+          ap (λ (z : List ℕ). ((((40 ∷ []) ++ p) ++ (41 ∷ 32 ∷ (z ++ (32 ∷ 40 ∷ [])))) ++ q) ++ (41 ∷ [])) (token-b .is) ∙ simp append-assoc in
           subst (λ (z : List ℕ). Wrote l0 at z l5 r) same all)
 
       module _ (room : List ℕ) (at : ℕ) (f : Fitting file k nd room at) where

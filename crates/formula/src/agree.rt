@@ -19,8 +19,7 @@ fn agrees(mark: u8, length: usize, word: u64) -> bool
     let accepts = CharSeq {
         length,
         values: word,
-    }
-    .accepts();
+    }.accepts();
     if mark == 1 {
         return accepts;
     }
@@ -31,7 +30,18 @@ fn agrees(mark: u8, length: usize, word: u64) -> bool
 }
 
 // The first session that disagrees with the root's formula, or r.
-pub(crate) fn first_disagreeing(r: usize, m: usize, marks: &[u8], lengths: &[u8], words: &[u64], codes: &[u8], lefts: &[u16], rights: &[u16], sizes: &[u8], root: Node) -> usize
+pub(crate) fn first_disagreeing(
+    r: usize,
+    m: usize,
+    marks: &[u8],
+    lengths: &[u8],
+    words: &[u64],
+    codes: &[u8],
+    lefts: &[u16],
+    rights: &[u16],
+    sizes: &[u8],
+    root: Node,
+) -> usize
     requires { ⌜ Checkable (recorded r m (now marks) (now lengths) (now words)) (nodes (now codes) (now lefts) (now rights) (now sizes)) (nodeOf root) ⌝ }
     ensures { λ j. ⌜ Found (recorded r m (now (marks .entry)) (now (lengths .entry)) (now (words .entry))) (nodes (now (codes .entry)) (now (lefts .entry)) (now (rights .entry)) (now (sizes .entry))) (nodeOf root) j ⌝ }
 {
@@ -40,7 +50,17 @@ pub(crate) fn first_disagreeing(r: usize, m: usize, marks: &[u8], lengths: &[u8]
     let mut from: usize = 0;
     while j < r {
         let length = lengths[j] as usize;
-        let word = eval(length, words, from, codes, lefts, rights, sizes, below, root);
+        let word = eval(
+            length,
+            words,
+            from,
+            codes,
+            lefts,
+            rights,
+            sizes,
+            below,
+            root,
+        );
         if agrees(marks[j], length, word) {
             from += m;
             j += 1;

@@ -27,7 +27,18 @@ pub enum Printed {
 }
 
 // Whether the root's formula separates the marked sessions, and if not, the first session that disagrees.
-pub fn check(r: usize, m: usize, marks: &[u8], lengths: &[u8], words: &[u64], codes: &[u8], lefts: &[u16], rights: &[u16], sizes: &[u8], root: Node) -> Verdict
+pub fn check(
+    r: usize,
+    m: usize,
+    marks: &[u8],
+    lengths: &[u8],
+    words: &[u64],
+    codes: &[u8],
+    lefts: &[u16],
+    rights: &[u16],
+    sizes: &[u8],
+    root: Node,
+) -> Verdict
     ensures { λ v. ⌜ CheckAnswer (recorded r m (now (marks .entry)) (now (lengths .entry)) (now (words .entry))) (nodes (now (codes .entry)) (now (lefts .entry)) (now (rights .entry)) (now (sizes .entry))) (nodeOf root) (saidVerdict v) ⌝ }
 {
     let data = session::data::test(r, m, marks, lengths, words);
@@ -38,7 +49,18 @@ pub fn check(r: usize, m: usize, marks: &[u8], lengths: &[u8], words: &[u64], co
     if broken != 0 {
         return Verdict::Refused(broken);
     }
-    let first = agree::first_disagreeing(r, m, marks, lengths, words, codes, lefts, rights, sizes, root);
+    let first = agree::first_disagreeing(
+        r,
+        m,
+        marks,
+        lengths,
+        words,
+        codes,
+        lefts,
+        rights,
+        sizes,
+        root,
+    );
     if first < r {
         return Verdict::Disagrees(Session(first as u8));
     }
@@ -46,7 +68,15 @@ pub fn check(r: usize, m: usize, marks: &[u8], lengths: &[u8], words: &[u64], co
 }
 
 // The text of the root's formula, at the start of the lent room.
-pub fn print(names: &[u8], codes: &[u8], lefts: &[u16], rights: &[u16], sizes: &[u8], root: Node, room: &mut [u8]) -> Printed
+pub fn print(
+    names: &[u8],
+    codes: &[u8],
+    lefts: &[u16],
+    rights: &[u16],
+    sizes: &[u8],
+    root: Node,
+    room: &mut [u8],
+) -> Printed
     ensures { λ p. ⌜ Prints (now (names .entry)) (nodes (now (codes .entry)) (now (lefts .entry)) (now (rights .entry)) (now (sizes .entry))) (nodeOf root) (now (room .entry)) (saidPrinted p) (now (room .exit)) ⌝ }
 {
     let judged = session::names::judge(names);

@@ -35,7 +35,15 @@ fn name_length(names: &[u8], p: usize) -> usize
     names[at] as usize
 }
 
-fn leaf_length(names: &[u8], codes: &[u8], lefts: &[u16], rights: &[u16], sizes: &[u8], below: usize, node: Node) -> usize
+fn leaf_length(
+    names: &[u8],
+    codes: &[u8],
+    lefts: &[u16],
+    rights: &[u16],
+    sizes: &[u8],
+    below: usize,
+    node: Node,
+) -> usize
     requires { ⌜ Printable (now names) (nodes (now codes) (now lefts) (now rights) (now sizes)) below (nodeOf node) × (IsUnary (node .code) → ⊥) × (IsBinary (node .code) → ⊥) ⌝ }
     ensures { λ r. ⌜ Long (now (names .entry)) (nodes (now (codes .entry)) (now (lefts .entry)) (now (rights .entry)) (now (sizes .entry))) (nodeOf node) r ⌝ }
 {
@@ -50,7 +58,15 @@ fn leaf_length(names: &[u8], codes: &[u8], lefts: &[u16], rights: &[u16], sizes:
 }
 
 // How many bytes the text of a node has.
-pub(crate) fn length(names: &[u8], codes: &[u8], lefts: &[u16], rights: &[u16], sizes: &[u8], below: usize, node: Node) -> usize
+pub(crate) fn length(
+    names: &[u8],
+    codes: &[u8],
+    lefts: &[u16],
+    rights: &[u16],
+    sizes: &[u8],
+    below: usize,
+    node: Node,
+) -> usize
     requires { ⌜ Printable (now names) (nodes (now codes) (now lefts) (now rights) (now sizes)) below (nodeOf node) ⌝ }
     ensures { λ r. ⌜ Long (now (names .entry)) (nodes (now (codes .entry)) (now (lefts .entry)) (now (rights .entry)) (now (sizes .entry))) (nodeOf node) r ⌝ }
 {
@@ -120,7 +136,17 @@ fn put_name(names: &[u8], p: usize, room: &mut [u8], at: usize) -> usize
     put(room, at, &names[from..to])
 }
 
-fn put_leaf(names: &[u8], codes: &[u8], lefts: &[u16], rights: &[u16], sizes: &[u8], below: usize, node: Node, room: &mut [u8], at: usize) -> usize
+fn put_leaf(
+    names: &[u8],
+    codes: &[u8],
+    lefts: &[u16],
+    rights: &[u16],
+    sizes: &[u8],
+    below: usize,
+    node: Node,
+    room: &mut [u8],
+    at: usize,
+) -> usize
     requires { ⌜ Printable (now names) (nodes (now codes) (now lefts) (now rights) (now sizes)) below (nodeOf node) × (IsUnary (node .code) → ⊥) × (IsBinary (node .code) → ⊥)
         × Fitting (now names) (nodes (now codes) (now lefts) (now rights) (now sizes)) (nodeOf node) (now room) at ⌝ }
     ensures { λ r. ⌜ Written (now (names .entry)) (nodes (now (codes .entry)) (now (lefts .entry)) (now (rights .entry)) (now (sizes .entry))) (nodeOf node) (now (room .entry)) at (now (room .exit)) r ⌝ }
@@ -136,7 +162,17 @@ fn put_leaf(names: &[u8], codes: &[u8], lefts: &[u16], rights: &[u16], sizes: &[
 }
 
 // The text of a node goes into the room from a place on.
-pub(crate) fn write(names: &[u8], codes: &[u8], lefts: &[u16], rights: &[u16], sizes: &[u8], below: usize, node: Node, room: &mut [u8], at: usize) -> usize
+pub(crate) fn write(
+    names: &[u8],
+    codes: &[u8],
+    lefts: &[u16],
+    rights: &[u16],
+    sizes: &[u8],
+    below: usize,
+    node: Node,
+    room: &mut [u8],
+    at: usize,
+) -> usize
     requires { ⌜ Printable (now names) (nodes (now codes) (now lefts) (now rights) (now sizes)) below (nodeOf node)
         × Fitting (now names) (nodes (now codes) (now lefts) (now rights) (now sizes)) (nodeOf node) (now room) at ⌝ }
     ensures { λ r. ⌜ Written (now (names .entry)) (nodes (now (codes .entry)) (now (lefts .entry)) (now (rights .entry)) (now (sizes .entry))) (nodeOf node) (now (room .entry)) at (now (room .exit)) r ⌝ }

@@ -1,61 +1,65 @@
+-- `print` meets its contract: the names, the list, the text's length against the room, and then the text.
+-- Assumes nothing.
+use mathlib.Core.Path.{_≡_, sym, _∙_}
+use native.Mathlib.Omega.{arith}
+use Rattle.formula.specs.Kinds.{nodeOf, nodes}
+use Rattle.formula.proofs.Listed.{length-nodes}
+use Rattle.formula.proofs.Answers.{names-good, names-broken, prints-broken, few-enough, prints-nine, printable, prints-three, room-enough, prints-text}
 use borrow.Author.Needs.{needs}
 use Rattle.formula.proofs.print.Statement.{statement}
 use Rattle.formula.proofs.print.Tie as tie
-use Rattle.formula.proofs.print.Reads as reads
-use Rattle.formula.proofs.print.Lts as lts
-use Rattle.formula.proofs.nodes.count.Reads as count-reads
-use Rattle.formula.proofs.nodes.refusal.Reads as refusal-reads
-use Rattle.formula.proofs.text.length.Reads as length-reads
-use Rattle.formula.proofs.text.write.Reads as write-reads
-use Rattle.session.proofs.names.judge.Reads as judge-reads
 
--- src/lib.rt:52:9
 judge-requires : tie.Need-judge-requires
 judge-requires c κs = search needs
 
--- src/lib.rt:54:28
 enum-known-judged : tie.Need-enum-known-judged
 enum-known-judged c = search needs
 
--- src/lib.rt:55:17
 refusal-requires : tie.Need-refusal-requires
-refusal-requires c κs = ?
+refusal-requires c κs = let a = c .before .before .before .before .before .before .before .before .before .before .args in
+    let n = names-good (a .names .now) (c .before .before .before .judge .result) (c .before .before .before .judge .ensures) (c .before .judged .given .1) in
+    few-enough (a .names .now) (n .0) (nodes (a .codes .now) (a .lefts .now) (a .rights .now) (a .sizes .now)) (nodeOf (a .root)) (a .room .now) (n .1)
 
--- src/lib.rt:57:17
 returns : tie.Need-returns
-returns c = ?
+returns c = let a = c .before .before .before .before .before .before .before .before .before .before .before .before .args in
+    let n = names-good (a .names .now) (c .before .before .before .before .before .judge .result) (c .before .before .before .before .before .judge .ensures) (c .before .before .before .judged .given .1) in
+    prints-nine (a .names .now) (n .0) (nodes (a .codes .now) (a .lefts .now) (a .rights .now) (a .sizes .now)) (nodeOf (a .root)) (a .room .now) (n .1) (c .before .refusal .result) (c .before .refusal .ensures) (c .if1 .taken)
 
--- src/lib.rt:59:17
 count-requires : tie.Need-count-requires
 count-requires c κs = search needs
 
--- src/lib.rt:60:17
 length-requires : tie.Need-length-requires
-length-requires c κs = ?
+length-requires c κs = let a = c .before .before .before .before .before .before .before .before .before .before .before .before .before .args in
+    let n = names-good (a .names .now) (c .before .before .before .before .before .before .judge .result) (c .before .before .before .before .before .before .judge .ensures) (c .before .before .before .before .judged .given .1) in
+    printable (a .names .now) (n .0) (nodes (a .codes .now) (a .lefts .now) (a .rights .now) (a .sizes .now)) (nodeOf (a .root)) (a .room .now) (n .1) (c .before .before .refusal .result) (c .before .before .refusal .ensures) (c .before .if1 .left) (c .count .ensures ∙ sym (length-nodes (a .codes .now) (a .lefts .now) (a .rights .now) (a .sizes .now)))
 
--- src/lib.rt:62:17
 returns-2 : tie.Need-returns-2
-returns-2 c = ?
+returns-2 c = let a = c .before .before .before .before .before .before .before .before .before .before .before .before .before .before .before .args in
+    let n = names-good (a .names .now) (c .before .before .before .before .before .before .before .before .judge .result) (c .before .before .before .before .before .before .before .before .judge .ensures) (c .before .before .before .before .before .before .judged .given .1) in
+    let p = printable (a .names .now) (n .0) (nodes (a .codes .now) (a .lefts .now) (a .rights .now) (a .sizes .now)) (nodeOf (a .root)) (a .room .now) (n .1) (c .before .before .before .before .refusal .result) (c .before .before .before .before .refusal .ensures) (c .before .before .before .if1 .left) (c .before .before .count .ensures ∙ sym (length-nodes (a .codes .now) (a .lefts .now) (a .rights .now) (a .sizes .now))) in
+    prints-three (a .names .now) (n .0) (nodes (a .codes .now) (a .lefts .now) (a .rights .now) (a .sizes .now)) (nodeOf (a .root)) (a .room .now) (n .1) (c .before .before .before .before .refusal .result) (c .before .before .before .before .refusal .ensures) (c .before .before .before .if1 .left) p (c .before .length .ensures) (c .if2 .taken)
 
--- src/lib.rt:64:13
 write-requires : tie.Need-write-requires
-write-requires c κs = ?
+write-requires c κs = let a = c .before .before .before .before .before .before .before .before .before .before .before .before .before .before .before .before .args in
+    let n = names-good (a .names .now) (c .before .before .before .before .before .before .before .before .before .judge .result) (c .before .before .before .before .before .before .before .before .before .judge .ensures) (c .before .before .before .before .before .before .before .judged .given .1) in
+    let p = printable (a .names .now) (n .0) (nodes (a .codes .now) (a .lefts .now) (a .rights .now) (a .sizes .now)) (nodeOf (a .root)) (a .room .now) (n .1) (c .before .before .before .before .before .refusal .result) (c .before .before .before .before .before .refusal .ensures) (c .before .before .before .before .if1 .left) (c .before .before .before .count .ensures ∙ sym (length-nodes (a .codes .now) (a .lefts .now) (a .rights .now) (a .sizes .now))) in
+    (p, room-enough (a .names .now) (n .0) (nodes (a .codes .now) (a .lefts .now) (a .rights .now) (a .sizes .now)) (nodeOf (a .root)) (a .room .now) (n .1) (c .before .before .before .before .before .refusal .result) (c .before .before .before .before .before .refusal .ensures) (c .before .before .before .before .if1 .left) p (c .before .before .length .ensures) (c .before .if2 .left))
 
--- src/lib.rt:67:29
 enum-known-judged-2 : tie.Need-enum-known-judged-2
 enum-known-judged-2 c = search needs
 
--- src/lib.rt:49:1
 same-length : tie.Need-same-length
 same-length c = search needs
 
--- src/lib.rt:49:1
 returns-3 : tie.Need-returns-3
-returns-3 c = ?
+returns-3 c = let a = c .before .before .before .before .before .before .before .before .before .before .before .before .before .before .before .before .before .before .before .args in
+    let n = names-good (a .names .now) (c .before .before .before .before .before .before .before .before .before .before .before .before .judge .result) (c .before .before .before .before .before .before .before .before .before .before .before .before .judge .ensures) (c .before .before .before .before .before .before .before .before .before .before .judged .given .1) in
+    let p = printable (a .names .now) (n .0) (nodes (a .codes .now) (a .lefts .now) (a .rights .now) (a .sizes .now)) (nodeOf (a .root)) (a .room .now) (n .1) (c .before .before .before .before .before .before .before .before .refusal .result) (c .before .before .before .before .before .before .before .before .refusal .ensures) (c .before .before .before .before .before .before .before .if1 .left) (c .before .before .before .before .before .before .count .ensures ∙ sym (length-nodes (a .codes .now) (a .lefts .now) (a .rights .now) (a .sizes .now))) in
+    prints-text (a .names .now) (n .0) (nodes (a .codes .now) (a .lefts .now) (a .rights .now) (a .sizes .now)) (nodeOf (a .root)) (a .room .now) (n .1) (c .before .before .before .before .before .before .before .before .refusal .result) (c .before .before .before .before .before .before .before .before .refusal .ensures) (c .before .before .before .before .before .before .before .if1 .left) p (c .before .before .before .before .before .length .ensures) (c .before .before .before .before .if2 .left) (c .before .before .write .ensures)
 
--- src/lib.rt:49:1
 returns-4 : tie.Need-returns-4
-returns-4 c = ?
+returns-4 c = let a = c .before .before .before .before .before .before .before .before .before .before .args in
+    prints-broken (a .names .now) (nodes (a .codes .now) (a .lefts .now) (a .rights .now) (a .sizes .now)) (nodeOf (a .root)) (a .room .now) (names-broken (a .names .now) (c .before .before .before .judge .result) (c .before .before .before .judge .ensures) (c .before .judged2 .given .1))
 
 pub print-spec : {M : Type 1} → statement M
 print-spec =

@@ -54,8 +54,7 @@ loop-less c = omega arith
 
 loop-again : tie.Need-loop-again Inv-loop μ-loop
 loop-again c = let a = c .before .before .before .before .before .before .before .before .before .before .before .before .before .before .before .args in
-    let l = c .before .before .before .before .before .before in
-    (
+    let l = c .before .before .before .before .before .before in (
       omega arith,
       next-from (l .loop .j) (a .m) (l .loop .inv .1),
       one-more (recorded (a .r) (a .m) (a .marks .now) (a .lengths .now) (a .words .now)) (nodes (a .codes .now) (a .lefts .now) (a .rights .now) (a .sizes .now)) (nodeOf (a .root)) (l .loop .j) (l .loop .inv .2) (λ t s. agrees-word (recorded (a .r) (a .m) (a .marks .now) (a .lengths .now) (a .words .now)) (nodes (a .codes .now) (a .lefts .now) (a .rights .now) (a .sizes .now)) (nodeOf (a .root)) (l .loop .j) (l .loop .from) (c .before .before .before .eval .result) (c .before .agrees .result) (l .loop .inv .1) (c .before .before .before .eval .ensures) (c .before .agrees .ensures) t s .0 (c .if1 .taken)),

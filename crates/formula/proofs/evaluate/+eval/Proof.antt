@@ -382,12 +382,11 @@ eval-leaf-word-requires : (t : ℕ) → eval-lts.Need-leaf-word-requires (
   leaf-word-reads.Asked,
   leaf-word-reads.Learnt,
 ) (eval-at t) eval.Post
-eval-leaf-word-requires t c κs = let f = c .before .before .operator-of in
-    (
-      c .before .before .before .before .before .before .before .before .pre .1,
-      λ u. off-unary _ (f .result) (f .ensures) (λ g. let z : _≡_ {A = ℕ} 0 1 = cc (c .enum-told3 .given .1) in omega arith) (u .0) (u .1),
-      λ u. off-binary _ (f .result) (f .ensures) (λ g. let z : _≡_ {A = ℕ} 0 1 = cc (c .enum-told3 .given .1) in omega arith) (u .0) (u .1),
-    )
+eval-leaf-word-requires t c κs = let f = c .before .before .operator-of in (
+  c .before .before .before .before .before .before .before .before .pre .1,
+  λ u. off-unary _ (f .result) (f .ensures) (λ g. let z : _≡_ {A = ℕ} 0 1 = cc (c .enum-told3 .given .1) in omega arith) (u .0) (u .1),
+  λ u. off-binary _ (f .result) (f .ensures) (λ g. let z : _≡_ {A = ℕ} 0 1 = cc (c .enum-told3 .given .1) in omega arith) (u .0) (u .1),
+)
 
 eval-returns : (t : ℕ) → eval-lts.Need-returns (
   operator-of-reads.Asked,

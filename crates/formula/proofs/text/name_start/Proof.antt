@@ -40,8 +40,7 @@ loop-again : tie.Need-loop-again Inv-loop μ-loop
 loop-again c = let s = c .before .before .before in
     let l = c .before .before .loop in
     let file = s .args .names .now in
-    let h = s .pre .1 in
-    (
+    let h = s .pre .1 in (
       omega arith,
       omega (arith, ap (λ (x : ℕ). getD file x 0) (l .inv .1) ∙ name-byte file (s .pre .0) (l .i) (omega arith), start-next file (s .pre .0) (l .i) (omega arith), l .inv .1),
     )

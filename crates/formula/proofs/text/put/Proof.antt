@@ -36,8 +36,7 @@ loop-less c = omega arith
 
 loop-again : tie.Need-loop-again Inv-loop μ-loop
 loop-again c = let a = c .before .before .before .args in
-    let l = c .before .before .loop in
-    (
+    let l = c .before .before .loop in (
       omega arith,
       ap (λ (r : List ℕ). set r (a .at + l .i) (getD (a .bytes .now) (l .i) 0)) (l .inv .1) ∙ first-bytes (a .room .now) (a .at) (a .bytes .now) (l .i) (omega arith),
     )
