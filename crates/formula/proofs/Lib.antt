@@ -9,3 +9,4 @@ pub mod Writing
 pub mod Texts
 pub mod Printing
 pub mod Answers
+pub mod Unique
