@@ -13,12 +13,13 @@ mod program;
 mod query;
 mod refusals;
 mod sample;
+mod settled;
 mod words;
 
 const USAGE: &str = "differential: one of
   compare [RANDOM_WORDS]   the Rust's answers against our program's (default: 1000 random words a length)
   compare --short          the same with fewer edge pairs and 10 random words a length
-  sample                   writes crates/replay/stdin and crates/replay/stdout anew
+  sample                   writes the stored answers anew: crates/replay/stdin and stdout, crates/settled/stdout
   findings                 what the Rust does outside document 01's domain";
 
 fn main() {

@@ -1,8 +1,9 @@
-//! The stored sample: queries with the Rust's answers, so that the gate replays them with no Rust at hand.
+//! The stored answers of the Rust, so that the gate replays them with no Rust at hand: a sample of queries, and what `settled` prints.
 use crate::oracle;
 use crate::program::root;
 use crate::query::{ones, Answer, Query, Seq, BINARY, UNARY};
 use crate::refusals;
+use crate::settled;
 use crate::words::Random;
 use std::fs;
 
@@ -42,9 +43,9 @@ fn queries() -> Vec<Query> {
     queries
 }
 
-/// The sample's two files, and how many of their lines are the Rust's and how many are document 01's refusals.
+/// The stored files, and how many lines of the sample are the Rust's and how many are document 01's refusals.
 struct Sample {
-    files: [(&'static str, String); 2],
+    files: [(&'static str, String); 3],
     from_rust: usize,
     from_01: usize,
 }
@@ -64,7 +65,11 @@ fn sample() -> Sample {
         stdout += &Answer::Refused(*number).line();
     }
     Sample {
-        files: [("crates/replay/stdin", stdin), ("crates/replay/stdout", stdout)],
+        files: [
+            ("crates/replay/stdin", stdin),
+            ("crates/replay/stdout", stdout),
+            ("crates/settled/stdout", settled::lines()),
+        ],
         from_rust: queries.len(),
         from_01: refusals.len(),
     }
@@ -75,7 +80,7 @@ pub fn is_current() -> Result<(), String> {
     for (name, text) in sample().files {
         match fs::read(root().join(name)) {
             Ok(bytes) if bytes == text.as_bytes() => {}
-            Ok(_) => return Err(format!("{name} is not the sample of the Rust's answers")),
+            Ok(_) => return Err(format!("{name} is not what the Rust answers")),
             Err(error) => return Err(format!("{name}: {error}")),
         }
     }

@@ -1,5 +1,5 @@
 // Runs P1 to P10 of document 01 and every operator on every word of up to 4 snapshots, and prints what came out.
-// The stored output has 01's words and the Rust's (README.md, "Against the Rust").
+// The stored output is written from the Rust (differential/README.md).
 use libc::STDOUT_FILENO;
 use sequence::Answer;
 use sequence::CharSeq;

@@ -4,17 +4,17 @@
 use mathlib.Core.Path.{_≡_, refl, sym, ap, ap₂, _∙_, subst}
 use mathlib.Core.Logic.{_⊎_, inl, inr, ⊎-elim}
 use mathlib.Core.Bool.{Bool, true, false}
-use mathlib.Core.List.{List, [], _∷_, _++_, map, List·Memᴰ·head, List·Memᴰ·tail, List·Memᴰ·not-nil, List·Memᴰ·cases-cons, Memᴰ·append-left, Memᴰ·append-right, List·Memᴰ·append-cases, Memᴰ·map, Memᴰ·of-map}
-use Prim.Native.Nat.{ℕ, zero, suc, _+_, _-_, _≤_, _<_, _/_}
+use mathlib.Core.List.{List, map, List·Memᴰ·head, List·Memᴰ·tail, List·Memᴰ·not-nil, List·Memᴰ·cases-cons, Memᴰ·append-left, Memᴰ·append-right, List·Memᴰ·append-cases, Memᴰ·map, Memᴰ·of-map}
+use Prim.Native.Nat.{ℕ, zero, suc, _+_, _-_, _≤_, _<_}
 use native.Mathlib.Omega.{arith}
 use native.Mathlib.Nat.{eq-or-lt-of-le}
 use native.Mathlib.Decide.{decLe}
 use lib.ListN.{length, length-map}
 use Rattle.walk.specs.Formula.{Tree, leaf, unary, binary, size, _∈_}
 use Rattle.walk.specs.Nodes.{Node, nodeAt, Spells}
-use Rattle.walk.specs.Walk.{Offer, Candidate, Placed, each, ofSize, leftSizes, seed, unaryOn, binaryOn, orders, unaryCandidates, pairs, layer}
+use Rattle.walk.specs.Walk.{Offer, Candidate, Placed, each, ofSize, leftSizes, seed, unaryOn, binaryOn, orders, unaryCandidates, pairs, layer, matrix}
 use Rattle.walk.proofs.Members.{in-each, from-each, left-sizes, left-below, in-ofSize, from-ofSize, Stood}
-use Rattle.walk.proofs.Trees.{size-pos, matrix, From, Lawful, Is, is-size, Sound}
+use Rattle.walk.proofs.Trees.{size-pos, From, Lawful, Is, is-size, Sound}
 
 le-or-le : (m n : ℕ) → (m ≤ n) ⊎ (n ≤ m)
 le-or-le m n = elim (decLe m n) [ yes h ↦ inl h | no h ↦ inr (omega arith) ]
@@ -59,7 +59,7 @@ module _ {L U B Mat : Type 0} (O : Offer L U B Mat) where
   is-unary k op f t o p i =
       let z = operand k f t p i in
       record {
-        spelled = (refl, refl, ap (λ (n : ℕ). 1 + n) (is-size O i), z .0, z .1);
+        spelled = (refl, refl, omega (arith, is-size O i), z .0, z .1);
         from = (o, i .from);
         rows = ap (O .unaryMatrix op) (i .rows);
       }
@@ -70,7 +70,7 @@ module _ {L U B Mat : Type 0} (O : Offer L U B Mat) where
       let y = operand k f t p i in
       let z = operand k g u q j in
       record {
-        spelled = (refl, ap₂ (λ (m n : ℕ). 1 + m + n) (is-size O i) (is-size O j), y .0, y .1, z .0, z .1);
+        spelled = (refl, omega (arith, is-size O i, is-size O j), y .0, y .1, z .0, z .1);
         from = (o, i .from, j .from);
         rows = ap₂ (O .binaryMatrix op) (i .rows) (j .rows);
       }
@@ -78,7 +78,7 @@ module _ {L U B Mat : Type 0} (O : Offer L U B Mat) where
   fits-unary : (m : ℕ) (k : List (Candidate Mat)) (c : Candidate Mat) → c ∈ unaryCandidates O m k → Fits (suc m) k c
   unfolding unaryCandidates
   fits-unary m k c h =
-      let w = from-each (λ f. map (λ op. unaryOn O op f) (O .unaries)) (ofSize m 0 k) h in
+      let w = from-each (λ f. map (λ op. unaryOn O op f) (O .unaries)) _ h in
       let v = Memᴰ·of-map (λ op. unaryOn O op (w .0)) (O .unaries) (w .2) in
       let z = from-ofSize m k (w .1) in
       subst (Fits (suc m) k) (v .2) (
@@ -104,7 +104,8 @@ module _ {L U B Mat : Type 0} (O : Offer L U B Mat) where
       let (op, ho, h₃) = from-each (λ op. orders O (O .commutes op) op l q) (O .binaries) h₂ in
       let (pl, sl) = from-ofSize i k hl in
       let (pq, sq) = from-ofSize (m - i) k hq in
-      ⊎-elim (fits-pair m k op l q ho pl pq (omega arith) c) (fits-pair m k op q l ho pq pl (omega arith) c)
+      ⊎-elim {A = c ≡ binaryOn O op l q} {B = c ≡ binaryOn O op q l}
+      (fits-pair m k op l q ho pl pq (omega arith) c) (fits-pair m k op q l ho pq pl (omega arith) c)
       (from-orders (O .commutes op) op l q h₃)
 
   pub layer-fits : (s : ℕ) (k : List (Candidate Mat)) (c : Candidate Mat) → c ∈ layer O s k → Fits s k c
@@ -189,7 +190,7 @@ module _ {L U B Mat : Type 0} (O : Offer L U B Mat) where
           ap₂ (λ (x y : Candidate Mat). O .binaryMatrix op (x .matrix) (y .matrix)) el eq,
         ))
         (λ ge. let (l, q, el, eq, w) = in-layer m k op b a hb ha pb ge (omega arith) ho in
-        ⊎-elim
+        ⊎-elim {A = O .commutes op ≡ true} {B = binaryOn O op q l ∈ orders O (O .commutes op) op l q}
         (λ y. (
           binaryOn O op l q,
           w (binaryOn O op l q) (orders-first (O .commutes op) op l q),

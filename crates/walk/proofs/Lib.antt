@@ -1,5 +1,7 @@
 -- The laws of the walk, by subject, up to what is promised.
 pub mod Members
+pub mod Nodes
+pub mod Places
 pub mod Trees
 pub mod Layers
 pub mod Pass
@@ -8,4 +10,6 @@ pub mod Rows
 pub mod Reading
 pub mod Promises
 pub mod Steady
+pub mod Position
+pub mod Resume
 pub mod Examples

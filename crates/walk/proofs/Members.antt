@@ -3,8 +3,8 @@
 use mathlib.Core.Path.{_≡_, refl, sym, ap, _∙_, subst}
 use mathlib.Core.Logic.{_⊎_, inl, inr, ⊎-elim}
 use mathlib.Core.Bool.{Bool, true, false}
-use mathlib.Core.List.{List, [], _∷_, _++_, map, List·Memᴰ, List·Memᴰ·head, List·Memᴰ·tail, List·Memᴰ·not-nil, List·Memᴰ·cases-cons, Memᴰ·append-left, Memᴰ·append-right, List·Memᴰ·append-cases}
-use Prim.Native.Nat.{ℕ, zero, suc, _+_, _-_, _≤_, _<_, _/_}
+use mathlib.Core.List.{List, [], _∷_, map, List·Memᴰ·head, List·Memᴰ·tail, List·Memᴰ·not-nil, List·Memᴰ·cases-cons, Memᴰ·append-left, Memᴰ·append-right, List·Memᴰ·append-cases}
+use Prim.Native.Nat.{ℕ, zero, suc, _+_, _-_, _≤_, _<_}
 use native.Mathlib.Omega.{arith}
 use native.Mathlib.Nat.{eq-or-lt-of-le}
 use lib.ListN.{length}
@@ -48,13 +48,13 @@ from-count a (suc n) i m = go (List·Memᴰ·cases-cons m) (λ h. from-count (su
 pub left-sizes : LeftSizes
 unfolding leftSizes
 left-sizes s i j e = (
-  λ m. let w = from-count 1 ((s + 1) / 2 - 1) i m in (omega arith, omega arith),
-  λ h. in-count 1 ((s + 1) / 2 - 1) i (omega arith) (omega arith),
+  λ m. let w = from-count 1 _ i m in (omega arith, omega arith),
+  λ h. in-count 1 _ i (omega arith) (omega arith),
 )
 
 pub left-below : (m i : ℕ) → i ∈ leftSizes (suc (suc m)) → i ≤ suc m
 unfolding leftSizes
-left-below m i h = let w = from-count 1 ((suc (suc m) + 1) / 2 - 1) i h in omega arith
+left-below m i h = let w = from-count 1 _ i h in omega arith
 
 -- ---- those of a size, with their places
 
@@ -82,20 +82,20 @@ module _ {Mat : Type 0} where
       let w = in-ofSize s (suc p) m h in
       (w .0, in-keepIf (eqb (x .node .size) s) (record { place = p; kept = x }) (w .1), w .2)
 
-  abbrev Found : ℕ → ℕ → List (Candidate Mat) → Placed Mat → Type 0
-  Found s p k f =
+  abbrev Sits : ℕ → ℕ → List (Candidate Mat) → Placed Mat → Type 0
+  Sits s p k f =
       (q : ℕ) × (f .place ≡ p + q) × (q < length k) × (nodeAt (map (λ c. c .node) k) q ≡ f .kept .node) × (f .kept ∈ k) × (f .kept .node .size ≡ s)
 
-  found : (s p : ℕ) {f : Placed Mat} (k : List (Candidate Mat)) → f ∈ ofSize s p k → Found s p k f
+  sits : (s p : ℕ) {f : Placed Mat} (k : List (Candidate Mat)) → f ∈ ofSize s p k → Sits s p k f
   unfolding ofSize
-  found s p [] m = absurd (List·Memᴰ·not-nil m)
-  found s p {f} (x ∷ xs) m = go (eqb (x .node .size) s) refl m (λ h. found s (suc p) xs h)
+  sits s p [] m = absurd (List·Memᴰ·not-nil m)
+  sits s p {f} (x ∷ xs) m = go (eqb (x .node .size) s) refl m (λ h. sits s (suc p) xs h)
     where
-      later : Found s (suc p) xs f → Found s p (x ∷ xs) f
+      later : Sits s (suc p) xs f → Sits s p (x ∷ xs) f
       later w = (suc (w .0), omega arith, omega arith, w .3, List·Memᴰ·tail (w .4), w .5)
 
       go : (b : Bool) → eqb (x .node .size) s ≡ b → f ∈ keepIf b (record { place = p; kept = x }) (ofSize s (suc p) xs)
-          → (f ∈ ofSize s (suc p) xs → Found s (suc p) xs f) → Found s p (x ∷ xs) f
+          → (f ∈ ofSize s (suc p) xs → Sits s (suc p) xs f) → Sits s p (x ∷ xs) f
       go true w h r =
           ⊎-elim
           (λ e. (
@@ -111,6 +111,6 @@ module _ {Mat : Type 0} where
 
   pub from-ofSize : (s : ℕ) {f : Placed Mat} (k : List (Candidate Mat)) → f ∈ ofSize s 0 k → Stood k f × (f .kept .node .size ≡ s)
   from-ofSize s {f} k m =
-      let w = found s 0 k m in
+      let w = sits s 0 k m in
       let e : f .place ≡ w .0 = omega arith in
       (record { there = omega arith; same = ap (nodeAt (map (λ c. c .node) k)) e ∙ w .3; member = w .4 }, w .5)

@@ -5,7 +5,7 @@ use mathlib.Core.Path.{_≡_, refl, sym, ap, _∙_, subst}
 use mathlib.Core.Logic.{_⊎_, inl, inr, ⊎-elim}
 use mathlib.Core.Bool.{Bool, true, false, _||_, true≢false}
 use mathlib.Core.List.{List, [], _∷_, _++_, foldl, append-nil, append-assoc, List·Memᴰ·head, List·Memᴰ·tail, List·Memᴰ·not-nil, List·Memᴰ·cases-cons, Memᴰ·append-left, Memᴰ·append-right, List·Memᴰ·append-cases, List·Memᴰ·eq-of-singleton}
-use Prim.Native.Nat.{ℕ, zero, suc, _+_, _≤_, _<_}
+use Prim.Native.Nat.{ℕ, suc, _+_, _≤_}
 use native.Mathlib.Omega.{arith}
 use lib.ListN.{length, length-append}
 use lib.Dec.{leb}
@@ -177,7 +177,7 @@ module _ {L U B Mat : Type 0} (O : Offer L U B Mat) where
       unfolding consider
       pass [] k n = (grows-same k [], λ c m. absurd (List·Memᴰ·not-nil m))
       pass (c ∷ cs) k n =
-          pass-step c cs k (suc n) (λ k₁ m. pass cs k₁ m) (O .agrees (c .matrix)) refl (known O (c .matrix) k) refl (leb C (length k)) refl
+          pass-step c cs k (suc n) (λ k₁ m. pass cs k₁ m) _ refl _ refl _ refl
 
     -- ---- what each candidate preserves: there is room for those kept, and no two have one matrix
 

@@ -1,19 +1,19 @@
 -- The promises: the theorem over matrices (Smallest) read by the step from words to the reading (Reading).
 -- Assumes nothing.
 use mathlib.Core.Path.{_≡_, refl, sym, ap, _∙_, subst}
-use mathlib.Core.Logic.{_↔_, _⊎_, inl, inr, ⊎-elim}
-use mathlib.Core.Bool.{Bool, true, false, true≢false}
-use mathlib.Core.List.{List, [], _∷_, _++_, map, List·Memᴰ·head, List·Memᴰ·tail, List·Memᴰ·not-nil, List·Memᴰ·cases-cons, List·Memᴰ·append-cases}
-use Prim.Native.Nat.{ℕ, zero, suc, _+_, _≤_, _<_}
+use mathlib.Core.Logic.{_⊎_, ⊎-elim}
+use mathlib.Core.Bool.{true≢false}
+use mathlib.Core.List.{List, [], _∷_, _++_, List·Memᴰ·head, List·Memᴰ·tail, List·Memᴰ·not-nil, List·Memᴰ·cases-cons}
+use Prim.Native.Nat.{ℕ, suc, _+_, _≤_}
 use native.Mathlib.Omega.{arith}
 use lib.ListN.{length}
 use Rattle.words.specs.Word.{Means}
 use Rattle.walk.specs.Formula.{Formula, size, Holds, Separates, Offered, _∈_}
-use Rattle.walk.specs.Nodes.{Node, Spells, codes}
+use Rattle.walk.specs.Nodes.{Node, codes}
 use Rattle.walk.specs.Walk.{Candidate, Ending, found, full, none, State, going, ended, finish, after, walk}
 use Rattle.walk.specs.Input.{Input, Passes, session, sessions, language, lengthOf, row, separating, offer, search}
 use Rattle.walk.specs.Promises.{Table, nodes, NoneBelow, Alike, Apart, Found, Full, Keeps, KeepsAll, Kept, FoundSmallest, NoneMeansNone, FullNeedsRoom, KeptDistinct, WalkEnds}
-use Rattle.walk.proofs.Trees.{matrix, From, Is, is-size, spells-size}
+use Rattle.walk.proofs.Trees.{Is, is-size, spells-size, Ordered}
 use Rattle.walk.proofs.Pass.{Rejected, Distinct, Tidy}
 use Rattle.walk.proofs.Smallest.{Needs, Ours, Smallest, Spills, EndsWell, Says, walk-says}
 use Rattle.walk.proofs.Reading.{lawful, from-offered, offered-from, row-means, agrees-separates, alike-matrix}
@@ -46,83 +46,80 @@ module _ (i : Input) (ok : Passes i) where
 
   -- ---- the formulas of a kept list
 
-  -- formulas for the candidates cs, one by one, over the list k
-  pub record Spelled (k cs : Table) : Type 0 where
+  -- the formulas of the candidates cs, one by one, where x stands before them
+  pub record Spelled (x cs : Table) : Type 0 where
     pub formulas : List Formula
     pub as-many : length formulas ≡ length cs
-    pub keeps : KeepsAll i k cs formulas
-    pub each-one : (t : Formula) → t ∈ formulas → (c : Candidate (List ℕ)) × (c ∈ cs) × Is (offer i) k c t
+    pub keeps : KeepsAll i x cs formulas
+    pub each-one : (t : Formula) → t ∈ formulas → (c : Candidate (List ℕ)) × (c ∈ cs) × ((y : Table) × Is (offer i) y c t)
 
-  keeps-one : (k : Table) (c : Candidate (List ℕ)) (t : Formula) → Is (offer i) k c t → Rejected (offer i) c → Keeps i k c t
-  keeps-one k c t w r =
+  keeps-one : (x : Table) (c : Candidate (List ℕ)) (t : Formula) → Is (offer i) x c t → Rejected (offer i) c → Keeps i x c t
+  keeps-one x c t w r =
       let o = offered-from i ok t (w .from) in
       record {
         spelled = w .spelled;
         offered = o;
-        means = λ j l. subst (λ (x : List ℕ). Means (lengthOf i j) (row x j) (Holds (session i j .trace) t)) (sym (w .rows)) (row-means i ok t o j l);
-        failed = failed k c t w r;
+        means = λ j l. subst (λ (m : List ℕ). Means (lengthOf i j) (row m j) (Holds (session i j .trace) t)) (sym (w .rows)) (row-means i ok t o j l);
+        failed = failed x c t w r;
       }
 
-  spelled : (k cs : Table) → ((c : Candidate (List ℕ)) → c ∈ cs → ((t : Formula) × Is (offer i) k c t) × Rejected (offer i) c) → Spelled k cs
-  spelled k [] o = record { formulas = []; as-many = refl; keeps = tt; each-one = λ t m. absurd (List·Memᴰ·not-nil m) }
-  spelled k (c ∷ cs) o =
-      let (w, r) = o c (List·Memᴰ·head refl) in
-      let rest = spelled k cs (λ d m. o d (List·Memᴰ·tail m)) in
+  spelled : (x cs : Table) → Ordered (offer i) x cs → ((c : Candidate (List ℕ)) → c ∈ cs → Rejected (offer i) c) → Spelled x cs
+  spelled x [] o f = record { formulas = []; as-many = refl; keeps = tt; each-one = λ t m. absurd (List·Memᴰ·not-nil m) }
+  spelled x (c ∷ cs) (w, o) f =
+      let rest = spelled (x ++ (c ∷ [])) cs o (λ d m. f d (List·Memᴰ·tail m)) in
       record {
         formulas = w .0 ∷ rest .formulas;
         as-many = ap suc (rest .as-many);
-        keeps = (keeps-one k c (w .0) (w .1) r, rest .keeps);
+        keeps = (keeps-one x c (w .0) (w .1) (f c (List·Memᴰ·head refl)), rest .keeps);
         each-one = λ t m. ⊎-elim
-            (λ e. (c, List·Memᴰ·head refl, subst (Is (offer i) k c) (sym e) (w .1)))
+            (λ e. (c, List·Memᴰ·head refl, (x, subst (Is (offer i) x c) (sym e) (w .1))))
             (λ h. let (d, hd, z) = rest .each-one t h in (d, List·Memᴰ·tail hd, z)) (List·Memᴰ·cases-cons m);
       }
 
   -- two candidates with different matrices are not alike
-  unlike : (k : Table) (c d : Candidate (List ℕ)) (t u : Formula) → Is (offer i) k c t → Is (offer i) k d u → (d .matrix ≡ c .matrix → ⊥) → Alike i t u → ⊥
-  unlike k c d t u w v h a =
+  unlike : (x y : Table) (c d : Candidate (List ℕ)) (t u : Formula) → Is (offer i) x c t → Is (offer i) y d u → (d .matrix ≡ c .matrix → ⊥) → Alike i t u → ⊥
+  unlike x y c d t u w v h a =
       h (v .rows ∙ sym (alike-matrix i ok t u (offered-from i ok t (w .from)) (offered-from i ok u (v .from)) a) ∙ sym (w .rows))
 
-  apart : (k cs : Table) (o : (c : Candidate (List ℕ)) → c ∈ cs → ((t : Formula) × Is (offer i) k c t) × Rejected (offer i) c)
-      → Distinct (offer i) cs → Apart i (spelled k cs o .formulas)
+  apart : (x cs : Table) (o : Ordered (offer i) x cs) (f : (c : Candidate (List ℕ)) → c ∈ cs → Rejected (offer i) c)
+      → Distinct (offer i) cs → Apart i (spelled x cs o f .formulas)
   unfolding spelled
-  apart k [] o d = tt
-  apart k (c ∷ cs) o d =
-      let rest = spelled k cs (λ e m. o e (List·Memᴰ·tail m)) in (
-        λ u m. let (e, he, z) = rest .each-one u m in
-            let w = o c (List·Memᴰ·head refl) .0 in
-            unlike k c e (w .0) u (w .1) z (d .0 e he),
-        apart k cs (λ e m. o e (List·Memᴰ·tail m)) (d .1),
+  apart x [] o f d = tt
+  apart x (c ∷ cs) (w, o) f d =
+      let rest = spelled (x ++ (c ∷ [])) cs o (λ e m. f e (List·Memᴰ·tail m)) in (
+        λ u m. let (e, he, z) = rest .each-one u m in unlike x (z .0) c e (w .0) u (w .1) (z .1) (d .0 e he),
+        apart (x ++ (c ∷ [])) cs o (λ e m. f e (List·Memᴰ·tail m)) (d .1),
       )
 
   kept-list : (k : Table) → Tidy (offer i) (i .room) k → Ours (offer i) k → Kept i k
-  kept-list k d o = record {
+  kept-list k d (o, f) = record {
     room = d .0;
-    formulas = spelled k k o .formulas;
-    kept = spelled k k o .keeps;
-    apart = apart k k o (d .1);
+    formulas = spelled [] k o f .formulas;
+    kept = spelled [] k o f .keeps;
+    apart = apart [] k o f (d .1);
   }
 
   -- the kept formulas and the one more
   full-one : (s : ℕ) (k : Table) → Tidy (offer i) (i .room) k → Ours (offer i) k → Spills (offer i) (i .room) (i .bound) s k → Full i s k
-  full-one s k d o w =
-      let more = w .formula .0 in
-      let rest = spelled k k o in
+  full-one s k d (o, f) w =
+      let extra = w .formula .0 in
+      let rest = spelled [] k o f in
       record {
         all-kept = w .as-many;
-        formulas = more ∷ rest .formulas;
+        formulas = extra ∷ rest .formulas;
         beyond = omega (arith, rest .as-many, w .as-many);
         ours = λ t m. ⊎-elim
             (λ e. subst (λ (u : Formula). Offered (language i) u × (size u ≤ s) × (Separates (sessions i) u → ⊥)) (sym e) (
-              offered-from i ok more (w .formula .1 .from),
+              offered-from i ok extra (w .formula .1 .from),
               omega (arith, is-size (offer i) (w .formula .1), w .sized),
-              failed k (w .extra) more (w .formula .1) (w .rejected),
+              failed k (w .extra) extra (w .formula .1) (w .rejected),
             ))
-            (λ h. let (c, hc, z) = rest .each-one t h in
-            (offered-from i ok t (z .from), omega (arith, is-size (offer i) z, w .small c hc), failed k c t z (o c hc .1)))
+            (λ h. let (c, hc, (y, z)) = rest .each-one t h in
+            (offered-from i ok t (z .from), omega (arith, is-size (offer i) z, w .small c hc), failed y c t z (f c hc)))
             (List·Memᴰ·cases-cons m);
         apart = (
-          λ u m. (let (c, hc, z) = rest .each-one u m in unlike k (w .extra) c more u (w .formula .1) z (w .fresh c hc)),
-          apart k k o (d .1),
+          λ u m. (let (c, hc, (y, z)) = rest .each-one u m in unlike k y (w .extra) c extra u (w .formula .1) z (w .fresh c hc)),
+          apart [] k o f (d .1),
         );
         within = w .within;
         smaller = needs-below s (w .least);

@@ -2,25 +2,26 @@
 -- agrees with the marks exactly if its formula separates, and two formulas have one matrix exactly if they are alike.
 -- Assumes nothing.
 use mathlib.Core.Path.{_≡_, refl, sym, ap, ap₂, _∙_, subst, fun-ext}
-use mathlib.Core.Logic.{_↔_, _⊎_, inl, inr, ⊎-elim, Iff·trans}
+use mathlib.Core.Logic.{_↔_, _⊎_, ⊎-elim}
 use mathlib.Core.Bool.{Bool, true, false, _&&_, Bool·beq, true≢false}
-use mathlib.Core.List.{List, [], _∷_, _++_, map, List·Memᴰ·head, List·Memᴰ·tail, List·Memᴰ·not-nil, List·Memᴰ·cases-cons, Memᴰ·append-left, Memᴰ·append-right, List·Memᴰ·append-cases, Memᴰ·map, Memᴰ·of-map, Memᴰ·cast}
-use Prim.Native.Nat.{ℕ, zero, suc, _+_, _-_, _≤_, _<_}
+use mathlib.Core.List.{List, [], _∷_, map, List·Memᴰ·head, List·Memᴰ·tail, List·Memᴰ·not-nil, List·Memᴰ·cases-cons, Memᴰ·append-left, Memᴰ·append-right, List·Memᴰ·append-cases, Memᴰ·map, Memᴰ·of-map, Memᴰ·cast}
+use Prim.Native.Nat.{ℕ, zero, suc, _+_, _-_, _<_}
 use native.Mathlib.Omega.{arith}
 use lib.ListN.{length, getD}
 use lib.Seq.{ext-getD}
 use lib.Dec.{eqb, ltb}
 use borrow.Author.Tests.{eqb-true, eq-eqb, ltb-true, lt-ltb}
-use Rattle.words.specs.Word.{width, bit, At, Means}
+use Rattle.words.specs.Word.{bit, At, Means}
 use Rattle.words.proofs.At.{means-unique}
-use Rattle.sequence.specs.Operators.{Unary, Binary, unaryCode, binaryCode, commutes}
+use Rattle.sequence.specs.Operators.{unaryCode, binaryCode}
 use Rattle.walk.specs.Formula.{leaf, unary, binary, Leaf, proposition, constant, Formula, Holds, Accepts, Separates, LeafOffered, Offered, _∈_}
-use Rattle.walk.specs.Walk.{count}
-use Rattle.walk.specs.Rows.{isOn, unaryRow, binaryRow, constantRow, acceptsRow}
-use Rattle.walk.specs.Input.{Input, Passes, markOf, lengthOf, wordOf, session, sessions, language, unaryOf, binaryOf, rows, row, sameRows, every, constantsIf, leaves, leafRow, separating, offer}
-use Rattle.walk.specs.Promises.{Alike}
+use Rattle.walk.specs.Walk.{count, matrix}
+use Rattle.walk.specs.Rows.{isOn, unaryRow, binaryRow, acceptsRow}
+use Rattle.walk.specs.Input.{Input, Passes, markOf, lengthOf, session, sessions, language, unaryOf, binaryOf, rows, row, sameRows, every, constantsIf, leaves, leafRow, separating, offer}
+use Rattle.walk.specs.Promises.{Alike, RowMeans}
 use Rattle.walk.proofs.Members.{in-count, from-count}
-use Rattle.walk.proofs.Trees.{matrix, From, Lawful}
+use Rattle.walk.proofs.Nodes.{unary-of, binary-of}
+use Rattle.walk.proofs.Trees.{From, Lawful}
 use Rattle.walk.proofs.Rows.{means-agree, unary-agree, binary-agree, unary-row-means, binary-row-means, constant-row-means, binary-row-comm, and-on, beq-on}
 
 -- ---- the rows of a matrix
@@ -41,21 +42,21 @@ row-rows r f j h = row-from 0 r f j h ∙ ap f (let e : 0 + j ≡ j = omega arit
 
 -- ---- equal in every row
 
-same-refl : (x : List ℕ) → sameRows x x ≡ true
-unfolding sameRows
-same-refl [] = refl
-same-refl (a ∷ x) = rw (eq-eqb a a refl) (same-refl x)
-
 same-true : (x y : List ℕ) → sameRows x y ≡ true → x ≡ y
 unfolding sameRows
 same-true [] [] e = refl
 same-true [] (b ∷ y) e = absurd (true≢false (sym e))
 same-true (a ∷ x) [] e = absurd (true≢false (sym e))
-same-true (a ∷ x) (b ∷ y) e = go (eqb a b) refl e (λ h. same-true x y h)
+same-true (a ∷ x) (b ∷ y) e = go _ refl e (λ h. same-true x y h)
   where
     go : (t : Bool) → eqb a b ≡ t → (t && sameRows x y) ≡ true → (sameRows x y ≡ true → x ≡ y) → a ∷ x ≡ b ∷ y
     go true w h r = ap₂ (λ (p : ℕ) (q : List ℕ). p ∷ q) (eqb-true a b w) (r h)
     go false w h r = absurd (true≢false (sym h))
+
+same-refl : (x : List ℕ) → sameRows x x ≡ true
+unfolding sameRows
+same-refl [] = refl
+same-refl (a ∷ x) = rw (eq-eqb a a refl) (same-refl x)
 
 module _ (i : Input) where
   -- the comparison is exact and the commuting marks are right
@@ -95,21 +96,6 @@ module _ (i : Input) where
           eq-one h = mathlib.Core.List.List·Memᴰ·eq-of-singleton h
       given false e h = absurd (List·Memᴰ·not-nil h)
 
-unary-of : (op : Unary) → unaryOf (unaryCode op) ≡ op
-unary-of Unary.not = refl
-unary-of Unary.weakNext = refl
-unary-of Unary.strongNext = refl
-unary-of Unary.finally = refl
-unary-of Unary.globally = refl
-
-binary-of : (op : Binary) → binaryOf (binaryCode op) ≡ op
-binary-of Binary.or = refl
-binary-of Binary.and = refl
-binary-of Binary.until = refl
-binary-of Binary.release = refl
-binary-of Binary.implies = refl
-binary-of Binary.equiv = refl
-
 -- an operator is among those of the codes exactly if its code is among them, where each code is an operator's
 module _ {A : Type 0} (of : ℕ → A) (code : A → ℕ) (back : (op : A) → of (code op) ≡ op) where
   pub coded-in : (op : A) (cs : List ℕ) → code op ∈ cs → op ∈ map of cs
@@ -135,20 +121,20 @@ module _ (i : Input) (ok : Passes i) where
 
   -- ---- the step from words to the reading
 
-  pub row-means : (t : Formula) → Offered (language i) t → (j : ℕ) → j < i .sessions
+  row-holds : (t : Formula) → Offered (language i) t → (j : ℕ) → j < i .sessions
       → Means (lengthOf i j) (row (matrix (offer i) t) j) (Holds (session i j .trace) t)
-  row-means (leaf (proposition p)) h j l =
+  row-holds (leaf (proposition p)) h j l =
       rw (row-rows (i .sessions) (leafRow i (proposition p)) j l) (record { wf = ok .well-formed j p l h; holds = λ q m. (λ z. z, λ z. z) })
-  row-means (leaf (constant b)) h j l =
+  row-holds (leaf (constant b)) h j l =
       rw (row-rows (i .sessions) (leafRow i (constant b)) j l) (constant-row-means b (ok .short j l))
-  row-means (unary op t) h j l =
-      let m = row-means t (h .1) j l in
+  row-holds (unary op t) h j l =
+      let m = row-holds t (h .1) j l in
       rw (row-rows (i .sessions) (λ j. unaryRow op (lengthOf i j) (row (matrix (offer i) t) j)) j l)
       (means-agree (unary-row-means op (row (matrix (offer i) t) j) (ok .short j l))
       (unary-agree op (lengthOf i j) (At (row (matrix (offer i) t) j)) (Holds (session i j .trace) t) (m .holds)))
-  row-means (binary op a b) h j l =
-      let m = row-means a (h .1) j l in
-      let n = row-means b (h .2) j l in
+  row-holds (binary op a b) h j l =
+      let m = row-holds a (h .1) j l in
+      let n = row-holds b (h .2) j l in
       rw (row-rows (i .sessions) (λ j. binaryRow op (lengthOf i j) (row (matrix (offer i) a) j) (row (matrix (offer i) b) j)) j l)
       (means-agree (binary-row-means op (row (matrix (offer i) a) j) (row (matrix (offer i) b) j) (ok .short j l))
       (binary-agree op (lengthOf i j)
@@ -163,7 +149,7 @@ module _ (i : Input) (ok : Passes i) where
       let n = lengthOf i j in
       let x = row (matrix (offer i) t) j in
       let both = and-on (ltb 0 n) (isOn x 0) in
-      let at = row-means t h j l .holds 0 in (
+      let at = row-holds t h j l .holds 0 in (
         λ p. let q = both .0 p in let z = ltb-true 0 n (q .0) in (z, at z .0 (eqb-true (bit x 0) 1 (q .1))),
         λ p. both .1 (lt-ltb 0 n (p .0), eq-eqb (bit x 0) 1 (at (p .0) .1 (p .1))),
       )
@@ -200,4 +186,7 @@ module _ (i : Input) (ok : Passes i) where
   alike-matrix t u ht hu a =
       ext-getD 0 (matrix (offer i) t) (matrix (offer i) u) (length-matrix t ∙ sym (length-matrix u))
       (λ j h. let l : j < i .sessions = omega (arith, length-matrix t) in
-      means-unique (means-agree (row-means t ht j l) (λ p m. a j p l m)) (row-means u hu j l))
+      means-unique (means-agree (row-holds t ht j l) (λ p m. a j p l m)) (row-holds u hu j l))
+
+pub row-means : RowMeans
+row-means = row-holds

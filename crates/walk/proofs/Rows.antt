@@ -4,15 +4,15 @@
 use mathlib.Core.Path.{_≡_, refl, sym, ap, _∙_, subst, fun-ext}
 use mathlib.Core.Logic.{_↔_, _⊎_, inl, inr, ⊎-elim, Iff·trans}
 use mathlib.Core.Bool.{Bool, true, false, _&&_, _||_, not, cond, Bool·beq, true≢false}
-use Prim.Native.Nat.{ℕ, zero, suc, _+_, _-_, _*_, _/_, _%_, _^_, _≤_, _<_}
+use Prim.Native.Nat.{ℕ, zero, suc, _+_, _-_, _/_, _%_, _^_, _≤_, _<_}
 use native.Mathlib.Nat.{eq-or-lt-of-le}
 use native.Mathlib.Omega.{arith}
 use lib.Dec.{eqb, ltb}
 use borrow.Author.Tests.{eqb-true, eq-eqb, ltb-true, lt-ltb}
-use Rattle.words.specs.Ltlf.{Reading, Not, Or, And, Implies, Equiv, StrongNext, WeakNext, Finally, Globally, Until, Release}
-use Rattle.words.specs.Word.{width, bit, At, Wf, Means}
+use Rattle.words.specs.Ltlf.{Reading, Finally, Globally}
+use Rattle.words.specs.Word.{width, bit, At, Means}
 use Rattle.words.proofs.Bits.{bit-first, bit-rest, bit-high}
-use Rattle.words.proofs.At.{lt-wf}
+use Rattle.words.proofs.At.{lt-wf, means-unique}
 use Rattle.sequence.specs.Operators.{Unary, Binary, unaryReading, binaryReading, commutes}
 use Rattle.walk.specs.Rows.{word, isOn, someOf, allOf, atSome, atAll, unaryTest, binaryTest, unaryRow, binaryRow, constantRow}
 
@@ -211,6 +211,13 @@ unfolding binaryRow
 binary-row-means op {n} x y h =
     means-agree (means-agree (word-means (binaryTest op n (isOn x) (isOn y)) h) (λ i l. binary-on op n (isOn x) (isOn y) i))
     (binary-agree op n (On (isOn x)) (At x) (On (isOn y)) (At y) (is-on x n) (is-on y n))
+
+-- whatever word has that meaning is the row: so the operators' contracts fix the same word
+pub unary-row-only : (op : Unary) {n r : ℕ} (x : ℕ) → Means n r (unaryReading op n (At x)) → r ≡ unaryRow op n x
+unary-row-only op x m = means-unique m (unary-row-means op x (m .wf .short))
+
+pub binary-row-only : (op : Binary) {n r : ℕ} (x y : ℕ) → Means n r (binaryReading op n (At x) (At y)) → r ≡ binaryRow op n x y
+binary-row-only op x y m = means-unique m (binary-row-means op x y (m .wf .short))
 
 pub constant-row-means : (b : Bool) {n : ℕ} → n ≤ width → Means n (constantRow b n) (λ i. b ≡ true)
 unfolding constantRow

@@ -2,29 +2,29 @@
 -- agrees with the marks. So what is found is smallest, and where there was no place nothing smaller would have been found.
 -- Assumes nothing.
 use mathlib.Core.Path.{_≡_, refl, sym, ap, _∙_, subst}
-use mathlib.Core.Logic.{_⊎_, inl, inr, ⊎-elim}
-use mathlib.Core.Bool.{Bool, true, false, true≢false}
-use mathlib.Core.List.{List, [], _∷_, _++_, map, foldl, List·Memᴰ·not-nil}
-use Prim.Native.Nat.{ℕ, zero, suc, _+_, _≤_, _<_}
+use mathlib.Core.Logic.{_⊎_, ⊎-elim}
+use mathlib.Core.Bool.{true, true≢false}
+use mathlib.Core.List.{List, [], map, foldl, List·Memᴰ·not-nil}
+use Prim.Native.Nat.{ℕ, zero, suc, _≤_}
 use native.Mathlib.Omega.{arith}
 use native.Mathlib.Nat.{eq-or-lt-of-le}
 use native.Mathlib.Decide.{decLe}
 use lib.ListN.{length}
 use Rattle.walk.specs.Formula.{Tree, size, _∈_}
 use Rattle.walk.specs.Nodes.{Node, Spells}
-use Rattle.walk.specs.Walk.{Offer, Candidate, Ending, found, full, none, State, going, ended, kept, layer, consider, through, after, finish, walk}
-use Rattle.walk.proofs.Trees.{size-pos, matrix, From, Lawful, Is, is-size, is-longer, Sound}
-use Rattle.walk.proofs.Layers.{Stands, Complete, layer-fits, layer-has}
-use Rattle.walk.proofs.Pass.{Rejected, Grows, grows-keeps, grows-from, Covers, Hit, Stuck, Pass, pass, stays, Distinct, Tidy, tidy}
+use Rattle.walk.specs.Walk.{Offer, Candidate, Ending, found, full, none, State, going, ended, kept, layer, consider, through, after, finish, walk, matrix}
+use Rattle.walk.proofs.Trees.{size-pos, From, Lawful, Is, is-size, is-longer, Sound, Ordered, ordered-sound, ordered-append}
+use Rattle.walk.proofs.Layers.{Complete, layer-fits, layer-has}
+use Rattle.walk.proofs.Pass.{Rejected, Grows, grows-keeps, grows-from, Covers, Pass, pass, stays, Tidy, tidy}
 
 module _ {L U B Mat : Type 0} (O : Offer L U B Mat) where
   -- each formula over what was offered that agrees with the marks has a size of n or more
   abbrev pub Needs : ℕ → Type 0
   Needs n = (t : Tree L U B) → From O t → O .agrees (matrix O t) ≡ true → n ≤ size t
 
-  -- a kept list's formulas: each is one over what was offered, and does not agree with the marks
+  -- a kept list's formulas: each is one over what was offered and those before it, and does not agree with the marks
   abbrev pub Ours : List (Candidate Mat) → Type 0
-  Ours k = (c : Candidate Mat) → c ∈ k → ((t : Tree L U B) × Is O k c t) × Rejected O c
+  Ours k = Ordered O [] k × ((c : Candidate Mat) → c ∈ k → Rejected O c)
 
   -- the root node over the list is a formula over what was offered of a size up to b; it agrees, and nothing smaller does
   pub record Smallest (b : ℕ) (root : Node) (k : List (Candidate Mat)) : Type 0 where
@@ -55,21 +55,19 @@ module _ {L U B Mat : Type 0} (O : Offer L U B Mat) where
   inv-needs : (b : ℕ) (k : List (Candidate Mat)) → Ours k → Inv b k → Needs (suc b)
   inv-needs b k o i t f s =
       elim (decLe (size t) b) [
-        | yes h ↦ (let (c, hc, lc, ec) = i .complete t f h in absurd (true≢false (sym s ∙ ap (O .agrees) (sym ec) ∙ o c hc .1)))
+        | yes h ↦ (let (c, hc, lc, ec) = i .complete t f h in absurd (true≢false (sym s ∙ ap (O .agrees) (sym ec) ∙ o .1 c hc)))
         | no h ↦ omega arith
       ]
 
   sound : (k : List (Candidate Mat)) → Ours k → Sound O k
-  sound k o c m = o c m .0
+  sound k o = ordered-sound O k (o .0)
 
   -- what is kept after one more layer
   ours-more : (b : ℕ) (k k′ : List (Candidate Mat)) → Ours k → Grows O k (layer O (suc b) k) k′ → Ours k′
-  ours-more b k k′ o g c m =
-      subst (λ (l : List (Candidate Mat)). ((t : Tree L U B) × Is O l c t) × Rejected O c) (sym (g .longer))
-      (⊎-elim
-      (λ h. let (z, r) = o c h in ((z .0, is-longer O (g .new) (z .1)), r))
-      (λ h. let z = layer-fits O (suc b) k c (h .0) .0 (sound k o) in ((z .0, is-longer O (g .new) (z .1)), h .1))
-      (grows-from O g c m))
+  ours-more b k k′ o g = (
+    subst (Ordered O []) (sym (g .longer)) (ordered-append O [] k (g .new) (o .0) (λ c m. layer-fits O (suc b) k c (g .comes c m .0) .0 (sound k o))),
+    λ c m. ⊎-elim (λ h. o .1 c h) (λ h. h .1) (grows-from O g c m),
+  )
 
   sizes-more : (b : ℕ) (k k′ : List (Candidate Mat)) → Inv b k → Grows O k (layer O (suc b) k) k′ → (c : Candidate Mat) → c ∈ k′ → c .node .size ≤ suc b
   sizes-more b k k′ i g c m =
@@ -188,7 +186,7 @@ module _ {L U B Mat : Type 0} (O : Offer L U B Mat) where
       unfolding after
       after-whole zero = (
         (omega arith, tt),
-        λ c m. absurd (List·Memᴰ·not-nil m),
+        (tt, λ c m. absurd (List·Memᴰ·not-nil m)),
         record { sizes = λ c m. absurd (List·Memᴰ·not-nil m); complete = λ t f h. (let p = size-pos t in absurd (omega arith)) },
       )
       after-whole (suc b) = through-one b (after O C b) (after-whole b)

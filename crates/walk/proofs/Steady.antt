@@ -1,20 +1,20 @@
 -- A larger bound or more room never changes what was found: an ended walk stays as it is through the sizes after, and two walks with different
 -- room are alike until the smaller room is full.
 -- Assumes nothing.
-use mathlib.Core.Path.{_≡_, refl, sym, ap, _∙_, subst}
+use mathlib.Core.Path.{_≡_, refl, sym, ap, _∙_}
 use mathlib.Core.Logic.{_⊎_, inl, inr, ⊎-elim}
 use mathlib.Core.Bool.{Bool, true, false}
 use mathlib.Core.List.{List, [], _∷_, foldl}
-use Prim.Native.Nat.{ℕ, zero, suc, _≤_, _<_}
+use Prim.Native.Nat.{ℕ, zero, suc, _≤_}
 use native.Mathlib.Omega.{arith}
 use native.Mathlib.Nat.{eq-or-lt-of-le}
 use lib.ListN.{length}
 use lib.Dec.{leb}
 use borrow.Author.Tests.{leb-true, leb-false}
 use Rattle.walk.specs.Nodes.{Node}
-use Rattle.walk.specs.Walk.{Offer, Candidate, Ending, found, full, none, State, going, ended, kept, known, judge, layer, consider, through, after, finish, walk}
-use Rattle.walk.specs.Input.{Input, separating, offer, search}
-use Rattle.walk.specs.Promises.{Table, again, LargerBoundSame, LargerRoomSame}
+use Rattle.walk.specs.Walk.{Offer, Candidate, Ending, found, full, State, going, ended, kept, known, judge, layer, consider, through, after, finish, walk}
+use Rattle.walk.specs.Input.{Input, separating, offer}
+use Rattle.walk.specs.Promises.{again, LargerBoundSame, LargerRoomSame, FoundStays}
 use Rattle.walk.proofs.Pass.{stays}
 
 module _ {L U B Mat : Type 0} (O : Offer L U B Mat) where
@@ -95,6 +95,11 @@ again-offer i b c = refl
 -- (4)
 pub larger-bound-same : LargerBoundSame
 larger-bound-same i b h root k n q = rw again-offer (larger-bound (offer i) (i .room) (i .bound) b h root k n q)
+
+pub found-stays : FoundStays
+found-stays i b c hb hc root k n q =
+    rw again-offer (larger-bound (offer i) c (i .bound) b hb root k n
+    (⊎-elim (λ e. e ∙ q) (λ f. let z : _≡_ {A = ℕ} 0 1 = cc (f .3) in absurd (omega arith)) (larger-room (offer i) (i .room) c hc (i .bound))))
 
 pub larger-room-same : LargerRoomSame
 larger-room-same i c h = rw again-offer (larger-room (offer i) (i .room) c h (i .bound))

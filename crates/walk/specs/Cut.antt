@@ -1,6 +1,6 @@
 -- The walk cut after any candidate, and going on from there with no more than what was kept and three numbers.
 -- Assumes nothing.
-use mathlib.Core.Bool.{Bool, true, false}
+use mathlib.Core.Bool.{cond}
 use mathlib.Core.List.{List, [], foldl}
 use Prim.Native.Nat.{ℕ, zero, suc, _-_}
 use lib.ListN.{length, take, drop}
@@ -18,7 +18,9 @@ module _ {L U B Mat : Type 0} (O : Offer L U B Mat) (C b : ℕ) where
   unfoldable pub settle : ℕ → ℕ → ℕ → State Mat → Cut Mat
   settle d s j (ended e k n) = over e k n
   settle zero s j (going k n) = over none k n
-  settle (suc d) s j (going k n) = elim (ltb j (length (layer O s k))) [ true ↦ more s j k n | false ↦ settle d (suc s) 0 (going k n) ]
+  settle (suc d) s j (going k n) =
+      let later = settle d (suc s) 0 (going k n) in
+      cond (ltb j (length (layer O s k))) (more s j k n) later
 
   -- a walk of which nothing is tried
   unfoldable pub start : Cut Mat

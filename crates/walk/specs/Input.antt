@@ -11,7 +11,7 @@ use Rattle.words.specs.Word.{width, At, Wf}
 use Rattle.sequence.specs.Operators.{Unary, Binary, unaryCode, binaryCode, commutes}
 use Rattle.walk.specs.Formula.{Leaf, proposition, constant, Session, Language, _∈_}
 use Rattle.walk.specs.Nodes.{codes}
-use Rattle.walk.specs.Walk.{Offer, State, keepIf, count, walk}
+use Rattle.walk.specs.Walk.{Offer, State, count, walk}
 use Rattle.walk.specs.Rows.{unaryRow, binaryRow, constantRow, acceptsRow}
 
 -- "sessions r 1 to 32; propositions m 1 to 16; .. size bound B 1 to 31; table room C 1 to 4,096 formulas"; the length's limit is `width`
@@ -40,6 +40,11 @@ pub record Input : Type 0 where
   pub unary : List ℕ
   pub binary : List ℕ
 
+-- no number twice
+abbrev pub Once : List ℕ → Type 0
+Once [] = Unit {0}
+Once (c ∷ cs) = (c ∈ cs → ⊥) × Once cs
+
 module _ (i : Input) where
   abbrev pub markOf : ℕ → ℕ
   markOf j = getD (i .marks) j 0
@@ -62,11 +67,6 @@ module _ (i : Input) where
   language = record { propositions = i .propositions; constants = i .constants; unary = i .unary; binary = i .binary }
 
   -- ---- the checks
-
-  -- no number twice
-  abbrev pub Once : List ℕ → Type 0
-  Once [] = Unit {0}
-  Once (c ∷ cs) = (c ∈ cs → ⊥) × Once cs
 
   -- the input passes the checks (the table of refusals, 1 to 7)
   pub record Passes : Type 0 where

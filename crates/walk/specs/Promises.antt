@@ -1,15 +1,16 @@
--- What is promised of every answer of the walk, for every input that passes the checks. Each is proved in proofs/Promises.
+-- What is promised of every answer of the walk, for every input that passes the checks. Each is proved under its name, in proofs/: found-smallest
+-- and so on (Promises), larger-bound-same (Steady), tried-is-position (Position), cut-resume (Resume), row-means (Reading), one-formula (Nodes).
 -- Assumes nothing.
 use mathlib.Core.Path.{_≡_}
 use mathlib.Core.Logic.{_↔_, _⊎_}
-use mathlib.Core.Bool.{Bool, true, false}
+use mathlib.Core.Bool.{Bool, false}
 use mathlib.Core.List.{List, [], _∷_, _++_, map, foldl}
 use Prim.Native.Nat.{ℕ, suc, _+_, _≤_, _<_}
 use lib.ListN.{length, take}
 use Rattle.words.specs.Word.{Means}
 use Rattle.walk.specs.Formula.{Formula, size, Holds, Separates, Offered, _∈_}
 use Rattle.walk.specs.Nodes.{Node, Spells, codes}
-use Rattle.walk.specs.Walk.{Candidate, Ending, found, full, none, State, going, ended, tried, leftSizes, consider, trail}
+use Rattle.walk.specs.Walk.{Candidate, Ending, found, full, none, going, ended, tried, matrix, leftSizes, consider, trail}
 use Rattle.walk.specs.Input.{Input, Passes, session, sessions, language, lengthOf, row, separating, offer, search}
 use Rattle.walk.specs.Cut.{Cut, more, over, start, turn}
 
@@ -60,26 +61,37 @@ module _ (i : Input) where
     pub within : s ≤ i .bound
     pub smaller : NoneBelow s
 
-  -- a kept formula: its node over the kept list, and row j of its matrix, which has bit p set exactly where the formula holds at p
-  pub record Keeps (k : Table) (c : Candidate (List ℕ)) (t : Formula) : Type 0 where
-    pub spelled : Spells codes (nodes k) (c .node) t
+  -- a kept formula: its node, over those kept before it, and row j of its matrix, which has bit p set exactly where the formula holds at p
+  pub record Keeps (before : Table) (c : Candidate (List ℕ)) (t : Formula) : Type 0 where
+    pub spelled : Spells codes (nodes before) (c .node) t
     pub offered : Offered (language i) t
     pub means : (j : ℕ) → j < i .sessions → Means (lengthOf i j) (row (c .matrix) j) (Holds (session i j .trace) t)
     pub failed : Separates (sessions i) t → ⊥
 
-  -- the formulas of a list, one by one
+  -- the formulas of a list, one by one, after those before it
   abbrev pub KeepsAll : Table → Table → List Formula → Type 0
-  KeepsAll k [] [] = Unit {0}
-  KeepsAll k [] (t ∷ ts) = ⊥
-  KeepsAll k (c ∷ cs) [] = ⊥
-  KeepsAll k (c ∷ cs) (t ∷ ts) = Keeps k c t × KeepsAll k cs ts
+  KeepsAll before [] [] = Unit {0}
+  KeepsAll before [] (t ∷ ts) = ⊥
+  KeepsAll before (c ∷ k) [] = ⊥
+  KeepsAll before (c ∷ k) (t ∷ ts) = Keeps before c t × KeepsAll (before ++ (c ∷ [])) k ts
 
   -- what is kept: at most C, each a formula that does not separate, and no two alike
   pub record Kept (k : Table) : Type 0 where
     pub room : length k ≤ i .room
     pub formulas : List Formula
-    pub kept : KeepsAll k k formulas
+    pub kept : KeepsAll [] k formulas
     pub apart : Apart formulas
+
+-- ---- from words to the reading: row j of a formula's matrix has bit p set exactly where the formula holds at p of session j
+
+abbrev pub RowMeans : Type 0
+RowMeans = (i : Input) → Passes i → (t : Formula) → Offered (language i) t → (j : ℕ) → j < i .sessions
+    → Means (lengthOf i j) (row (matrix (offer i) t) j) (Holds (session i j .trace) t)
+
+-- ---- "The answer's formula is its root node over that list": there is no other
+
+abbrev pub OneFormula : Type 0
+OneFormula = (k : List Node) (n : Node) (t u : Formula) → Spells codes k n t → Spells codes k n u → t ≡ u
 
 -- ---- (1) to (3): FOUND, NONE, FULL
 
@@ -119,6 +131,10 @@ abbrev pub LargerRoomSame : Type 0
 LargerRoomSame = (i : Input) (c : ℕ) → i .room ≤ c
     → (search (again i (i .bound) c) ≡ search i) ⊎ ((s : ℕ) × (k : Table) × (n : ℕ) × (search i ≡ ended (full s) k n))
 
+abbrev pub FoundStays : Type 0
+FoundStays = (i : Input) (b c : ℕ) → i .bound ≤ b → i .room ≤ c → (root : Node) (k : Table) (n : ℕ)
+    → search i ≡ ended (found root) k n → search (again i b c) ≡ ended (found root) k n
+
 -- ---- (5): the count, the kept formulas, the end
 
 -- of the candidates cs the one at position n, counted from 1; none before it agrees with the marks
@@ -151,9 +167,16 @@ LeftSizes = (s i j : ℕ) → i + j + 1 ≡ s → (i ∈ leftSizes s) ↔ ((1 �
 
 -- ---- cut and resume
 
--- a turn of a, then one of b, is a turn of a + b
+-- the input's walk, of which nothing is tried, and n candidates more
+abbrev pub begun : Input → Cut (List ℕ)
+begun i = start (offer i) (i .room) (i .bound)
+
+abbrev pub goOn : Input → ℕ → Cut (List ℕ) → Cut (List ℕ)
+goOn i n c = turn (offer i) (i .room) (i .bound) n c
+
+-- a turn of a candidates, then one of b, is a turn of a + b
 abbrev pub TurnsAdd : Type 0
-TurnsAdd = (i : Input) (a b : ℕ) (c : Cut (List ℕ)) → turn (offer i) (i .room) (i .bound) b (turn (offer i) (i .room) (i .bound) a c) ≡ turn (offer i) (i .room) (i .bound) (a + b) c
+TurnsAdd = (i : Input) (a b : ℕ) (c : Cut (List ℕ)) → goOn i b (goOn i a c) ≡ goOn i (a + b) c
 
 -- after n candidates the walk has ended, with the whole walk's answer; or n were tried and the whole walk tries more, and what is kept is
 -- what those n came to
@@ -164,4 +187,4 @@ CutOf i n (more s j k m) =
     × (foldl (consider (offer i) (i .room)) (going [] 0) (take n (trail (offer i) (i .room) (i .bound))) ≡ going k m)
 
 abbrev pub CutResume : Type 0
-CutResume = (i : Input) (n : ℕ) → CutOf i n (turn (offer i) (i .room) (i .bound) n (start (offer i) (i .room) (i .bound)))
+CutResume = (i : Input) (n : ℕ) → CutOf i n (goOn i n (begun i))

@@ -1,11 +1,10 @@
 -- What an operator does to one session's word, computed position by position: the reading once more, as a test.
 -- Assumes nothing.
 use mathlib.Core.Bool.{Bool, true, false, _&&_, _||_, not, cond, Bool·beq}
-use Prim.Native.Nat.{ℕ, zero, suc, _+_, _-_, _*_, _^_}
+use Prim.Native.Nat.{ℕ, zero, suc, _+_, _-_, _^_}
 use lib.Dec.{eqb, ltb}
 use Rattle.words.specs.Word.{bit}
 use Rattle.sequence.specs.Operators.{Unary, Binary}
-use Rattle.walk.specs.Formula.{Leaf, proposition, constant}
 
 -- the word of n bits whose bit i is set where f holds
 unfoldable pub word : ℕ → (ℕ → Bool) → ℕ

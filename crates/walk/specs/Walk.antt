@@ -5,6 +5,7 @@ use mathlib.Core.List.{List, [], _∷_, _++_, map, foldl}
 use Prim.Native.Nat.{ℕ, zero, suc, _+_, _-_, _/_}
 use lib.ListN.{length}
 use lib.Dec.{eqb, leb}
+use Rattle.walk.specs.Formula.{Tree, leaf, unary, binary}
 use Rattle.walk.specs.Nodes.{Node, Codes}
 
 -- what is offered: leaves and operators in their order, with their codes; what each makes of its children's matrices; which operators are
@@ -69,7 +70,7 @@ unfoldable pub ofSize : {Mat : Type 0} → ℕ → ℕ → List (Candidate Mat) 
 ofSize s p [] = []
 ofSize s p (c ∷ k) = keepIf (eqb (c .node .size) s) (record { place = p; kept = c }) (ofSize s (suc p) k)
 
--- "i from 1 while i < ceil(s/2)"
+-- "i from 1 while i < ceil(s/2)", which is (s + 1) / 2
 unfoldable pub leftSizes : ℕ → List ℕ
 leftSizes s = count 1 ((s + 1) / 2 - 1)
 
@@ -79,6 +80,12 @@ finish (going k n) = ended none k n
 finish (ended e k n) = ended e k n
 
 module _ {L U B Mat : Type 0} (O : Offer L U B Mat) where
+  -- a formula's matrix
+  abbrev pub matrix : Tree L U B → Mat
+  matrix (leaf c) = O .leafMatrix c
+  matrix (unary op t) = O .unaryMatrix op (matrix t)
+  matrix (binary op l r) = O .binaryMatrix op (matrix l) (matrix r)
+
   -- ---- the candidates of a size
 
   abbrev pub seed : L → Candidate Mat
@@ -117,7 +124,7 @@ module _ {L U B Mat : Type 0} (O : Offer L U B Mat) where
       orders (O .commutes op) op l q
 
   -- "Size 1: propositions in order, then, if constants are asked for, false, then true. Size s from 2 to B: first every kept formula of
-  -- size s-1 ..": the candidates of a size, over the list as it is kept when that size begins
+  -- size s-1 ..": the candidates of a size, over the list as it is kept when that size begins; where s is m + 2, s-1 is m + 1
   unfoldable pub layer : ℕ → List (Candidate Mat) → List (Candidate Mat)
   layer zero k = []
   layer (suc zero) k = map seed (O .leaves)
@@ -157,7 +164,7 @@ module _ {L U B Mat : Type 0} (O : Offer L U B Mat) where
     unfoldable pub walk : ℕ → State Mat
     walk b = finish (after b)
 
-    -- the candidates that the walk comes to up to size b, in its order
+    -- the candidates in the order in which the walk comes to them, up to size b; those behind the one that ends it are not tried
     unfoldable pub trail : ℕ → List (Candidate Mat)
     trail zero = []
     trail (suc b) = trail b ++ layer (suc b) (kept (after b))
