@@ -34,12 +34,11 @@ module _ (i : Input) (k : List Node) (root : Node) where
 
   named : (j : Session) → CheckAnswer i k root (saidVerdict (Disagrees j)) → (t : Formula) × Spells codes k root t × FirstDisagrees i t (j .0)
   named j a =
-      let p = a .passed refl in
-      (
+      let p = a .passed refl in (
         p .0,
         p .1,
         ⊎-elim (λ o. let z = head-eq-of-cons-eq (o .1) in absurd (omega arith))
-        (λ o. subst (FirstDisagrees i (p .0)) (sym (head-eq-of-cons-eq (tail-eq-of-cons-eq (o .2)))) (o .1)) (p .2),
+            (λ o. subst (FirstDisagrees i (p .0)) (sym (head-eq-of-cons-eq (tail-eq-of-cons-eq (o .2)))) (o .1)) (p .2),
       )
 
   not-none : (n : ℕ) → CheckAnswer i k root (saidVerdict (Refused n)) → n ≡ 0 → ⊥
@@ -55,7 +54,7 @@ module _ (i : Input) (k : List Node) (root : Node) where
   first-one : (t : Formula) (j l : ℕ) → FirstDisagrees i t j → FirstDisagrees i t l → j ≡ l
   first-one t j l a b =
       elim (decLt j l) [
-        yes h ↦ absurd (a .disagrees (b .before j h))
+        | yes h ↦ absurd (a .disagrees (b .before j h))
         | no h ↦ ⊎-elim (λ e. sym e) (λ g. absurd (b .disagrees (a .before l g))) (eq-or-lt-of-le {n = l} {m = j} (omega arith))
       ]
 
@@ -107,7 +106,7 @@ module _ (names : List (List ℕ)) (k : List Node) (root : Node) (old : List ℕ
   same-print s r new later a b =
       let n = decided-unique _ (s .number) (r .number) (a .number) (b .number) in
       elim (ℕ-discrete (s .number) 0) [
-        yes e ↦
+        | yes e ↦
             let p = a .passed e in
             let q = b .passed (sym n ∙ e) in
             let t = ap (text names) (spells-one k root (p .0) (q .0) (p .1) (q .1)) in
