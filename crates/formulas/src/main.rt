@@ -40,8 +40,11 @@ fn nothing() -> Partly {
     }
 }
 
-// One byte more.
+// One byte more. A space begins anew.
 fn with(p: Partly, b: u8) -> Partly {
+    if b == b' ' {
+        return nothing();
+    }
     if b == b':' {
         return Partly {
             value: 0,
@@ -94,6 +97,17 @@ fn flush(to: &mut [u64], n: usize, p: Partly) -> usize
     n
 }
 
+// A space ends a number.
+fn flush_at(to: &mut [u64], n: usize, p: Partly, b: u8) -> usize
+    requires { ⌜ n ≤ length (now to) ⌝ }
+    ensures { λ r. ⌜ r ≤ length (now (to .entry)) ⌝ }
+{
+    if b == b' ' {
+        return flush(to, n, p);
+    }
+    n
+}
+
 // The field that starts at a place.
 fn list(text: &[u8], at: usize, to: &mut [u64]) -> Field
     ensures { λ r. ⌜ r .count ≤ length (now (to .entry)) ⌝ }
@@ -107,12 +121,8 @@ fn list(text: &[u8], at: usize, to: &mut [u64]) -> Field
             let count = flush(to, n, p);
             return Field { count, next: i + 1 };
         }
-        if b == b' ' {
-            n = flush(to, n, p);
-            p = nothing();
-        } else {
-            p = with(p, b);
-        }
+        n = flush_at(to, n, p, b);
+        p = with(p, b);
         i += 1;
     }
     let count = flush(to, n, p);
@@ -273,6 +283,44 @@ fn say_printed(p: Printed) {
     }
 }
 
+fn upto(most: u64, x: u64) -> u64
+    ensures { λ r. ⌜ r ≤ most ⌝ }
+{
+    if x < most { x } else { most }
+}
+
+// The room is written out after.
+fn show_printed(
+    names: &[u8],
+    codes: &[u8],
+    lefts: &[u16],
+    rights: &[u16],
+    sizes: &[u8],
+    root: Node,
+    room: &mut [u8],
+) {
+    let p = formula::print(names, codes, lefts, rights, sizes, root, room);
+    say_printed(p);
+    say(b" |");
+    say(room);
+    say(b"|\n");
+}
+
+// That many dots are lent.
+fn print_dots(
+    names: &[u8],
+    codes: &[u8],
+    lefts: &[u16],
+    rights: &[u16],
+    sizes: &[u8],
+    root: Node,
+    asked: u64,
+) {
+    let mut lent = [46u8; 500];
+    let n = upto(500, asked) as usize;
+    show_printed(names, codes, lefts, rights, sizes, root, &mut lent[..n]);
+}
+
 fn print_line(text: &[u8]) {
     let mut names = [0u8; 400];
     let mut codes = [0u8; 4200];
@@ -281,7 +329,6 @@ fn print_line(text: &[u8]) {
     let mut sizes = [0u8; 4200];
     let mut root = [0u64; 4];
     let mut room = [0u64; 1];
-    let mut lent = [46u8; 500];
     let a = list8(text, 0, &mut names);
     let e = list8(text, a.next, &mut codes);
     let f = list16(text, e.next, &mut lefts);
@@ -294,24 +341,15 @@ fn print_line(text: &[u8]) {
     let nf = f.count;
     let ng = g.count;
     let nh = h.count;
-    let asked = room[0];
-    let mut n: usize = 500;
-    if asked < 500 {
-        n = asked as usize;
-    }
-    let p = formula::print(
+    print_dots(
         &names[..na],
         &codes[..ne],
         &lefts[..nf],
         &rights[..ng],
         &sizes[..nh],
         node(root),
-        &mut lent[..n],
+        room[0],
     );
-    say_printed(p);
-    say(b" |");
-    say(&lent[..n]);
-    say(b"|\n");
 }
 
 fn answer_line(line: &[u8]) {
