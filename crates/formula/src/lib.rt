@@ -81,8 +81,8 @@ pub fn print(
 {
     let judged = session::names::judge(names);
     match judged {
-        NamesAnswer::Names(m) => {
-            let broken = nodes::refusal(m, codes, lefts, rights, sizes, root);
+        NamesAnswer::Names(count) => {
+            let broken = nodes::refusal(count, codes, lefts, rights, sizes, root);
             if broken != 0 {
                 return Printed::Refused(broken);
             }
