@@ -1,19 +1,18 @@
 -- The decision over session data, row by row.
 -- Assumes nothing.
-use mathlib.Core.Path.{_≡_, refl}
+use mathlib.Core.Path.{refl}
 use mathlib.Core.Logic.{_⊎_, inl, inr}
 use mathlib.Core.Bool.{true, false}
 use mathlib.Core.List.{List}
 use Prim.Native.Nat.{ℕ, _+_, _*_, _≤_, _<_}
 use native.Mathlib.Nat.{mul-comm, mul-le-mul-right, suc-mul}
-use native.Mathlib.Numerals.{add-one}
 use native.Mathlib.Omega.{arith}
-use lib.ListN.{length, getD}
-use Rattle.words.specs.Word.{width, Wf, At}
+use lib.ListN.{length}
+use Rattle.words.specs.Word.{width}
 use Rattle.sequence.specs.Refusals.{Decided}
 use Rattle.session.specs.Numbers.{sessions, propositions, Outside}
-use Rattle.session.specs.Data.{outsideNumbers, tooShort, tooLong, bitAbove, markWrong, dataRows}
-use Rattle.session.specs.Inner.{AllUpTo, Clear, AllClear}
+use Rattle.session.specs.Data.{tooLong, bitAbove, dataRows}
+use Rattle.session.specs.Inner.{AllUpTo, AllClear}
 
 module _ (r m : ℕ) (marks lengths words : List ℕ) where
   abbrev D : ℕ → Type 0

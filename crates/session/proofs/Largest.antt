@@ -1,20 +1,20 @@
 -- "the largest good file is 4,450 bytes": no good file is longer, and one is as long.
 -- Assumes nothing.
-use mathlib.Core.Path.{_≡_, refl, sym, ap, _∙_}
+use mathlib.Core.Path.{_≡_, refl, sym, ap}
 use mathlib.Core.List.{List, [], _∷_, _++_, flatMap}
 use Prim.Native.Nat.{ℕ, zero, suc, _+_, _-_, _*_, _^_, _≤_, _<_}
-use native.Mathlib.Nat.{mul-le-mul, mul-suc}
+use native.Mathlib.Nat.{mul-le-mul}
 use native.Mathlib.Omega.{arith}
 use lib.Dec.{lit<, lit≤}
-use lib.ListN.{length, replicate, length-append, length-replicate}
-use Rattle.words.specs.Word.{width, Wf}
+use lib.ListN.{length, replicate, length-append}
+use Rattle.words.specs.Word.{Wf}
 use Rattle.words.proofs.At.{lt-wf}
-use Rattle.session.specs.Format.{Session, Parts, one, section, nameBytes, fileBytes, Each, GoodName, GoodSession, GoodUnary, GoodBinary, Good}
+use Rattle.session.specs.Format.{Session, Parts, one, section, nameBytes, fileBytes, Each, GoodName, GoodSession, Good}
 use Rattle.session.specs.Offence.{got, each, byte, name, namesUpTo, codes, isUnary, isBinary}
 use Rattle.session.proofs.Lists.{ones}
 use Rattle.session.proofs.CodeLaws.{unary-good, good-unary, binary-good, good-binary}
 use Rattle.session.proofs.Whole.{each-map, few-unary, few-binary, names-sound, codes-sound}
-use Rattle.session.proofs.Positions.{Layout, layout}
+use Rattle.session.proofs.Positions.{layout}
 
 -- ---- none is longer
 

@@ -18,3 +18,6 @@ pub mod Outcome
 pub mod DataLaws
 pub mod Theorems
 pub mod Largest
+pub mod Cuts
+pub mod Interleaved
+pub mod Offsets

@@ -1,26 +1,24 @@
 -- From the judging pass to the answer: what its numbers say of the file, what is refused, and what the writing pass leaves.
 -- Assumes nothing.
 use mathlib.Core.Path.{_≡_, refl, sym, ap, _∙_, subst}
-use mathlib.Core.Bool.{Bool, true, false, cond, _&&_}
-use mathlib.Core.List.{List, [], _∷_, _++_}
+use mathlib.Core.Bool.{true, false}
+use mathlib.Core.List.{List, []}
 use Prim.Native.Nat.{ℕ, _+_, _*_, _≤_, _<_}
-use native.Mathlib.Nat.{mul-comm, mul-le-mul}
+use native.Mathlib.Nat.{mul-le-mul}
 use native.Mathlib.Omega.{arith}
 use borrow.Author.Tests.{le-leb, lt-leb}
-use lib.Dec.{leb}
 use lib.ListN.{length, drop, length-map}
 use lib.Seq.{sets}
 use Rattle.session.specs.declared.file.ReadAnswer.{ReadAnswer}
 use Rattle.session.specs.declared.file.ReadAnswer.the-variants.{Parts as AllParts, Broken, Room}
 use Rattle.session.specs.Numbers.{sessions, propositions}
-use Rattle.session.specs.Format.{Parts, section, nameBytes, fileBytes, Good}
+use Rattle.session.specs.Format.{Parts, section, nameBytes, Good}
 use Rattle.session.specs.Offence.{Got, got, bad, wholeFile}
-use Rattle.session.specs.Reading.{said, tooLittleRoom, Lent, lent, After, after, marksOf, lengthsOf, wordsOf, roomFor, over, readOf}
+use Rattle.session.specs.Reading.{said, Lent, lent, after, marksOf, lengthsOf, wordsOf, roomFor, over, readOf}
 use Rattle.session.specs.Inner.{numbersOf, answerOf, strided, sessionWords}
-use Rattle.session.proofs.Lists.{and-both, and-stop, and-on}
 use Rattle.session.proofs.Numbers.{Bytes}
 use Rattle.session.proofs.Whole.{passed-is-good}
-use Rattle.session.proofs.Positions.{Layout, layout, filled, length-all-words}
+use Rattle.session.proofs.Positions.{layout, filled, length-all-words}
 
 module _ (file : List ℕ) where
   -- what is known of a file that passed, by the numbers of its parts

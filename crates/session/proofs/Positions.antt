@@ -1,16 +1,14 @@
 -- Where the parts of a good file stand in it, and what the writing pass therefore writes.
 -- Assumes nothing.
-use mathlib.Core.Path.{_≡_, refl, sym, ap, _∙_, subst}
-use mathlib.Core.Bool.{Bool, true, false, cond, _&&_}
+use mathlib.Core.Path.{_≡_, refl, sym, ap, _∙_}
 use mathlib.Core.List.{List, [], _∷_, _++_, map, flatMap, append-assoc}
-use Prim.Native.Nat.{ℕ, zero, suc, _+_, _*_, _^_, _≤_, _<_}
-use native.Mathlib.Nat.{suc-mul, mul-suc, mul-one, mul-comm, lt-of-lt-of-le}
+use Prim.Native.Nat.{ℕ, _+_, _*_, _≤_}
+use native.Mathlib.Nat.{suc-mul, mul-suc, lt-of-lt-of-le}
 use native.Mathlib.Omega.{arith}
-use borrow.Author.Tests.{le-leb, lt-leb}
 use lib.Pow.{pow-mono}
-use lib.ListN.{length, getD, take, drop, length-append, length-map}
+use lib.ListN.{length, drop, length-append}
 use lib.Seq.{sets, sets-eq, drop-drop, drop-at, take-at}
-use Rattle.words.specs.Word.{width, Wf}
+use Rattle.words.specs.Word.{Wf}
 use Rattle.words.proofs.At.{wf-lt}
 use Rattle.session.specs.Format.{Session, Parts, one, section, nameBytes, wordBytes, sessionBytes, fileBytes, Each, GoodSession, Good}
 use Rattle.session.specs.Offence.{number}
@@ -19,7 +17,6 @@ use Rattle.session.specs.Inner.{strided, wordsAt, sessionWords}
 use Rattle.session.proofs.Lists.{ones}
 use Rattle.session.proofs.Numbers.{length-low, number-low}
 use Rattle.session.proofs.Spans.{Spans, second}
-use Rattle.session.proofs.SessionLaws.{Fits, Fit}
 use Rattle.session.proofs.Whole.{whole-run}
 
 -- ---- words

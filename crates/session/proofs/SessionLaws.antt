@@ -2,23 +2,23 @@
 -- Assumes nothing.
 use mathlib.Core.Path.{_≡_, refl, sym, ap, _∙_, subst}
 use mathlib.Core.Bool.{Bool, true, false, cond}
-use mathlib.Core.List.{List, [], _∷_, _++_, flatMap}
-use Prim.Native.Nat.{ℕ, _+_, _-_, _^_, _≤_, _<_}
+use mathlib.Core.List.{List, [], _++_, flatMap}
+use Prim.Native.Nat.{ℕ, _+_, _-_, _^_, _≤_}
 use native.Mathlib.Decide.{decLt}
 use native.Mathlib.Nat.{lt-of-lt-of-le, lt-of-not-le}
 use native.Mathlib.Omega.{arith}
 use borrow.Author.Tests.{leb-true, le-leb, ltb-true, lt-ltb}
 use lib.Dec.{leb, ltb}
 use lib.Pow.{pow-mono}
-use lib.ListN.{length, getD, take, drop, length-append, length-take, length-drop, take-append-drop, List·getD-eq-default}
+use lib.ListN.{length, take, drop, length-append, length-take, length-drop, take-append-drop, List·getD-eq-default}
 use lib.Seq.{drop-drop, getD-take, getD-drop}
 use Rattle.words.specs.Word.{width, Wf}
 use Rattle.words.proofs.At.{lt-wf, wf-lt}
-use Rattle.session.specs.Format.{Session, one, wordBytes, sessionBytes, lowFirst, Each, GoodSession}
+use Rattle.session.specs.Format.{Session, one, wordBytes, sessionBytes, lowFirst, GoodSession}
 use Rattle.session.specs.Offence.{got, bad, each, byte, within, number, word, session}
 use Rattle.session.proofs.Spans.{Spans, both, first, second, taken}
-use Rattle.session.proofs.Lists.{within-low, within-high, within-is}
-use Rattle.session.proofs.Readers.{got-bad, got-value, got-next, in-turn, byte-sound, byte-complete, Sound, Complete, Row, row-sound, row-complete}
+use Rattle.session.proofs.Lists.{within-high, within-is}
+use Rattle.session.proofs.Readers.{got-bad, got-value, got-next, in-turn, byte-sound, byte-complete, Sound, Complete, row-sound, row-complete}
 use Rattle.session.proofs.Numbers.{Bytes, length-low, number-low, low-number}
 
 bytes-take : (n : ℕ) (l : List ℕ) → Bytes l → Bytes (take n l)

@@ -1,15 +1,15 @@
 -- What a reader of document 01 will look for: the reader accepts exactly the good files and gives their parts, what it hands out passes the tests
 -- of session data and the search's own tests, a writer's bytes read back give the parts, and any two allowed results are equal.
 -- Assumes nothing.
-use mathlib.Core.Path.{_≡_, refl, sym, ap, _∙_, subst}
-use mathlib.Core.Logic.{_↔_, _⊎_, inl, inr}
-use mathlib.Core.Bool.{Bool, true, false}
+use mathlib.Core.Path.{_≡_, refl, sym, ap, _∙_}
+use mathlib.Core.Logic.{_↔_}
+use mathlib.Core.Bool.{true}
 use mathlib.Core.List.{List, [], _∷_, _++_, map, flatMap, List·Memᴰ, List·Memᴰ·head, List·Memᴰ·tail, Memᴰ·cast, append-nil, append-assoc}
 use Prim.Native.Nat.{ℕ, zero, suc, _+_, _*_, _≤_, _<_}
-use native.Mathlib.Nat.{mul-suc, suc-mul}
+use native.Mathlib.Nat.{suc-mul}
 use native.Mathlib.Omega.{arith}
 use lib.ListN.{length, getD, take, drop, length-map, length-append, List·getD-append}
-use lib.Seq.{getD-append-add}
+use lib.Seq.{getD-append-add, take-append-seam}
 use Rattle.words.specs.Word.{width, Wf}
 use Rattle.sequence.specs.Refusals.{Decided}
 use Rattle.sequence.proofs.Refusals.{decided-unique}
@@ -18,14 +18,14 @@ use Rattle.session.specs.declared.file.ReadAnswer.{ReadAnswer}
 use Rattle.session.specs.declared.file.ReadAnswer.the-variants.{Parts as AllParts, Broken, Room}
 use Rattle.session.specs.declared.names.NamesAnswer.{NamesAnswer}
 use Rattle.session.specs.declared.names.NamesAnswer.the-variants.{Names, Broken as NamesBroken}
-use Rattle.session.specs.Format.{Session, Parts, fileBytes, Each, GoodSession, GoodUnary, GoodBinary, Good, GoodFile}
-use Rattle.session.specs.Offence.{Got, got, bad, wholeFile}
+use Rattle.session.specs.Numbers.{propositions}
+use Rattle.session.specs.Format.{Session, Parts, one, section, nameBytes, sessionBytes, fileBytes, Each, GoodName, GoodSession, GoodUnary, GoodBinary, Good, GoodFile}
+use Rattle.session.specs.Offence.{Got, got, bad, namesUpTo, wholeNames, wholeFile}
 use Rattle.session.specs.Data.{dataRows}
 use Rattle.session.specs.Reading.{Said, said, saidNames, namesSaid, Lent, lent, After, after, marksOf, lengthsOf, wordsOf, roomFor, readOf}
-use Rattle.session.specs.Inner.{AllUpTo, AllClear}
 use Rattle.session.proofs.Readers.{got-bad, got-value}
 use Rattle.session.proofs.Numbers.{Bytes}
-use Rattle.session.proofs.Whole.{passed-is-good, good-passes}
+use Rattle.session.proofs.Whole.{names-sound, names-complete, end-sound, end-complete, whole-run, run-whole, passed-is-good, good-passes}
 use Rattle.session.proofs.Positions.{length-all-words}
 use Rattle.session.proofs.DataLaws.{is-0, inside, roomy, block}
 
@@ -51,6 +51,30 @@ round-trip p g = good-passes (fileBytes p) p g refl
 -- so a good file has one reading
 pub one-reading : (p q : Parts) → Good p → Good q → fileBytes p ≡ fileBytes q → p ≡ q
 one-reading p q g h e = got-value (sym (good-passes (fileBytes q) p g e) ∙ round-trip q h)
+
+-- ---- a names section
+
+abbrev GoodNames : List (List ℕ) → Type 0
+GoodNames ns = (1 ≤ length ns) × (length ns ≤ propositions) × Each GoodName [] ns
+
+-- a byte string is a names section, with nothing after it, exactly where it is the bytes of good names
+pub names-accepts : (file : List ℕ) (ns : List (List ℕ)) → (wholeNames file ≡ got ns (length file)) ↔ (GoodNames ns × (section nameBytes ns ≡ file))
+names-accepts file ns = (
+  (λ e.
+      let t = end-sound file (namesUpTo propositions file 0) e in
+      let w = names-sound file propositions 0 (t .0) in
+      ((w .some, w .few, w .fits), run-whole file (section nameBytes ns) (w .spans))),
+  λ t.
+      let g = t .0 in
+      end-complete file (namesUpTo propositions file 0) ns (names-complete file propositions 0 ns (record { some = g .0; few = g .1; fits = g .2; spans = whole-run file (section nameBytes ns) (t .1) })),
+)
+
+-- "the caller hands the file's first bytes to print": as many as the reader answers are the names section of the same names
+pub front-is-names : (p : Parts) → Good p → wholeNames (take (length (section nameBytes (p .names))) (fileBytes p)) ≡ got (p .names) (length (section nameBytes (p .names)))
+front-is-names p g =
+    let front = section nameBytes (p .names) in
+    let e : take (length front) (fileBytes p) ≡ front = take-append-seam front (section sessionBytes (p .sessions) ++ (section one (p .unary) ++ (section one (p .binary) ++ section one (p .constants ∷ p .bound ∷ [])))) in
+    rw e (names-accepts front (p .names) .1 ((g .someNames, g .fewNames, g .names), refl))
 
 -- ---- what is handed out
 
@@ -178,5 +202,5 @@ pub names-unique : (file : List ℕ) (a b : NamesAnswer) → saidNames a ≡ nam
 names-unique file a b p q = names-one a b (p ∙ sym q)
 
 -- the tests of session data
-pub test-unique : (r m : ℕ) (marks lengths words : List ℕ) (j k : ℕ) → Decided (dataRows r m marks lengths words) j → Decided (dataRows r m marks lengths words) k → j ≡ k
-test-unique r m marks lengths words j k p q = decided-unique (dataRows r m marks lengths words) j k p q
+pub data-unique : (r m : ℕ) (marks lengths words : List ℕ) (j k : ℕ) → Decided (dataRows r m marks lengths words) j → Decided (dataRows r m marks lengths words) k → j ≡ k
+data-unique r m marks lengths words j k p q = decided-unique (dataRows r m marks lengths words) j k p q

@@ -1,10 +1,9 @@
 // The tests of session data that search and check share.
 use sequence::CharSeq;
-ghost use mathlib.Core.Path.{_≡_};
 ghost use mathlib.Core.Bool.{true};
-ghost use Prim.Native.Nat.{ℕ, _+_, _*_, _≤_, _<_};
-ghost use lib.ListN.{length, getD};
-ghost use Rattle.words.specs.Word.{width, At};
+ghost use Prim.Native.Nat.{_+_, _*_, _≤_, _<_};
+ghost use lib.ListN.{length};
+ghost use Rattle.words.specs.Word.{width};
 ghost use Rattle.sequence.specs.Refusals.{Decided};
 ghost use Rattle.session.specs.Data.{dataRows};
 ghost use Rattle.session.specs.Inner.{AllUpTo, Clear, AllClear};

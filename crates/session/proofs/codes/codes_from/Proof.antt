@@ -1,6 +1,6 @@
 -- `codes_from` meets its contract: a loop over codes that remembers those before.
 -- Assumes nothing.
-use Prim.Native.Nat.{ℕ, _+_, _-_}
+use Prim.Native.Nat.{_-_}
 use native.Mathlib.Omega.{arith}
 use Rattle.session.specs.Inner.{groupOf}
 use Rattle.session.proofs.Steps.{done}

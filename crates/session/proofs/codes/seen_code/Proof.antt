@@ -1,7 +1,6 @@
 -- `seen_code` meets its contract: a code is among those from i on just where it is among all.
 -- Assumes nothing.
-use Prim.Native.Nat.{ℕ, _+_, _-_}
-use native.Mathlib.Omega.{arith}
+use Prim.Native.Nat.{_-_}
 use Rattle.session.proofs.Walks.{Among, among-start, among-turn, among-here, among-end}
 use borrow.Author.Needs.{needs}
 use Rattle.session.proofs.codes.seen_code.Statement.{statement}

@@ -1,6 +1,6 @@
 -- `session_clear` meets its contract: a word that is not well formed has a bit at or above the length.
 -- Assumes nothing.
-use Prim.Native.Nat.{ℕ, _+_, _*_, _-_, _≤_, _<_}
+use Prim.Native.Nat.{ℕ, _+_, _-_, _≤_, _<_}
 use native.Mathlib.Omega.{arith}
 use mathlib.Core.Path.{sym, _∙_}
 use mathlib.Core.Bool.{true≢false}
@@ -41,14 +41,23 @@ loop-less : tie.Need-loop-less Inv-loop μ-loop
 loop-less c = search needs
 
 loop-again : tie.Need-loop-again Inv-loop μ-loop
-loop-again c = (omega arith, below-more (λ k. Wf (c .before .before .before .before .before .before .args .n) (getD (c .before .before .before .before .before .before .args .words .now) (c .before .before .before .before .before .before .args .from + k) 0)) _ (c .before .before .before .before .loop .inv .1) (c .before .is-well-formed .ensures .0 (c .if1 .taken)))
+loop-again c =
+    let at-is-well-formed = c .before in
+    let at-loop = at-is-well-formed .before .before .before in
+    let at-start = at-loop .before .before in
+    (omega arith, below-more (λ k. Wf (at-start .args .n) (getD (at-start .args .words .now) (at-start .args .from + k) 0)) _ (at-loop .loop .inv .1) (at-is-well-formed .is-well-formed .ensures .0 (c .if1 .taken)))
 
 returns : tie.Need-returns Inv-loop μ-loop
 returns c =
-    let a = c .before .before .before .before .before .before .args in
-    let p = c .before .before .before .before .loop .p in
-    ⊎-elim (λ t. (p, c .before .before .before .loop-test .taken, t .0, t .1, t .2)) (λ w. absurd (true≢false (sym (c .before .is-well-formed .ensures .1 w) ∙ c .if1 .left)))
-    (wf-or-above {n = a .n} {x = getD (a .words .now) (a .from + p) 0} (c .before .before .before .before .before .before .pre .0) (omega (arith, c .before .before .shared-slice-known2 .given (a .from + p))))
+    let at-is-well-formed = c .before in
+    let at-known = at-is-well-formed .before in
+    let in-loop = at-known .before in
+    let at-loop = in-loop .before in
+    let at-start = at-loop .before .before in
+    let a = at-start .args in
+    let p = at-loop .loop .p in
+    ⊎-elim (λ t. (p, in-loop .loop-test .taken, t .0, t .1, t .2)) (λ w. absurd (true≢false (sym (at-is-well-formed .is-well-formed .ensures .1 w) ∙ c .if1 .left)))
+    (wf-or-above {n = a .n} {x = getD (a .words .now) (a .from + p) 0} (at-start .pre .0) (omega (arith, at-known .shared-slice-known2 .given (a .from + p))))
 
 returns-2 : tie.Need-returns-2 Inv-loop μ-loop
 returns-2 c = λ k h. c .before .loop .inv .1 k (omega arith)

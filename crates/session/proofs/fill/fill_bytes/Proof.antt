@@ -1,6 +1,6 @@
 -- `fill_bytes` meets its contract: a loop of stores.
 -- Assumes nothing.
-use Prim.Native.Nat.{ℕ, _-_}
+use Prim.Native.Nat.{_-_}
 use native.Mathlib.Omega.{arith}
 use Rattle.session.proofs.Filling.{Strides, strides-start, strides-next, strides-turn, strides-end}
 use borrow.Author.Needs.{needs}

@@ -1,6 +1,6 @@
 -- `fill_session` meets its contract: a loop of stores.
 -- Assumes nothing.
-use Prim.Native.Nat.{ℕ, _-_}
+use Prim.Native.Nat.{_-_}
 use native.Mathlib.Omega.{arith}
 use Rattle.session.proofs.Filling.{Words, words-start, words-turn, words-end}
 use borrow.Author.Needs.{needs}

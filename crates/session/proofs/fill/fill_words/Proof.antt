@@ -1,6 +1,6 @@
 -- `fill_words` meets its contract: a loop of stores, m words a session.
 -- Assumes nothing.
-use Prim.Native.Nat.{ℕ, _-_}
+use Prim.Native.Nat.{_-_}
 use native.Mathlib.Omega.{arith}
 use Rattle.session.proofs.Filling.{Blocks, blocks-start, blocks-space, blocks-next, blocks-turn, blocks-end}
 use Rattle.session.proofs.fill.fill_words.Statement.{statement}

@@ -1,6 +1,5 @@
 -- `is_name_byte` meets its contract: each of its tests decides one part of the rule.
 -- Assumes nothing.
-use native.Mathlib.Omega.{arith}
 use borrow.Author.Tests.{le-leb, lt-leb, eq-eqb, ne-eqb}
 use mathlib.Core.Path.{sym, _∙_}
 use mathlib.Core.Bool.{or-true}

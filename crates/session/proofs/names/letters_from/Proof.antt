@@ -2,8 +2,6 @@
 -- Assumes nothing.
 use Prim.Native.Nat.{ℕ, _-_}
 use mathlib.Core.Path.{_≡_, sym, ap, _∙_}
-use lib.ListN.{length}
-use denote.Ref.{now}
 use Rattle.session.specs.Offence.{letter, byte}
 use Rattle.session.specs.Inner.{stepOf, fitsAt}
 use mathlib.Core.List.{List}

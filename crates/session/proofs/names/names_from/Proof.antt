@@ -1,6 +1,6 @@
 -- `names_from` meets its contract: a loop over names that remembers those before.
 -- Assumes nothing.
-use Prim.Native.Nat.{ℕ, _+_, _-_}
+use Prim.Native.Nat.{_-_}
 use native.Mathlib.Omega.{arith}
 use Rattle.session.proofs.Steps.{done}
 use Rattle.session.proofs.Turns.{Names, names-start, names-turn, names-broken}

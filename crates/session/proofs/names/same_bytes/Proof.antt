@@ -1,7 +1,6 @@
 -- `same_bytes` meets its contract: the runs from i on are the same just where the whole runs are.
 -- Assumes nothing.
-use Prim.Native.Nat.{ℕ, _+_, _-_}
-use native.Mathlib.Omega.{arith}
+use Prim.Native.Nat.{_-_}
 use Rattle.session.proofs.Walks.{Runs, runs-start, runs-turn, runs-differ, runs-end}
 use borrow.Author.Needs.{needs}
 use Rattle.session.proofs.names.same_bytes.Statement.{statement}

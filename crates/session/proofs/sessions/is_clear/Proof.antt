@@ -1,6 +1,5 @@
 -- `is_clear` meets its contract: a well-formed word of length n is one below 2 ^ n.
 -- Assumes nothing.
-use native.Mathlib.Omega.{arith}
 use Rattle.session.proofs.Numbers.{clear-is}
 use borrow.Author.Needs.{needs}
 use Rattle.session.proofs.sessions.is_clear.Statement.{statement}

@@ -1,6 +1,5 @@
 -- `session_at` meets its contract: mark, length and words.
 -- Assumes nothing.
-use native.Mathlib.Omega.{arith}
 use Rattle.session.proofs.Lists.{within-high}
 use Rattle.session.proofs.Readers.{byte-sound}
 use Rattle.session.proofs.Steps.{byte-read}
@@ -31,10 +30,20 @@ enum-known-mark-2 : tie.Need-enum-known-mark-2
 enum-known-mark-2 c = search needs
 
 returns : tie.Need-returns
-returns c = session-words _ _ _ _ (c .before .before .before .before .before .before .before .before .byte-within .ensures) (c .before .before .before .before .before .before .mark .given .1) _ (c .before .before .before .before .byte-within2 .ensures) (c .before .before .length .given .1) _ (c .words-from .ensures)
+returns c =
+    let at-length = c .before .before in
+    let at-byte-within2 = at-length .before .before in
+    let at-mark = at-byte-within2 .before .before in
+    let at-byte-within = at-mark .before .before in
+    session-words _ _ _ _ (at-byte-within .byte-within .ensures) (at-mark .mark .given .1) _ (at-byte-within2 .byte-within2 .ensures) (at-length .length .given .1) _ (c .words-from .ensures)
 
 returns-2 : tie.Need-returns-2
-returns-2 c = session-no-length _ _ _ _ (c .before .before .before .before .before .before .before .byte-within .ensures) (c .before .before .before .before .before .mark .given .1) _ (c .before .before .before .byte-within2 .ensures) (c .before .length2 .given .1)
+returns-2 c =
+    let at-length2 = c .before in
+    let at-byte-within2 = at-length2 .before .before in
+    let at-mark = at-byte-within2 .before .before in
+    let at-byte-within = at-mark .before .before in
+    session-no-length _ _ _ _ (at-byte-within .byte-within .ensures) (at-mark .mark .given .1) _ (at-byte-within2 .byte-within2 .ensures) (at-length2 .length2 .given .1)
 
 returns-3 : tie.Need-returns-3
 returns-3 c = session-no-mark _ _ _ _ (c .before .before .before .byte-within .ensures) (c .before .mark2 .given .1)

@@ -1,6 +1,6 @@
 -- `sessions_from` meets its contract: a loop over the sessions.
 -- Assumes nothing.
-use Prim.Native.Nat.{ℕ, _-_}
+use Prim.Native.Nat.{_-_}
 use Rattle.session.specs.Offence.{session}
 use Rattle.session.specs.Inner.{wordCount}
 use Rattle.session.proofs.Steps.{step-read, step-broken, Loop, start, turn, broken, done}

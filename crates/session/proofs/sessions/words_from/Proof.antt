@@ -1,6 +1,6 @@
 -- `words_from` meets its contract: a loop over the words of a session.
 -- Assumes nothing.
-use Prim.Native.Nat.{ℕ, _-_}
+use Prim.Native.Nat.{_-_}
 use Rattle.session.specs.Offence.{word}
 use Rattle.session.specs.Inner.{nothing}
 use Rattle.session.proofs.Steps.{step-read, step-broken, Loop, start, turn, broken, done}
