@@ -16,7 +16,7 @@ use Rattle.walk.specs.Formula.{_∈_}
 use Rattle.walk.specs.Walk.{Offer, Candidate, Placed, Ending, found, full, none, State, going, ended, kept, tried, each, ofSize, keepIf, leftSizes, orders, unaryOn, unaryCandidates, pairs, layer, consider, through, after, finish, walk, trail}
 use Rattle.walk.specs.Input.{offer}
 use Rattle.walk.specs.Cut.{Cut, more, over, settle, start, step, turn}
-use Rattle.walk.specs.Promises.{Decided, CutOf, TurnsAdd, CutResume}
+use Rattle.walk.specs.Promises.{Nth, Decided, CutOf, TurnsAdd, CutResume}
 use Rattle.walk.proofs.Members.{left-below}
 use Rattle.walk.proofs.Trees.{Lawful}
 use Rattle.walk.proofs.Layers.{layer-fits}
@@ -103,10 +103,46 @@ module _ {L U B Mat : Type 0} (O : Offer L U B Mat) where
         sym (foldl-append (consider O C) (after O C a) (take j cs) (take 1 (drop j cs)))
         ∙ ap (foldl (consider O C) (after O C a)) (sym (take-add j 1 cs) ∙ ap (λ (m : ℕ). take m cs) (let e : j + 1 ≡ suc j = omega arith in e))
 
+    -- those tried after the sizes up to a and j of the next
+    done : ℕ → ℕ → List (Candidate Mat)
+    done a j = trail O C a ++ take j (layer O (suc a) (kept (after O C a)))
+
+    through-done : (a j : ℕ) → foldl (consider O C) (going [] 0) (done a j) ≡ within a j
+    unfolding done
+    through-done a j =
+        foldl-append (consider O C) (going [] 0) (trail O C a) (take j (layer O (suc a) (kept (after O C a))))
+        ∙ ap (λ (st : State Mat). foldl (consider O C) st (take j (layer O (suc a) (kept (after O C a))))) (sym (after-trail O C a))
+
+    -- ---- no more are tried than there were
+
+    nth-le : (cs : List (Candidate Mat)) (p : ℕ) (c : Candidate Mat) → Nth (O .agrees) cs p c → p ≤ length cs
+    nth-le cs p c z = omega (arith, z .position, ap length (z .split), length-append (z .before) (c ∷ z .behind))
+
+    decided-le : (cs : List (Candidate Mat)) (e : Ending) (p : ℕ) → Decided (O .agrees) cs e p → p ≤ length cs
+    decided-le cs (found root) p z = nth-le cs p (z .0) (z .1)
+    decided-le cs (full s) p z = nth-le cs p (z .0) (z .1)
+    decided-le cs none p z = omega arith
+
+    counts-le : (m : ℕ) (cs : List (Candidate Mat)) (st : State Mat) → Counts O C m cs st → tried st ≤ m + length cs
+    counts-le m cs (going k n) w = omega (arith, w .0)
+    counts-le m cs (ended e k n) w = omega (arith, w .1, decided-le cs e (w .0) (w .2))
+
+    after-le : (a : ℕ) → tried (after O C a) ≤ length (trail O C a)
+    after-le a =
+        let w = counts-le 0 (trail O C a) (after O C a) (subst (Counts O C 0 (trail O C a)) (sym (after-trail O C a)) (counts O C (trail O C a) [] 0)) in
+        omega arith
+
+    within-le : (a j : ℕ) → tried (within a j) ≤ length (trail O C a) + j
+    unfolding done
+    within-le a j =
+        let cs = take j (layer O (suc a) (kept (after O C a))) in
+        let w = counts-le 0 (done a j) (within a j) (subst (Counts O C 0 (done a j)) (through-done a j) (counts O C (done a j) [] 0)) in
+        omega (arith, length-append (trail O C a) cs, length-take j (layer O (suc a) (kept (after O C a))))
+
     module _ (b : ℕ) where
-      -- a cut walk after n candidates
+      -- a cut walk after n candidates, or after fewer where the walk ended
       abbrev Here : ℕ → Cut Mat → Type 0
-      Here n (over e k m) = walk O C b ≡ ended e k m
+      Here n (over e k m) = (walk O C b ≡ ended e k m) × (m ≤ n)
       Here n (more s j k m) =
           (a : ℕ) × (s ≡ suc a) × (a < b) × (within a j ≡ going k m)
           × (j < length (layer O (suc a) (kept (after O C a)))) × (n ≡ length (trail O C a) + j)
@@ -129,8 +165,8 @@ module _ {L U B Mat : Type 0} (O : Offer L U B Mat) where
       begins zero a e n h = go (after O C a) refl
         where
           go : (st : State Mat) → after O C a ≡ st → Here n (settle O C b zero (suc a) 0 st)
-          go (going k m) q = none-here a (omega arith) k m q
-          go (ended e′ k m) q = over-here a (omega arith) e′ k m q
+          go (going k m) q = (none-here a (omega arith) k m q, omega (arith, after-le a, ap tried q))
+          go (ended e′ k m) q = (over-here a (omega arith) e′ k m q, omega (arith, after-le a, ap tried q))
       begins (suc d) a e n h = go (after O C a) refl (λ g. begins d (suc a) (omega arith) n g)
         where
           empty : length (layer O (suc a) (kept (after O C a))) ≤ 0 → after O C (suc a) ≡ after O C a
@@ -138,7 +174,7 @@ module _ {L U B Mat : Type 0} (O : Offer L U B Mat) where
 
           go : (st : State Mat) → after O C a ≡ st
               → (n ≡ length (trail O C (suc a)) → Here n (settle O C b d (suc (suc a)) 0 (after O C (suc a)))) → Here n (settle O C b (suc d) (suc a) 0 st)
-          go (ended e′ k m) q r = over-here a (omega arith) e′ k m q
+          go (ended e′ k m) q r = (over-here a (omega arith) e′ k m q, omega (arith, after-le a, ap tried q))
           go (going k m) q r = pick (ltb 0 (length (layer O (suc a) k))) refl
             where
               same : length (layer O (suc a) k) ≡ length (layer O (suc a) (kept (after O C a)))
@@ -157,11 +193,13 @@ module _ {L U B Mat : Type 0} (O : Offer L U B Mat) where
       goes d a e j n le h = go (within a j) refl
         where
           go : (st : State Mat) → within a j ≡ st → Here n (settle O C b (suc d) (suc a) j st)
-          go (ended e′ k m) q =
-              over-here (suc a) (omega arith) e′ k m
-              (sym (within-rest a j)
-              ∙ ap (λ (st : State Mat). foldl (consider O C) st (drop j (layer O (suc a) (kept (after O C a))))) q
-              ∙ stays O C e′ k m (drop j (layer O (suc a) (kept (after O C a)))))
+          go (ended e′ k m) q = (
+            over-here (suc a) (omega arith) e′ k m
+                (sym (within-rest a j)
+                ∙ ap (λ (st : State Mat). foldl (consider O C) st (drop j (layer O (suc a) (kept (after O C a))))) q
+                ∙ stays O C e′ k m (drop j (layer O (suc a) (kept (after O C a))))),
+            omega (arith, within-le a j, ap tried q),
+          )
           go (going k m) q = pick (ltb j (length (layer O (suc a) k))) refl
             where
               same : length (layer O (suc a) k) ≡ length (layer O (suc a) (kept (after O C a)))
@@ -180,7 +218,7 @@ module _ {L U B Mat : Type 0} (O : Offer L U B Mat) where
 
       steps : (n : ℕ) (c : Cut Mat) → Here n c → Here (suc n) (step O C b c)
       unfolding step
-      steps n (over e k m) h = h
+      steps n (over e k m) (h, le) = (h, omega arith)
       steps n (more s j k m) (a, es, la, q, lj, en) =
           subst (λ (s : ℕ). Here (suc n) (settle O C b (suc b - s) s (suc j) (foldl (consider O C) (going k m) (take 1 (drop j (layer O s k))))))
           (sym es)
@@ -222,10 +260,6 @@ module _ {L U B Mat : Type 0} (O : Offer L U B Mat) where
           ))
           (eq-or-lt-of-le h)
 
-      -- those tried after the sizes up to a and j of the next, and those not tried by then
-      done : ℕ → ℕ → List (Candidate Mat)
-      done a j = trail O C a ++ take j (layer O (suc a) (kept (after O C a)))
-
       trail-cut : (a j : ℕ) → suc a ≤ b → (rest : List (Candidate Mat)) × (trail O C b ≡ done a j ++ (drop j (layer O (suc a) (kept (after O C a))) ++ rest))
       unfolding trail done
       trail-cut a j h =
@@ -239,12 +273,6 @@ module _ {L U B Mat : Type 0} (O : Offer L U B Mat) where
       length-done : (a j : ℕ) → j ≤ length (layer O (suc a) (kept (after O C a))) → length (done a j) ≡ length (trail O C a) + j
       unfolding done
       length-done a j h = simp (length-append, length-take) (omega arith)
-
-      through-done : (a j : ℕ) → foldl (consider O C) (going [] 0) (done a j) ≡ within a j
-      unfolding done
-      through-done a j =
-          foldl-append (consider O C) (going [] 0) (trail O C a) (take j (layer O (suc a) (kept (after O C a))))
-          ∙ ap (λ (st : State Mat). foldl (consider O C) st (take j (layer O (suc a) (kept (after O C a))))) (sym (after-trail O C a))
 
       tried-finish : (st : State Mat) → tried (finish st) ≡ tried st
       unfolding finish
@@ -264,8 +292,9 @@ module _ {L U B Mat : Type 0} (O : Offer L U B Mat) where
           go (going k′ n) w = omega (arith, w .0)
           go (ended e k′ n) w = omega (arith, w .1, some e (w .0) (w .2) (w .3))
 
+      -- `CutOf` of any offer, not only an input's
       abbrev pub CutAt : ℕ → Cut Mat → Type 0
-      CutAt n (over e k m) = walk O C b ≡ ended e k m
+      CutAt n (over e k m) = (walk O C b ≡ ended e k m) × (m ≤ n)
       CutAt n (more s j k m) =
           (m ≡ n) × (n < tried (walk O C b)) × (foldl (consider O C) (going [] 0) (take n (trail O C b)) ≡ going k m)
 
