@@ -3,7 +3,7 @@
 -- Assumes nothing.
 use mathlib.Core.Path.{_≡_}
 use mathlib.Core.Logic.{_↔_, _⊎_}
-use mathlib.Core.Bool.{Bool, false}
+use mathlib.Core.Bool.{Bool, true, false}
 use mathlib.Core.List.{List, [], _∷_, _++_, map, foldl}
 use Prim.Native.Nat.{ℕ, suc, _+_, _≤_, _<_}
 use lib.ListN.{length, take}
@@ -145,15 +145,22 @@ pub record Nth {Mat : Type 0} (agrees : Mat → Bool) (cs : List (Candidate Mat)
   pub position : suc (length before) ≡ n
   pub passed : (d : Candidate Mat) → d ∈ before → agrees (d .matrix) ≡ false
 
--- "the number of candidates tried, up to and including the deciding one"
-abbrev pub Decided : {Mat : Type 0} → (Mat → Bool) → List (Candidate Mat) → Ending → ℕ → Type 0
-Decided {Mat} agrees cs (found root) n = (c : Candidate Mat) × Nth agrees cs n c × (c .node ≡ root)
-Decided {Mat} agrees cs (full s) n = (c : Candidate Mat) × Nth agrees cs n c × (c .node .size ≡ s)
-Decided agrees cs none n = length cs ≡ n
+-- one of the list has that matrix
+abbrev pub Has : {Mat : Type 0} → List (Candidate Mat) → Mat → Type 0
+Has {Mat} k x = (u : Candidate Mat) × (u ∈ k) × (u .matrix ≡ x)
+
+-- "the number of candidates tried, up to and including the deciding one", where k is what is kept at the end: at FOUND the deciding one is
+-- the first that agrees with the marks; at FULL the first whose matrix none of those kept has, and it does not agree with the marks
+abbrev pub DecidedAt : {Mat : Type 0} → (Mat → Bool) → List (Candidate Mat) → Ending → List (Candidate Mat) → ℕ → Type 0
+DecidedAt {Mat} agrees cs (found root) k n = (c : Candidate Mat) × (w : Nth agrees cs n c) × (c .node ≡ root) × (agrees (c .matrix) ≡ true)
+DecidedAt {Mat} agrees cs (full s) k n =
+    (c : Candidate Mat) × (w : Nth agrees cs n c) × (c .node .size ≡ s) × (agrees (c .matrix) ≡ false)
+    × ((d : Candidate Mat) → d ∈ w .before → Has k (d .matrix)) × (Has k (c .matrix) → ⊥)
+DecidedAt agrees cs none k n = length cs ≡ n
 
 abbrev pub TriedIsPosition : Type 0
 TriedIsPosition = (i : Input) (e : Ending) (k : Table) (n : ℕ) → search i ≡ ended e k n
-    → Decided (separating i) (trail (offer i) (i .room) (i .bound)) e n
+    → DecidedAt (separating i) (trail (offer i) (i .room) (i .bound)) e k n
 
 abbrev pub KeptDistinct : Type 0
 KeptDistinct = (i : Input) → Passes i → (e : Ending) (k : Table) (n : ℕ) → search i ≡ ended e k n → Kept i k
