@@ -4,7 +4,7 @@
 use mathlib.Core.Path.{_≡_, refl, sym, ap, ap₂, _∙_, subst}
 use mathlib.Core.Logic.{_⊎_, ⊎-elim}
 use mathlib.Core.Bool.{Bool, true, false, cond}
-use mathlib.Core.List.{List, [], _∷_, _++_, map, foldl, foldl-append, append-nil, append-assoc, List·Memᴰ·head, List·Memᴰ·tail, List·Memᴰ·not-nil, Memᴰ·append-left}
+use mathlib.Core.List.{List, [], _∷_, _++_, map, foldl, foldl-append, append-nil, append-assoc, List·Memᴰ·head, List·Memᴰ·tail, Memᴰ·append-left}
 use Prim.Native.Nat.{ℕ, zero, suc, _+_, _-_, _≤_, _<_}
 use native.Mathlib.Omega.{arith}
 use native.Mathlib.Nat.{eq-or-lt-of-le}
@@ -20,7 +20,7 @@ use Rattle.walk.specs.Promises.{Nth, DecidedAt, CutOf, TurnsAdd, CutResu
 use Rattle.walk.proofs.Members.{left-below}
 use Rattle.walk.proofs.Trees.{Lawful}
 use Rattle.walk.proofs.Layers.{layer-fits}
-use Rattle.walk.proofs.Pass.{stays, Grows, grown}
+use Rattle.walk.proofs.Pass.{stays, grown}
 use Rattle.walk.proofs.Steady.{after-later}
 use Rattle.walk.proofs.Position.{Counts, counts, after-trail}
 use Rattle.walk.proofs.Reading.{lawful}

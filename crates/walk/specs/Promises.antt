@@ -1,16 +1,19 @@
 -- What is promised of every answer of the walk, for every input that passes the checks. Each is proved under its name, in proofs/: found-smallest
--- and so on (Promises), larger-bound-same (Steady), tried-is-position (Position), cut-resume (Resume), row-means (Reading), one-formula (Nodes).
+-- and so on (Promises), larger-bound-same (Steady), tried-is-position (Position), cut-resume (Resume), row-means (Reading),
+-- unary-only and binary-only (Rows), same-where-read (Same), one-formula (Nodes).
 -- Assumes nothing.
 use mathlib.Core.Path.{_≡_}
 use mathlib.Core.Logic.{_↔_, _⊎_}
 use mathlib.Core.Bool.{Bool, true, false}
 use mathlib.Core.List.{List, [], _∷_, _++_, map, foldl}
-use Prim.Native.Nat.{ℕ, suc, _+_, _≤_, _<_}
-use lib.ListN.{length, take}
-use Rattle.words.specs.Word.{Means}
+use Prim.Native.Nat.{ℕ, suc, _+_, _*_, _≤_, _<_}
+use lib.ListN.{length, take, getD}
+use Rattle.words.specs.Word.{At, Means}
+use Rattle.sequence.specs.Operators.{Unary, Binary, unaryReading, binaryReading}
 use Rattle.walk.specs.Formula.{Formula, size, Holds, Separates, Offered, _∈_}
 use Rattle.walk.specs.Nodes.{Node, Spells, codes}
 use Rattle.walk.specs.Walk.{Candidate, Ending, found, full, none, going, ended, tried, matrix, leftSizes, consider, trail}
+use Rattle.walk.specs.Rows.{unaryRow, binaryRow}
 use Rattle.walk.specs.Input.{Input, Passes, session, sessions, language, lengthOf, row, separating, offer, search}
 use Rattle.walk.specs.Cut.{Cut, more, over, start, turn}
 
@@ -88,6 +91,13 @@ abbrev pub RowMeans : Type 0
 RowMeans = (i : Input) → Passes i → (t : Formula) → Offered (language i) t → (j : ℕ) → j < i .sessions
     → Means (lengthOf i j) (row (matrix (offer i) t) j) (Holds (session i j .trace) t)
 
+-- an operator's row is the only word with that meaning, so the operators' contracts, which say what the word means, fix the same word
+abbrev pub UnaryRowOnly : Type 0
+UnaryRowOnly = (op : Unary) (n r x : ℕ) → Means n r (unaryReading op n (At x)) → r ≡ unaryRow op n x
+
+abbrev pub BinaryRowOnly : Type 0
+BinaryRowOnly = (op : Binary) (n r x y : ℕ) → Means n r (binaryReading op n (At x) (At y)) → r ≡ binaryRow op n x y
+
 -- ---- "The answer's formula is its root node over that list": there is no other
 
 abbrev pub OneFormula : Type 0
@@ -134,6 +144,23 @@ LargerRoomSame = (i : Input) (c : ℕ) → i .room ≤ c
 abbrev pub FoundStays : Type 0
 FoundStays = (i : Input) (b c : ℕ) → i .bound ≤ b → i .room ≤ c → (root : Node) (k : Table) (n : ℕ)
     → search i ≡ ended (found root) k n → search (again i b c) ≡ ended (found root) k n
+
+-- the two inputs agree where they are looked at: of marks, lengths and words below r, r and m x r
+pub record AgreeWhereRead (i j : Input) : Type 0 where
+  pub sessions : i .sessions ≡ j .sessions
+  pub propositions : i .propositions ≡ j .propositions
+  pub bound : i .bound ≡ j .bound
+  pub room : i .room ≡ j .room
+  pub constants : i .constants ≡ j .constants
+  pub unary : i .unary ≡ j .unary
+  pub binary : i .binary ≡ j .binary
+  pub marks : (p : ℕ) → p < i .sessions → getD (i .marks) p 0 ≡ getD (j .marks) p 0
+  pub lengths : (p : ℕ) → p < i .sessions → getD (i .lengths) p 0 ≡ getD (j .lengths) p 0
+  pub words : (p : ℕ) → p < i .propositions * i .sessions → getD (i .words) p 0 ≡ getD (j .words) p 0
+
+-- so "the same sessions" are the same where they are looked at, whatever lies beyond
+abbrev pub SameWhereRead : Type 0
+SameWhereRead = (i j : Input) → AgreeWhereRead i j → search i ≡ search j
 
 -- ---- (5): the count, the kept formulas, the end
 
