@@ -184,7 +184,7 @@ s4-found : search (s4 0 3) ≡ ended (found (node 16 0 0 1)) [] 1
 unfolding each count ofSize leftSizes finish orders unaryCandidates pairs layer known judge consider through after walk word someOf allOf unaryRow binaryRow constantRow sameRows every separating bit
 s4-found = refl
 
--- ---- constants: "propositions in order, then, if constants are asked for, false, then true", and after them `X` and `G` in the given order
+-- ---- constants: "propositions in order, then, if constants are asked for, false, then true", and after them `G` and `X`, in the given order
 
 abbrev asked : Input
 asked = record {
@@ -205,7 +205,7 @@ asked-none : search asked ≡ ended none
 unfolding each count ofSize leftSizes finish orders unaryCandidates pairs layer known judge consider through after walk word someOf allOf unaryRow binaryRow constantRow sameRows every separating bit
 asked-none = refl
 
--- ---- the order of the loops: with two of them exchanged the answer is another
+-- ---- the order of the loops over the left formulas, the right ones and the operators: with two of them exchanged the answer is another
 
 abbrev nested : Input
 nested = record {
@@ -225,6 +225,47 @@ nested-found : search nested ≡ ended (found (node 9 0 4 4))
     (at 16 0 0 1 (2 ∷ 3 ∷ []) ∷ at 16 1 0 1 (0 ∷ 1 ∷ []) ∷ at 2 0 0 2 (1 ∷ 1 ∷ []) ∷ at 1 0 0 2 (3 ∷ 3 ∷ []) ∷ at 2 1 0 2 (0 ∷ 0 ∷ []) ∷ at 1 1 0 2 (2 ∷ 2 ∷ []) ∷ []) 34
 unfolding each count ofSize leftSizes finish orders unaryCandidates pairs layer known judge consider through after walk word someOf allOf unaryRow binaryRow constantRow sameRows every separating bit
 nested-found = refl
+
+-- ---- the left sizes rise, and an operator that commutes has the left formula in its left field: with the sizes falling, or the fields
+-- exchanged, the answer is another
+
+abbrev rising : Input
+rising = record {
+  sessions = 3;
+  propositions = 1;
+  bound = 5;
+  room = 40;
+  constants = 0;
+  marks = 0 ∷ 0 ∷ 1 ∷ [];
+  lengths = 3 ∷ 3 ∷ 3 ∷ [];
+  words = 4 ∷ 3 ∷ 0 ∷ [];
+  unary = 3 ∷ 4 ∷ [];
+  binary = 10 ∷ [];
+}
+
+rising-found : brief (search rising) ≡ 1 ∷ 10 ∷ 0 ∷ 3 ∷ 5 ∷ 19 ∷ 7 ∷ []
+unfolding each count ofSize leftSizes finish orders unaryCandidates pairs layer known judge consider through after walk word someOf allOf unaryRow binaryRow constantRow sameRows every separating bit
+rising-found = refl
+
+-- ---- FOUND before FULL: one place, which the first proposition takes, and the second, which separates, needs none
+
+abbrev narrow : Input
+narrow = record {
+  sessions = 1;
+  propositions = 2;
+  bound = 1;
+  room = 1;
+  constants = 0;
+  marks = 1 ∷ [];
+  lengths = 1 ∷ [];
+  words = 0 ∷ 1 ∷ [];
+  unary = [];
+  binary = [];
+}
+
+narrow-found : search narrow ≡ ended (found (node 16 1 0 1)) (at 16 0 0 1 (0 ∷ []) ∷ []) 2
+unfolding each count ofSize leftSizes finish orders unaryCandidates pairs layer known judge consider through after walk word someOf allOf unaryRow binaryRow constantRow sameRows every separating bit
+narrow-found = refl
 
 -- ---- larger runs
 

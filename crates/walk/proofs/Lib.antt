@@ -12,4 +12,5 @@ pub mod Promises
 pub mod Steady
 pub mod Position
 pub mod Resume
+pub mod Same
 pub mod Examples

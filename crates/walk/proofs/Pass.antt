@@ -21,7 +21,7 @@ module _ {L U B Mat : Type 0} (O : Offer L U B Mat) where
   Rejected c = O .agrees (c .matrix) ≡ false
 
   module _ (Z : Lawful O) where
-    known-true : (x : Mat) (k : List (Candidate Mat)) → known O x k ≡ true → (c : Candidate Mat) × (c ∈ k) × (c .matrix ≡ x)
+    pub known-true : (x : Mat) (k : List (Candidate Mat)) → known O x k ≡ true → (c : Candidate Mat) × (c ∈ k) × (c .matrix ≡ x)
     unfolding known
     known-true x [] e = absurd (true≢false (sym e))
     known-true x (d ∷ k) e = go (O .same x (d .matrix)) refl e (λ h. known-true x k h)
@@ -31,7 +31,7 @@ module _ {L U B Mat : Type 0} (O : Offer L U B Mat) where
         go true w h r = (d, List·Memᴰ·head refl, sym (Z .same-true x (d .matrix) w))
         go false w h r = let v = r h in (v .0, List·Memᴰ·tail (v .1), v .2)
 
-    known-false : (x : Mat) (k : List (Candidate Mat)) → known O x k ≡ false → (c : Candidate Mat) → c ∈ k → c .matrix ≡ x → ⊥
+    pub known-false : (x : Mat) (k : List (Candidate Mat)) → known O x k ≡ false → (c : Candidate Mat) → c ∈ k → c .matrix ≡ x → ⊥
     unfolding known
     known-false x [] e c m q = List·Memᴰ·not-nil m
     known-false x (d ∷ k) e c m q = go (O .same x (d .matrix)) refl e (λ h m′. known-false x k h c m′ q) (List·Memᴰ·cases-cons m)
@@ -178,6 +178,17 @@ module _ {L U B Mat : Type 0} (O : Offer L U B Mat) where
       pass [] k n = (grows-same k [], λ c m. absurd (List·Memᴰ·not-nil m))
       pass (c ∷ cs) k n =
           pass-step c cs k (suc n) (λ k₁ m. pass cs k₁ m) _ refl _ refl _ refl
+
+      -- from any state
+      pub grown : (cs : List (Candidate Mat)) (st : State Mat) → Grows (kept st) cs (kept (foldl (consider O C) st cs))
+      grown cs (going k n) = go (foldl (consider O C) (going k n) cs) (pass cs k n)
+        where
+          go : (st : State Mat) → Pass k cs st → Grows k cs (kept st)
+          go (going k′ n′) p = p .0
+          go (ended e k′ n′) p = p .0
+      grown cs (ended e k n) =
+          subst (λ (st : State Mat). Grows k cs (kept st)) (sym (stays e k n cs))
+          (grows-same k cs)
 
     -- ---- what each candidate preserves: there is room for those kept, and no two have one matrix
 

@@ -1,4 +1,5 @@
 -- The kept formulas of a size stand side by side, so a size's candidates are what loops over ranges of places go through.
+-- Crate `search` uses it, whose loops are such.
 -- Assumes nothing.
 use mathlib.Core.Path.{_≡_, refl, sym, ap, ap₂, _∙_, fun-ext}
 use mathlib.Core.Logic.{_≢_}

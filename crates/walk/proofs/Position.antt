@@ -3,7 +3,7 @@
 use mathlib.Core.Path.{_≡_, refl, sym, ap, _∙_, subst}
 use mathlib.Core.Logic.{_⊎_, ⊎-elim}
 use mathlib.Core.Bool.{Bool, true, false}
-use mathlib.Core.List.{List, [], _∷_, _++_, foldl, foldl-append, List·Memᴰ·not-nil, List·Memᴰ·cases-cons}
+use mathlib.Core.List.{List, [], _∷_, _++_, foldl, foldl-append, List·Memᴰ·head, List·Memᴰ·not-nil, List·Memᴰ·cases-cons, Memᴰ·append-right}
 use Prim.Native.Nat.{ℕ, zero, suc, _+_}
 use native.Mathlib.Omega.{arith}
 use lib.ListN.{length}
@@ -11,14 +11,16 @@ use lib.Dec.{leb}
 use Rattle.walk.specs.Formula.{_∈_}
 use Rattle.walk.specs.Walk.{Offer, Candidate, Ending, found, full, none, State, going, ended, kept, known, judge, layer, consider, through, after, finish, walk, trail}
 use Rattle.walk.specs.Input.{offer}
-use Rattle.walk.specs.Promises.{Nth, Decided, TriedIsPosition}
-use Rattle.walk.proofs.Pass.{Rejected, stays}
+use Rattle.walk.specs.Promises.{Nth, Has, DecidedAt, TriedIsPosition}
+use Rattle.walk.proofs.Trees.{Lawful}
+use Rattle.walk.proofs.Pass.{Rejected, known-true, known-false, grows-keeps, stays, grown}
+use Rattle.walk.proofs.Reading.{lawful}
 
 module _ {L U B Mat : Type 0} (O : Offer L U B Mat) (C : ℕ) where
   -- from m tried on: all of cs were tried, or the deciding one is among them
   abbrev pub Counts : ℕ → List (Candidate Mat) → State Mat → Type 0
   Counts m cs (going k n) = (n ≡ m + length cs) × ((d : Candidate Mat) → d ∈ cs → Rejected O d)
-  Counts m cs (ended e k n) = (p : ℕ) × (n ≡ m + p) × Decided (O .agrees) cs e p × (e ≡ none → ⊥)
+  Counts m cs (ended e k n) = (p : ℕ) × (n ≡ m + p) × DecidedAt (O .agrees) cs e k p × (e ≡ none → ⊥)
 
   -- the deciding one of cs is one later of c ∷ cs
   nth-on : (c : Candidate Mat) (cs : List (Candidate Mat)) (p : ℕ) (x : Candidate Mat) → Rejected O c → Nth (O .agrees) cs p x → Nth (O .agrees) (c ∷ cs) (suc p) x
@@ -30,39 +32,63 @@ module _ {L U B Mat : Type 0} (O : Offer L U B Mat) (C : ℕ) where
     passed = λ d m. ⊎-elim (λ e. ap (λ (a : Candidate Mat). O .agrees (a .matrix)) e ∙ r) (λ h. z .passed d h) (List·Memᴰ·cases-cons m);
   }
 
-  decided-on : (c : Candidate Mat) (cs : List (Candidate Mat)) (e : Ending) (p : ℕ) → Rejected O c → Decided (O .agrees) cs e p → Decided (O .agrees) (c ∷ cs) e (suc p)
-  decided-on c cs (found root) p r z = (z .0, nth-on c cs p (z .0) r (z .1), z .2)
-  decided-on c cs (full s) p r z = (z .0, nth-on c cs p (z .0) r (z .1), z .2)
-  decided-on c cs none p r z = ap suc z
-
-  counts-on : (c : Candidate Mat) (cs : List (Candidate Mat)) (m : ℕ) (st : State Mat) → Rejected O c → Counts (suc m) cs st → Counts m (c ∷ cs) st
-  counts-on c cs m (going k n) r w = (
-    omega (arith, w .0),
-    λ d h. ⊎-elim (λ e. ap (λ (a : Candidate Mat). O .agrees (a .matrix)) e ∙ r) (λ h′. w .1 d h′) (List·Memᴰ·cases-cons h),
+  decided-on : (c : Candidate Mat) (cs : List (Candidate Mat)) (e : Ending) (k : List (Candidate Mat)) (p : ℕ) → Rejected O c → Has k (c .matrix)
+      → DecidedAt (O .agrees) cs e k p → DecidedAt (O .agrees) (c ∷ cs) e k (suc p)
+  unfolding nth-on
+  decided-on c cs (found root) k p r h z = (z .0, nth-on c cs p (z .0) r (z .1), z .2, z .3)
+  decided-on c cs (full s) k p r h z = (
+    z .0,
+    nth-on c cs p (z .0) r (z .1),
+    z .2,
+    z .3,
+    λ d m. ⊎-elim (λ e. subst (λ (a : Candidate Mat). Has k (a .matrix)) (sym e) h) (λ m′. z .4 d m′) (List·Memᴰ·cases-cons m),
+    z .5,
   )
-  counts-on c cs m (ended e k n) r w = (suc (w .0), omega (arith, w .1), decided-on c cs e (w .0) r (w .2), w .3)
+  decided-on c cs none k p r h z = ap suc z
+
+  counts-on : (c : Candidate Mat) (cs : List (Candidate Mat)) (m : ℕ) (st : State Mat) → Rejected O c → Has (kept st) (c .matrix)
+      → Counts (suc m) cs st → Counts m (c ∷ cs) st
+  counts-on c cs m (going k n) r h w = (
+    omega (arith, w .0),
+    λ d m. ⊎-elim (λ e. ap (λ (a : Candidate Mat). O .agrees (a .matrix)) e ∙ r) (λ m′. w .1 d m′) (List·Memᴰ·cases-cons m),
+  )
+  counts-on c cs m (ended e k n) r h w = (suc (w .0), omega (arith, w .1), decided-on c cs e k (w .0) r h (w .2), w .3)
 
   -- the first of the list decides
   at-once : (c : Candidate Mat) (cs : List (Candidate Mat)) → Nth (O .agrees) (c ∷ cs) 1 c
   at-once c cs = record { before = []; behind = cs; split = refl; position = refl; passed = λ d m. absurd (List·Memᴰ·not-nil m) }
 
-  counts-step : (c : Candidate Mat) (cs k : List (Candidate Mat)) (m : ℕ)
-      → ((k₁ : List (Candidate Mat)) → Counts (suc m) cs (foldl (consider O C) (going k₁ (suc m)) cs))
-      → (a : Bool) → O .agrees (c .matrix) ≡ a → (b r : Bool) → Counts m (c ∷ cs) (foldl (consider O C) (judge O a b r c k (suc m)) cs)
-  unfolding judge
-  counts-step c cs k m go true ea b r =
-      rw stays (1, omega arith, (c, at-once c cs, refl), λ q. let v : _≡_ {A = ℕ} 0 1 = cc in omega arith)
-  counts-step c cs k m go false ea true r = counts-on c cs m (foldl (consider O C) (going k (suc m)) cs) ea (go k)
-  counts-step c cs k m go false ea false true =
-      rw stays (1, omega arith, (c, at-once c cs, refl), λ q. let v : _≡_ {A = ℕ} 0 1 = cc in omega arith)
-  counts-step c cs k m go false ea false false =
-      counts-on c cs m (foldl (consider O C) (going (k ++ (c ∷ [])) (suc m)) cs) ea (go (k ++ (c ∷ [])))
+  module _ (Z : Lawful O) where
+    -- what was kept stays so
+    has-on : (cs : List (Candidate Mat)) (k : List (Candidate Mat)) (n : ℕ) (x : Mat) → Has k x → Has (kept (foldl (consider O C) (going k n) cs)) x
+    has-on cs k n x h = (h .0, grows-keeps O (grown O C Z cs (going k n)) (h .0) (h .1), h .2)
 
-  pub counts : (cs k : List (Candidate Mat)) (m : ℕ) → Counts m cs (foldl (consider O C) (going k m) cs)
-  unfolding consider
-  counts [] k m = (omega arith, λ d h. absurd (List·Memᴰ·not-nil h))
-  counts (c ∷ cs) k m =
-      counts-step c cs k m (λ k₁. counts cs k₁ (suc m)) (O .agrees (c .matrix)) refl (known O (c .matrix) k) (leb C (length k))
+    counts-step : (c : Candidate Mat) (cs k : List (Candidate Mat)) (m : ℕ)
+        → ((k₁ : List (Candidate Mat)) → Counts (suc m) cs (foldl (consider O C) (going k₁ (suc m)) cs))
+        → (a : Bool) → O .agrees (c .matrix) ≡ a → (b : Bool) → known O (c .matrix) k ≡ b → (r : Bool)
+        → Counts m (c ∷ cs) (foldl (consider O C) (judge O a b r c k (suc m)) cs)
+    unfolding judge at-once
+    counts-step c cs k m go true ea b eb r =
+        rw stays (1, omega arith, (c, at-once c cs, refl, ea), λ q. let v : _≡_ {A = ℕ} 0 1 = cc in omega arith)
+    counts-step c cs k m go false ea true eb r =
+        counts-on c cs m (foldl (consider O C) (going k (suc m)) cs) ea
+        (has-on cs k (suc m) (c .matrix) (known-true O Z (c .matrix) k eb)) (go k)
+    counts-step c cs k m go false ea false eb true =
+        rw stays (
+          1,
+          omega arith,
+          (c, at-once c cs, refl, ea, λ d h. absurd (List·Memᴰ·not-nil h), λ h. known-false O Z (c .matrix) k eb (h .0) (h .1) (h .2)),
+          λ q. let v : _≡_ {A = ℕ} 0 1 = cc in omega arith,
+        )
+    counts-step c cs k m go false ea false eb false =
+        counts-on c cs m (foldl (consider O C) (going (k ++ (c ∷ [])) (suc m)) cs) ea
+        (has-on cs (k ++ (c ∷ [])) (suc m) (c .matrix) (c, Memᴰ·append-right k (List·Memᴰ·head refl), refl)) (go (k ++ (c ∷ [])))
+
+    pub counts : (cs k : List (Candidate Mat)) (m : ℕ) → Counts m cs (foldl (consider O C) (going k m) cs)
+    unfolding consider
+    counts [] k m = (omega arith, λ d h. absurd (List·Memᴰ·not-nil h))
+    counts (c ∷ cs) k m =
+        counts-step c cs k m (λ k₁. counts cs k₁ (suc m)) (O .agrees (c .matrix)) refl (known O (c .matrix) k) refl (leb C (length k))
 
   -- the walk is one pass over the trail
   pub after-trail : (b : ℕ) → after O C b ≡ foldl (consider O C) (going [] 0) (trail O C b)
@@ -74,19 +100,19 @@ module _ {L U B Mat : Type 0} (O : Offer L U B Mat) (C : ℕ) where
 
   abbrev Ended : List (Candidate Mat) → State Mat → Type 0
   Ended cs (going k n) = ⊥
-  Ended cs (ended e k n) = Decided (O .agrees) cs e n
+  Ended cs (ended e k n) = DecidedAt (O .agrees) cs e k n
 
   ended-at : (cs : List (Candidate Mat)) (st : State Mat) → Counts 0 cs st → Ended cs (finish st)
   unfolding finish
   ended-at cs (going k n) w = omega (arith, w .0)
-  ended-at cs (ended e k n) w = subst (Decided (O .agrees) cs e) (let z : w .0 ≡ n = omega (arith, w .1) in z) (w .2)
+  ended-at cs (ended e k n) w = subst (DecidedAt (O .agrees) cs e k) (let z : w .0 ≡ n = omega (arith, w .1) in z) (w .2)
 
-  pub walk-decided : (b : ℕ) → Ended (trail O C b) (walk O C b)
+  pub walk-decided : Lawful O → (b : ℕ) → Ended (trail O C b) (walk O C b)
   unfolding walk
-  walk-decided b =
-      ended-at (trail O C b) (after O C b) (subst (Counts 0 (trail O C b)) (sym (after-trail b)) (counts (trail O C b) [] 0))
+  walk-decided Z b =
+      ended-at (trail O C b) (after O C b) (subst (Counts 0 (trail O C b)) (sym (after-trail b)) (counts Z (trail O C b) [] 0))
 
 -- (5)
 pub tried-is-position : TriedIsPosition
 tried-is-position i e k n q =
-    subst (Ended (offer i) (i .room) (trail (offer i) (i .room) (i .bound))) q (walk-decided (offer i) (i .room) (i .bound))
+    subst (Ended (offer i) (i .room) (trail (offer i) (i .room) (i .bound))) q (walk-decided (offer i) (i .room) (lawful i) (i .bound))

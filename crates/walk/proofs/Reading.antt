@@ -79,7 +79,7 @@ module _ (i : Input) where
       either false = List·Memᴰ·head refl
       either true = List·Memᴰ·tail (List·Memᴰ·head refl)
 
-  from-leaf : (c : Leaf) → c ∈ leaves i → LeafOffered (language i) c
+  pub from-leaf : (c : Leaf) → c ∈ leaves i → LeafOffered (language i) c
   from-leaf c m =
       ⊎-elim
       (λ h. let w = Memᴰ·of-map proposition (count 0 (i .propositions)) h in

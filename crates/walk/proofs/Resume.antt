@@ -4,7 +4,7 @@
 use mathlib.Core.Path.{_≡_, refl, sym, ap, ap₂, _∙_, subst}
 use mathlib.Core.Logic.{_⊎_, ⊎-elim}
 use mathlib.Core.Bool.{Bool, true, false, cond}
-use mathlib.Core.List.{List, [], _∷_, _++_, map, foldl, foldl-append, append-nil, append-assoc, List·Memᴰ·head, List·Memᴰ·tail, List·Memᴰ·not-nil, Memᴰ·append-left}
+use mathlib.Core.List.{List, [], _∷_, _++_, map, foldl, foldl-append, append-nil, append-assoc, List·Memᴰ·head, List·Memᴰ·tail, Memᴰ·append-left}
 use Prim.Native.Nat.{ℕ, zero, suc, _+_, _-_, _≤_, _<_}
 use native.Mathlib.Omega.{arith}
 use native.Mathlib.Nat.{eq-or-lt-of-le}
@@ -16,11 +16,11 @@ use Rattle.walk.specs.Formula.{_∈_}
 use Rattle.walk.specs.Walk.{Offer, Candidate, Placed, Ending, found, full, none, State, going, ended, kept, tried, each, ofSize, keepIf, leftSizes, orders, unaryOn, unaryCandidates, pairs, layer, consider, through, after, finish, walk, trail}
 use Rattle.walk.specs.Input.{offer}
 use Rattle.walk.specs.Cut.{Cut, more, over, settle, start, step, turn}
-use Rattle.walk.specs.Promises.{Decided, CutOf, TurnsAdd, CutResume}
+use Rattle.walk.specs.Promises.{Nth, DecidedAt, CutOf, TurnsAdd, CutResume}
 use Rattle.walk.proofs.Members.{left-below}
 use Rattle.walk.proofs.Trees.{Lawful}
 use Rattle.walk.proofs.Layers.{layer-fits}
-use Rattle.walk.proofs.Pass.{stays, pass, Pass, Grows}
+use Rattle.walk.proofs.Pass.{stays, grown}
 use Rattle.walk.proofs.Steady.{after-later}
 use Rattle.walk.proofs.Position.{Counts, counts, after-trail}
 use Rattle.walk.proofs.Reading.{lawful}
@@ -64,16 +64,6 @@ module _ {L U B Mat : Type 0} (O : Offer L U B Mat) where
     abbrev within : ℕ → ℕ → State Mat
     within a j = foldl (consider O C) (after O C a) (take j (layer O (suc a) (kept (after O C a))))
 
-    grown : (cs : List (Candidate Mat)) (st : State Mat) → Grows O (kept st) cs (kept (foldl (consider O C) st cs))
-    grown cs (going k n) = go (foldl (consider O C) (going k n) cs) (pass O C Z cs k n)
-      where
-        go : (st : State Mat) → Pass O C k cs st → Grows O k cs (kept st)
-        go (going k′ n′) p = p .0
-        go (ended e k′ n′) p = p .0
-    grown cs (ended e k n) =
-        subst (λ (st : State Mat). Grows O k cs (kept st)) (sym (stays O C e k n cs))
-        (record { new = []; longer = sym (append-nil k); comes = λ u m. absurd (List·Memᴰ·not-nil m) })
-
     in-take : (j : ℕ) (cs : List (Candidate Mat)) {c : Candidate Mat} → c ∈ take j cs → c ∈ cs
     in-take j cs {c} m = subst (λ (l : List (Candidate Mat)). c ∈ l) (take-append-drop j cs) (Memᴰ·append-left _ m)
 
@@ -81,7 +71,7 @@ module _ {L U B Mat : Type 0} (O : Offer L U B Mat) where
     layer-within : (a j : ℕ) → layer O (suc a) (kept (within a j)) ≡ layer O (suc a) (kept (after O C a))
     layer-within a j =
         let k = kept (after O C a) in
-        let g = grown (take j (layer O (suc a) k)) (after O C a) in
+        let g = grown O C Z (take j (layer O (suc a) k)) (after O C a) in
         layer-same a k (kept (within a j))
         (λ s h. ap (ofSize s 0) (g .longer)
         ∙ ofSize-append s 0 k (g .new) (λ u m e. let w = layer-fits O (suc a) k u (in-take j (layer O (suc a) k) (g .comes u m .0)) .1 in omega arith))
@@ -103,10 +93,46 @@ module _ {L U B Mat : Type 0} (O : Offer L U B Mat) where
         sym (foldl-append (consider O C) (after O C a) (take j cs) (take 1 (drop j cs)))
         ∙ ap (foldl (consider O C) (after O C a)) (sym (take-add j 1 cs) ∙ ap (λ (m : ℕ). take m cs) (let e : j + 1 ≡ suc j = omega arith in e))
 
+    -- those tried after the sizes up to a and j of the next
+    done : ℕ → ℕ → List (Candidate Mat)
+    done a j = trail O C a ++ take j (layer O (suc a) (kept (after O C a)))
+
+    through-done : (a j : ℕ) → foldl (consider O C) (going [] 0) (done a j) ≡ within a j
+    unfolding done
+    through-done a j =
+        foldl-append (consider O C) (going [] 0) (trail O C a) (take j (layer O (suc a) (kept (after O C a))))
+        ∙ ap (λ (st : State Mat). foldl (consider O C) st (take j (layer O (suc a) (kept (after O C a))))) (sym (after-trail O C a))
+
+    -- ---- no more are tried than there were
+
+    nth-le : (cs : List (Candidate Mat)) (p : ℕ) (c : Candidate Mat) → Nth (O .agrees) cs p c → p ≤ length cs
+    nth-le cs p c z = omega (arith, z .position, ap length (z .split), length-append (z .before) (c ∷ z .behind))
+
+    decided-le : (cs : List (Candidate Mat)) (e : Ending) (k : List (Candidate Mat)) (p : ℕ) → DecidedAt (O .agrees) cs e k p → p ≤ length cs
+    decided-le cs (found root) k p z = nth-le cs p (z .0) (z .1)
+    decided-le cs (full s) k p z = nth-le cs p (z .0) (z .1)
+    decided-le cs none k p z = omega arith
+
+    counts-le : (m : ℕ) (cs : List (Candidate Mat)) (st : State Mat) → Counts O C m cs st → tried st ≤ m + length cs
+    counts-le m cs (going k n) w = omega (arith, w .0)
+    counts-le m cs (ended e k n) w = omega (arith, w .1, decided-le cs e k (w .0) (w .2))
+
+    after-le : (a : ℕ) → tried (after O C a) ≤ length (trail O C a)
+    after-le a =
+        let w = counts-le 0 (trail O C a) (after O C a) (subst (Counts O C 0 (trail O C a)) (sym (after-trail O C a)) (counts O C Z (trail O C a) [] 0)) in
+        omega arith
+
+    within-le : (a j : ℕ) → tried (within a j) ≤ length (trail O C a) + j
+    unfolding done
+    within-le a j =
+        let cs = take j (layer O (suc a) (kept (after O C a))) in
+        let w = counts-le 0 (done a j) (within a j) (subst (Counts O C 0 (done a j)) (through-done a j) (counts O C Z (done a j) [] 0)) in
+        omega (arith, length-append (trail O C a) cs, length-take j (layer O (suc a) (kept (after O C a))))
+
     module _ (b : ℕ) where
-      -- a cut walk after n candidates
+      -- a cut walk after n candidates, or after fewer where the walk ended
       abbrev Here : ℕ → Cut Mat → Type 0
-      Here n (over e k m) = walk O C b ≡ ended e k m
+      Here n (over e k m) = (walk O C b ≡ ended e k m) × (m ≤ n)
       Here n (more s j k m) =
           (a : ℕ) × (s ≡ suc a) × (a < b) × (within a j ≡ going k m)
           × (j < length (layer O (suc a) (kept (after O C a)))) × (n ≡ length (trail O C a) + j)
@@ -129,8 +155,8 @@ module _ {L U B Mat : Type 0} (O : Offer L U B Mat) where
       begins zero a e n h = go (after O C a) refl
         where
           go : (st : State Mat) → after O C a ≡ st → Here n (settle O C b zero (suc a) 0 st)
-          go (going k m) q = none-here a (omega arith) k m q
-          go (ended e′ k m) q = over-here a (omega arith) e′ k m q
+          go (going k m) q = (none-here a (omega arith) k m q, omega (arith, after-le a, ap tried q))
+          go (ended e′ k m) q = (over-here a (omega arith) e′ k m q, omega (arith, after-le a, ap tried q))
       begins (suc d) a e n h = go (after O C a) refl (λ g. begins d (suc a) (omega arith) n g)
         where
           empty : length (layer O (suc a) (kept (after O C a))) ≤ 0 → after O C (suc a) ≡ after O C a
@@ -138,7 +164,7 @@ module _ {L U B Mat : Type 0} (O : Offer L U B Mat) where
 
           go : (st : State Mat) → after O C a ≡ st
               → (n ≡ length (trail O C (suc a)) → Here n (settle O C b d (suc (suc a)) 0 (after O C (suc a)))) → Here n (settle O C b (suc d) (suc a) 0 st)
-          go (ended e′ k m) q r = over-here a (omega arith) e′ k m q
+          go (ended e′ k m) q r = (over-here a (omega arith) e′ k m q, omega (arith, after-le a, ap tried q))
           go (going k m) q r = pick (ltb 0 (length (layer O (suc a) k))) refl
             where
               same : length (layer O (suc a) k) ≡ length (layer O (suc a) (kept (after O C a)))
@@ -157,11 +183,13 @@ module _ {L U B Mat : Type 0} (O : Offer L U B Mat) where
       goes d a e j n le h = go (within a j) refl
         where
           go : (st : State Mat) → within a j ≡ st → Here n (settle O C b (suc d) (suc a) j st)
-          go (ended e′ k m) q =
-              over-here (suc a) (omega arith) e′ k m
-              (sym (within-rest a j)
-              ∙ ap (λ (st : State Mat). foldl (consider O C) st (drop j (layer O (suc a) (kept (after O C a))))) q
-              ∙ stays O C e′ k m (drop j (layer O (suc a) (kept (after O C a)))))
+          go (ended e′ k m) q = (
+            over-here (suc a) (omega arith) e′ k m
+                (sym (within-rest a j)
+                ∙ ap (λ (st : State Mat). foldl (consider O C) st (drop j (layer O (suc a) (kept (after O C a))))) q
+                ∙ stays O C e′ k m (drop j (layer O (suc a) (kept (after O C a))))),
+            omega (arith, within-le a j, ap tried q),
+          )
           go (going k m) q = pick (ltb j (length (layer O (suc a) k))) refl
             where
               same : length (layer O (suc a) k) ≡ length (layer O (suc a) (kept (after O C a)))
@@ -180,7 +208,7 @@ module _ {L U B Mat : Type 0} (O : Offer L U B Mat) where
 
       steps : (n : ℕ) (c : Cut Mat) → Here n c → Here (suc n) (step O C b c)
       unfolding step
-      steps n (over e k m) h = h
+      steps n (over e k m) (h, le) = (h, omega arith)
       steps n (more s j k m) (a, es, la, q, lj, en) =
           subst (λ (s : ℕ). Here (suc n) (settle O C b (suc b - s) s (suc j) (foldl (consider O C) (going k m) (take 1 (drop j (layer O s k))))))
           (sym es)
@@ -222,10 +250,6 @@ module _ {L U B Mat : Type 0} (O : Offer L U B Mat) where
           ))
           (eq-or-lt-of-le h)
 
-      -- those tried after the sizes up to a and j of the next, and those not tried by then
-      done : ℕ → ℕ → List (Candidate Mat)
-      done a j = trail O C a ++ take j (layer O (suc a) (kept (after O C a)))
-
       trail-cut : (a j : ℕ) → suc a ≤ b → (rest : List (Candidate Mat)) × (trail O C b ≡ done a j ++ (drop j (layer O (suc a) (kept (after O C a))) ++ rest))
       unfolding trail done
       trail-cut a j h =
@@ -240,12 +264,6 @@ module _ {L U B Mat : Type 0} (O : Offer L U B Mat) where
       unfolding done
       length-done a j h = simp (length-append, length-take) (omega arith)
 
-      through-done : (a j : ℕ) → foldl (consider O C) (going [] 0) (done a j) ≡ within a j
-      unfolding done
-      through-done a j =
-          foldl-append (consider O C) (going [] 0) (trail O C a) (take j (layer O (suc a) (kept (after O C a))))
-          ∙ ap (λ (st : State Mat). foldl (consider O C) st (take j (layer O (suc a) (kept (after O C a))))) (sym (after-trail O C a))
-
       tried-finish : (st : State Mat) → tried (finish st) ≡ tried st
       unfolding finish
       tried-finish (going k n) = refl
@@ -253,19 +271,20 @@ module _ {L U B Mat : Type 0} (O : Offer L U B Mat) where
 
       -- a walk that goes on before some candidate tries more
       tries-more : (cs k : List (Candidate Mat)) (m : ℕ) → 0 < length cs → m < tried (foldl (consider O C) (going k m) cs)
-      tries-more cs k m h = go (foldl (consider O C) (going k m) cs) (counts O C cs k m)
+      tries-more cs k m h = go (foldl (consider O C) (going k m) cs) (counts O C Z cs k m)
         where
-          some : (e : Ending) (p : ℕ) → Decided (O .agrees) cs e p → (e ≡ none → ⊥) → 0 < p
-          some (found root) p z w = omega (arith, z .1 .position)
-          some (full s) p z w = omega (arith, z .1 .position)
-          some none p z w = absurd (w refl)
+          some : (e : Ending) (k′ : List (Candidate Mat)) (p : ℕ) → DecidedAt (O .agrees) cs e k′ p → (e ≡ none → ⊥) → 0 < p
+          some (found root) k′ p z w = omega (arith, z .1 .position)
+          some (full s) k′ p z w = omega (arith, z .1 .position)
+          some none k′ p z w = absurd (w refl)
 
           go : (st : State Mat) → Counts O C m cs st → m < tried st
           go (going k′ n) w = omega (arith, w .0)
-          go (ended e k′ n) w = omega (arith, w .1, some e (w .0) (w .2) (w .3))
+          go (ended e k′ n) w = omega (arith, w .1, some e k′ (w .0) (w .2) (w .3))
 
+      -- what `CutOf` says, here of any offer: `CutOf` is of an input's, so that a reader of the promises needs no offer
       abbrev pub CutAt : ℕ → Cut Mat → Type 0
-      CutAt n (over e k m) = walk O C b ≡ ended e k m
+      CutAt n (over e k m) = (walk O C b ≡ ended e k m) × (m ≤ n)
       CutAt n (more s j k m) =
           (m ≡ n) × (n < tried (walk O C b)) × (foldl (consider O C) (going [] 0) (take n (trail O C b)) ≡ going k m)
 
@@ -278,7 +297,7 @@ module _ {L U B Mat : Type 0} (O : Offer L U B Mat) where
           let left = drop j cs ++ rest in
           let ld = length-done a j (omega arith) in
           let at = through-done a j ∙ q in
-          let c = subst (Counts O C 0 (done a j)) at (counts O C (done a j) [] 0) in
+          let c = subst (Counts O C 0 (done a j)) at (counts O C Z (done a j) [] 0) in
           let mn : m ≡ n = omega (arith, c .0) in
           let whole = after-trail O C b ∙ ap (foldl (consider O C) (going [] 0)) w ∙ foldl-append (consider O C) (going [] 0) (done a j) left
           ∙ ap (λ (st : State Mat). foldl (consider O C) st left) at in

@@ -15,6 +15,7 @@ use Rattle.words.proofs.Bits.{bit-first, bit-rest, bit-high}
 use Rattle.words.proofs.At.{lt-wf, means-unique}
 use Rattle.sequence.specs.Operators.{Unary, Binary, unaryReading, binaryReading, commutes}
 use Rattle.walk.specs.Rows.{word, isOn, someOf, allOf, atSome, atAll, unaryTest, binaryTest, unaryRow, binaryRow, constantRow}
+use Rattle.walk.specs.Promises.{UnaryRowOnly, BinaryRowOnly}
 
 -- ---- the bits of the word that a test sets
 
@@ -218,6 +219,13 @@ unary-row-only op x m = means-unique m (unary-row-means op x (m .wf .short))
 
 pub binary-row-only : (op : Binary) {n r : ℕ} (x y : ℕ) → Means n r (binaryReading op n (At x) (At y)) → r ≡ binaryRow op n x y
 binary-row-only op x y m = means-unique m (binary-row-means op x y (m .wf .short))
+
+-- the same as promises, which have no argument left out
+pub unary-only : UnaryRowOnly
+unary-only op n r x m = unary-row-only op x m
+
+pub binary-only : BinaryRowOnly
+binary-only op n r x y m = binary-row-only op x y m
 
 pub constant-row-means : (b : Bool) {n : ℕ} → n ≤ width → Means n (constantRow b n) (λ i. b ≡ true)
 unfolding constantRow

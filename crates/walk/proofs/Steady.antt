@@ -1,5 +1,5 @@
 -- A larger bound or more room never changes what was found: an ended walk stays as it is through the sizes after, and two walks with different
--- room are alike until the smaller room is full.
+-- room are the same until the smaller room is full.
 -- Assumes nothing.
 use mathlib.Core.Path.{_≡_, refl, sym, ap, _∙_}
 use mathlib.Core.Logic.{_⊎_, inl, inr, ⊎-elim}
@@ -48,44 +48,44 @@ module _ {L U B Mat : Type 0} (O : Offer L U B Mat) where
 
   module _ (C D : ℕ) (le : C ≤ D) where
     -- the same, unless the first was full
-    abbrev Alike : State Mat → State Mat → Type 0
-    Alike x y = (y ≡ x) ⊎ IsFull x
+    abbrev SameUnlessFull : State Mat → State Mat → Type 0
+    SameUnlessFull x y = (y ≡ x) ⊎ IsFull x
 
-    alike-judge : (a b : Bool) (c : Candidate Mat) (k : List (Candidate Mat)) (n : ℕ) → (r r′ : Bool) → leb C (length k) ≡ r → leb D (length k) ≡ r′
-        → Alike (judge O a b r c k n) (judge O a b r′ c k n)
+    same-judge : (a b : Bool) (c : Candidate Mat) (k : List (Candidate Mat)) (n : ℕ) → (r r′ : Bool) → leb C (length k) ≡ r → leb D (length k) ≡ r′
+        → SameUnlessFull (judge O a b r c k n) (judge O a b r′ c k n)
     unfolding judge
-    alike-judge true b c k n r r′ e f = inl refl
-    alike-judge false true c k n r r′ e f = inl refl
-    alike-judge false false c k n true r′ e f = inr (c .node .size, k, n, refl)
-    alike-judge false false c k n false true e f = absurd (omega (arith, leb-false C (length k) e, leb-true D (length k) f))
-    alike-judge false false c k n false false e f = inl refl
+    same-judge true b c k n r r′ e f = inl refl
+    same-judge false true c k n r r′ e f = inl refl
+    same-judge false false c k n true r′ e f = inr (c .node .size, k, n, refl)
+    same-judge false false c k n false true e f = absurd (omega (arith, leb-false C (length k) e, leb-true D (length k) f))
+    same-judge false false c k n false false e f = inl refl
 
-    alike-consider : (st : State Mat) (c : Candidate Mat) → Alike (consider O C st c) (consider O D st c)
+    same-consider : (st : State Mat) (c : Candidate Mat) → SameUnlessFull (consider O C st c) (consider O D st c)
     unfolding consider
-    alike-consider (going k n) c = alike-judge (O .agrees (c .matrix)) (known O (c .matrix) k) c k (suc n) (leb C (length k)) (leb D (length k)) refl refl
-    alike-consider (ended e k n) c = inl refl
+    same-consider (going k n) c = same-judge (O .agrees (c .matrix)) (known O (c .matrix) k) c k (suc n) (leb C (length k)) (leb D (length k)) refl refl
+    same-consider (ended e k n) c = inl refl
 
     still-full : (cs : List (Candidate Mat)) (st : State Mat) → IsFull st → IsFull (foldl (consider O C) st cs)
     still-full cs st (s, k, n, e) = (s, k, n, ap (λ (x : State Mat). foldl (consider O C) x cs) e ∙ stays O C (full s) k n cs)
 
-    alike-fold : (cs : List (Candidate Mat)) (st : State Mat) → Alike (foldl (consider O C) st cs) (foldl (consider O D) st cs)
-    alike-fold [] st = inl refl
-    alike-fold (c ∷ cs) st =
+    same-fold : (cs : List (Candidate Mat)) (st : State Mat) → SameUnlessFull (foldl (consider O C) st cs) (foldl (consider O D) st cs)
+    same-fold [] st = inl refl
+    same-fold (c ∷ cs) st =
         ⊎-elim
-        (λ e. ⊎-elim (λ f. inl (ap (λ (s : State Mat). foldl (consider O D) s cs) e ∙ f)) inr (alike-fold cs (consider O C st c)))
-        (λ h. inr (still-full cs (consider O C st c) h)) (alike-consider st c)
+        (λ e. ⊎-elim (λ f. inl (ap (λ (s : State Mat). foldl (consider O D) s cs) e ∙ f)) inr (same-fold cs (consider O C st c)))
+        (λ h. inr (still-full cs (consider O C st c) h)) (same-consider st c)
 
-    alike-after : (b : ℕ) → Alike (after O C b) (after O D b)
+    same-after : (b : ℕ) → SameUnlessFull (after O C b) (after O D b)
     unfolding after through
-    alike-after zero = inl refl
-    alike-after (suc b) =
+    same-after zero = inl refl
+    same-after (suc b) =
         ⊎-elim
-        (λ e. ⊎-elim (λ f. inl (ap (through O D (suc b)) e ∙ f)) inr (alike-fold (layer O (suc b) (kept (after O C b))) (after O C b)))
-        (λ h. inr (still-full (layer O (suc b) (kept (after O C b))) (after O C b) h)) (alike-after b)
+        (λ e. ⊎-elim (λ f. inl (ap (through O D (suc b)) e ∙ f)) inr (same-fold (layer O (suc b) (kept (after O C b))) (after O C b)))
+        (λ h. inr (still-full (layer O (suc b) (kept (after O C b))) (after O C b) h)) (same-after b)
 
-    pub larger-room : (b : ℕ) → Alike (walk O C b) (walk O D b)
+    pub larger-room : (b : ℕ) → SameUnlessFull (walk O C b) (walk O D b)
     unfolding walk finish
-    larger-room b = ⊎-elim (λ e. inl (ap finish e)) (λ h. inr (h .0, h .1, h .2, ap finish (h .3))) (alike-after b)
+    larger-room b = ⊎-elim (λ e. inl (ap finish e)) (λ h. inr (h .0, h .1, h .2, ap finish (h .3))) (same-after b)
 
 -- the offer has nothing of bound and room
 again-offer : (i : Input) (b c : ℕ) → offer (again i b c) ≡ offer i

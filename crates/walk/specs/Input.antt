@@ -69,7 +69,8 @@ module _ (i : Input) where
 
   -- ---- the checks
 
-  -- the input passes the checks (the table of refusals, 1 to 7)
+  -- the input passes the checks (the table of refusals, 1 to 7); of row 3 only what is read: that the lent lists have room for C nodes and
+  -- C x r words is the search's own check
   pub record Passes : Type 0 where
     pub sessions-in : (1 ≤ i .sessions) × (i .sessions ≤ mostSessions)
     pub propositions-in : (1 ≤ i .propositions) × (i .propositions ≤ mostPropositions)

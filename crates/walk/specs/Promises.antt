@@ -1,16 +1,19 @@
 -- What is promised of every answer of the walk, for every input that passes the checks. Each is proved under its name, in proofs/: found-smallest
--- and so on (Promises), larger-bound-same (Steady), tried-is-position (Position), cut-resume (Resume), row-means (Reading), one-formula (Nodes).
+-- and so on (Promises), larger-bound-same (Steady), tried-is-position (Position), cut-resume (Resume), row-means (Reading),
+-- unary-only and binary-only (Rows), same-where-read (Same), one-formula (Nodes).
 -- Assumes nothing.
 use mathlib.Core.Path.{_≡_}
 use mathlib.Core.Logic.{_↔_, _⊎_}
-use mathlib.Core.Bool.{Bool, false}
+use mathlib.Core.Bool.{Bool, true, false}
 use mathlib.Core.List.{List, [], _∷_, _++_, map, foldl}
-use Prim.Native.Nat.{ℕ, suc, _+_, _≤_, _<_}
-use lib.ListN.{length, take}
-use Rattle.words.specs.Word.{Means}
+use Prim.Native.Nat.{ℕ, suc, _+_, _*_, _≤_, _<_}
+use lib.ListN.{length, take, getD}
+use Rattle.words.specs.Word.{At, Means}
+use Rattle.sequence.specs.Operators.{Unary, Binary, unaryReading, binaryReading}
 use Rattle.walk.specs.Formula.{Formula, size, Holds, Separates, Offered, _∈_}
 use Rattle.walk.specs.Nodes.{Node, Spells, codes}
 use Rattle.walk.specs.Walk.{Candidate, Ending, found, full, none, going, ended, tried, matrix, leftSizes, consider, trail}
+use Rattle.walk.specs.Rows.{unaryRow, binaryRow}
 use Rattle.walk.specs.Input.{Input, Passes, session, sessions, language, lengthOf, row, separating, offer, search}
 use Rattle.walk.specs.Cut.{Cut, more, over, start, turn}
 
@@ -88,6 +91,13 @@ abbrev pub RowMeans : Type 0
 RowMeans = (i : Input) → Passes i → (t : Formula) → Offered (language i) t → (j : ℕ) → j < i .sessions
     → Means (lengthOf i j) (row (matrix (offer i) t) j) (Holds (session i j .trace) t)
 
+-- an operator's row is the only word with that meaning, so the operators' contracts, which say what the word means, fix the same word
+abbrev pub UnaryRowOnly : Type 0
+UnaryRowOnly = (op : Unary) (n r x : ℕ) → Means n r (unaryReading op n (At x)) → r ≡ unaryRow op n x
+
+abbrev pub BinaryRowOnly : Type 0
+BinaryRowOnly = (op : Binary) (n r x y : ℕ) → Means n r (binaryReading op n (At x) (At y)) → r ≡ binaryRow op n x y
+
 -- ---- "The answer's formula is its root node over that list": there is no other
 
 abbrev pub OneFormula : Type 0
@@ -135,6 +145,23 @@ abbrev pub FoundStays : Type 0
 FoundStays = (i : Input) (b c : ℕ) → i .bound ≤ b → i .room ≤ c → (root : Node) (k : Table) (n : ℕ)
     → search i ≡ ended (found root) k n → search (again i b c) ≡ ended (found root) k n
 
+-- the two inputs agree where they are looked at: of marks, lengths and words below r, r and m x r
+pub record AgreeWhereRead (i j : Input) : Type 0 where
+  pub sessions : i .sessions ≡ j .sessions
+  pub propositions : i .propositions ≡ j .propositions
+  pub bound : i .bound ≡ j .bound
+  pub room : i .room ≡ j .room
+  pub constants : i .constants ≡ j .constants
+  pub unary : i .unary ≡ j .unary
+  pub binary : i .binary ≡ j .binary
+  pub marks : (p : ℕ) → p < i .sessions → getD (i .marks) p 0 ≡ getD (j .marks) p 0
+  pub lengths : (p : ℕ) → p < i .sessions → getD (i .lengths) p 0 ≡ getD (j .lengths) p 0
+  pub words : (p : ℕ) → p < i .propositions * i .sessions → getD (i .words) p 0 ≡ getD (j .words) p 0
+
+-- so "the same sessions" are the same where they are looked at, whatever lies beyond
+abbrev pub SameWhereRead : Type 0
+SameWhereRead = (i j : Input) → AgreeWhereRead i j → search i ≡ search j
+
 -- ---- (5): the count, the kept formulas, the end
 
 -- of the candidates cs the one at position n, counted from 1; none before it agrees with the marks
@@ -145,15 +172,22 @@ pub record Nth {Mat : Type 0} (agrees : Mat → Bool) (cs : List (Candidate Mat)
   pub position : suc (length before) ≡ n
   pub passed : (d : Candidate Mat) → d ∈ before → agrees (d .matrix) ≡ false
 
--- "the number of candidates tried, up to and including the deciding one"
-abbrev pub Decided : {Mat : Type 0} → (Mat → Bool) → List (Candidate Mat) → Ending → ℕ → Type 0
-Decided {Mat} agrees cs (found root) n = (c : Candidate Mat) × Nth agrees cs n c × (c .node ≡ root)
-Decided {Mat} agrees cs (full s) n = (c : Candidate Mat) × Nth agrees cs n c × (c .node .size ≡ s)
-Decided agrees cs none n = length cs ≡ n
+-- one of the list has that matrix
+abbrev pub Has : {Mat : Type 0} → List (Candidate Mat) → Mat → Type 0
+Has {Mat} k x = (u : Candidate Mat) × (u ∈ k) × (u .matrix ≡ x)
+
+-- "the number of candidates tried, up to and including the deciding one", where k is what is kept at the end: at FOUND the deciding one is
+-- the first that agrees with the marks; at FULL the first whose matrix none of those kept has, and it does not agree with the marks
+abbrev pub DecidedAt : {Mat : Type 0} → (Mat → Bool) → List (Candidate Mat) → Ending → List (Candidate Mat) → ℕ → Type 0
+DecidedAt {Mat} agrees cs (found root) k n = (c : Candidate Mat) × (w : Nth agrees cs n c) × (c .node ≡ root) × (agrees (c .matrix) ≡ true)
+DecidedAt {Mat} agrees cs (full s) k n =
+    (c : Candidate Mat) × (w : Nth agrees cs n c) × (c .node .size ≡ s) × (agrees (c .matrix) ≡ false)
+    × ((d : Candidate Mat) → d ∈ w .before → Has k (d .matrix)) × (Has k (c .matrix) → ⊥)
+DecidedAt agrees cs none k n = length cs ≡ n
 
 abbrev pub TriedIsPosition : Type 0
 TriedIsPosition = (i : Input) (e : Ending) (k : Table) (n : ℕ) → search i ≡ ended e k n
-    → Decided (separating i) (trail (offer i) (i .room) (i .bound)) e n
+    → DecidedAt (separating i) (trail (offer i) (i .room) (i .bound)) e k n
 
 abbrev pub KeptDistinct : Type 0
 KeptDistinct = (i : Input) → Passes i → (e : Ending) (k : Table) (n : ℕ) → search i ≡ ended e k n → Kept i k
@@ -178,10 +212,10 @@ goOn i n c = turn (offer i) (i .room) (i .bound) n c
 abbrev pub TurnsAdd : Type 0
 TurnsAdd = (i : Input) (a b : ℕ) (c : Cut (List ℕ)) → goOn i b (goOn i a c) ≡ goOn i (a + b) c
 
--- after n candidates the walk has ended, with the whole walk's answer; or n were tried and the whole walk tries more, and what is kept is
+-- after n candidates the walk has ended, with the whole walk's answer, and at most n were tried; or n were tried and the whole walk tries more, and what is kept is
 -- what those n came to
 abbrev pub CutOf : Input → ℕ → Cut (List ℕ) → Type 0
-CutOf i n (over e k m) = search i ≡ ended e k m
+CutOf i n (over e k m) = (search i ≡ ended e k m) × (m ≤ n)
 CutOf i n (more s j k m) =
     (m ≡ n) × (n < tried (search i))
     × (foldl (consider (offer i) (i .room)) (going [] 0) (take n (trail (offer i) (i .room) (i .bound))) ≡ going k m)
