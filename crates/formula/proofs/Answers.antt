@@ -14,12 +14,11 @@ use Rattle.session.specs.declared.names.NamesAnswer.{NamesAnswer}
 use Rattle.session.specs.declared.names.NamesAnswer.the-variants.{Names, Broken as NamesBroken}
 use Rattle.session.specs.Offence.{Got, got, bad, wholeNames}
 use Rattle.session.specs.Reading.{Said, broken, over, saidNames, namesOf, namesSaid}
-use Rattle.walk.specs.Formula.{Formula}
-use Rattle.walk.specs.Nodes.{Node, Spells, codes}
+use Rattle.walk.specs.Nodes.{Node}
 use Rattle.formula.specs.Kinds.{mostNumber}
 use Rattle.formula.specs.Rule.{Broken, brokenList}
 use Rattle.formula.specs.Text.{text}
-use Rattle.formula.specs.Print.{shortRoom, printRows, PrintAnswer, PrintsBy, Prints}
+use Rattle.formula.specs.Print.{shortRoom, PrintAnswer, PrintsBy, Prints}
 use Rattle.formula.specs.Inner.{Fits, listed, namesIn, GoodNames, Printable, Long, Fitting, Written}
 use Rattle.formula.proofs.Faults.{whole-fits}
 use Rattle.formula.proofs.Names.{few-names}

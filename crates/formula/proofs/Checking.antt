@@ -1,6 +1,6 @@
 -- The analyst's check: what the tests of session data give, a session's agreement by its word, and the sessions one after the other.
 -- Assumes nothing.
-use mathlib.Core.Path.{_≡_, refl, sym, ap, _∙_, subst}
+use mathlib.Core.Path.{_≡_, refl, sym, subst}
 use mathlib.Core.Logic.{_↔_, _⊎_, inl, inr, ⊎-elim, Iff·trans}
 use mathlib.Core.Bool.{Bool, true, false, true≢false}
 use mathlib.Core.List.{List, [], _∷_, _++_, map}
@@ -10,20 +10,20 @@ use native.Mathlib.Numerals.{add-one}
 use native.Mathlib.Omega.{arith}
 use lib.Dec.{lit<}
 use lib.ListN.{length, getD}
-use Rattle.words.specs.Word.{width, At, Wf, Means}
+use Rattle.words.specs.Word.{width, Wf, Means}
 use Rattle.words.proofs.At.{not-at}
 use Rattle.sequence.specs.Refusals.{Row, Decided, firstOf}
 use Rattle.sequence.proofs.Refusals.{Numbered, decided-none, decided-both}
 use Rattle.session.specs.Data.{dataRows}
 use Rattle.session.specs.Numbers.{sessions as mostSessions, propositions as mostPropositions}
-use Rattle.walk.specs.Formula.{Formula, Session, Holds, Accepts, Separates}
+use Rattle.walk.specs.Formula.{Formula, Holds, Separates}
 use Rattle.walk.specs.Nodes.{Node, Spells, codes}
 use Rattle.walk.specs.Walk.{count}
 use Rattle.walk.specs.Input.{Input, markOf, lengthOf, wordOf, session, sessions}
 use Rattle.formula.specs.Kinds.{mostNumber}
 use Rattle.formula.specs.Rule.{Broken, brokenList}
-use Rattle.formula.specs.Check.{checkRows, Agrees, FirstDisagrees, Outcome}
-use Rattle.formula.specs.Inner.{AllFit, Fits, traceAt, Ready, Evaluated, AgreesWord, Checkable, Found}
+use Rattle.formula.specs.Check.{checkRows, Agrees, Outcome}
+use Rattle.formula.specs.Inner.{Fits, traceAt, Ready, Evaluated, AgreesWord, Checkable, Found}
 use Rattle.formula.proofs.Faults.{whole-fits}
 use Rattle.formula.proofs.Spelled.{spelled}
 

@@ -1,30 +1,28 @@
 -- The word of a node is its formula's, if the children's words are theirs: one law for each kind of node.
 -- Assumes nothing.
-use mathlib.Core.Path.{_≡_, refl, sym, ap, _∙_, subst}
-use mathlib.Core.Logic.{_↔_}
-use mathlib.Core.Bool.{Bool, true, false, true≢false}
+use mathlib.Core.Path.{_≡_, refl, sym, _∙_, subst}
+use mathlib.Core.Bool.{true, false, true≢false}
 use mathlib.Core.List.{List}
-use Prim.Native.Nat.{ℕ, _+_, _≤_, _<_, min}
+use Prim.Native.Nat.{ℕ, _+_, _≤_, _<_}
 use native.Mathlib.Omega.{arith}
-use lib.ListN.{length, getD}
-use Rattle.words.specs.Word.{width, At, Wf, Means}
+use lib.ListN.{getD}
+use Rattle.words.specs.Word.{width, At, Means}
 use Rattle.words.proofs.At.{means, at-below}
 use Rattle.words.proofs.Bits.{bit-zero}
-use Rattle.words.proofs.Lengths.{Mask, masked-cut}
-use Rattle.sequence.specs.Operators.{Unary, Binary, unaryCode, binaryCode, unaryReading, binaryReading}
+use Rattle.words.proofs.Lengths.{Mask}
+use Rattle.sequence.specs.Operators.{Unary, Binary, unaryReading, binaryReading}
 use Rattle.sequence.specs.Masked.{UnaryWord, BinaryWord}
 use Rattle.sequence.specs.Masked.UnaryWord.{word as unary-word, nothing as no-unary}
 use Rattle.sequence.specs.Masked.BinaryWord.{word as binary-word, nothing as no-binary}
 use Rattle.sequence.proofs.Masked.{unary-cut, binary-cut}
 use Rattle.sequence.proofs.Unique.{unary-one, binary-one}
 use Rattle.sequence.proofs.Groups.{unary-below, binary-between}
-use Rattle.walk.specs.Formula.{Leaf, proposition, constant, Formula, Holds}
+use Rattle.walk.specs.Formula.{proposition, constant, Holds}
 use Rattle.walk.specs.Formula.Tree.{leaf, unary, binary}
-use Rattle.walk.specs.Nodes.{Node, nodeAt, Spells, codes, leafCode, leafNumber}
+use Rattle.walk.specs.Nodes.{Node, nodeAt, Spells, codes}
 use Rattle.walk.proofs.Rows.{means-agree, unary-agree, binary-agree}
 use Rattle.formula.specs.Rule.{IsUnary, IsBinary, propositionCode}
-use Rattle.formula.specs.Inner.{LeafIn, Fits, traceAt, Ready, Evaluated}
-use Rattle.formula.specs.Inner.Fits.{leaf as a-leaf, unary as a-unary, binary as a-binary}
+use Rattle.formula.specs.Inner.{Fits, traceAt, Ready, Evaluated}
 use Rattle.formula.proofs.Faults.{not-both, not-unary-leaf, not-binary-leaf, proposition-under}
 
 module _ (n : ℕ) (words : List ℕ) (from : ℕ) (k : List Node) (nd : Node) where

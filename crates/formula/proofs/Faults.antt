@@ -9,7 +9,6 @@ use native.Mathlib.Decide.{ℕ-discrete, decLt, decLe}
 use native.Mathlib.Omega.{arith}
 use lib.Dec.{lit≤}
 use lib.ListN.{length}
-use Rattle.sequence.specs.Operators.{Unary, Binary, unaryCode, binaryCode}
 use Rattle.sequence.specs.declared.operators.Operator.{Operator}
 use Rattle.sequence.specs.Table.{Listed, noRow}
 use Rattle.sequence.specs.Table.Listed.{unary as unary-row, binary as binary-row, neither as no-row}

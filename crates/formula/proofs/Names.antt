@@ -9,7 +9,7 @@ use lib.ListN.{length, getD, take, drop, length-append, take-append-drop}
 use lib.Seq.{drop-cons, take-suc}
 use Rattle.session.specs.Numbers.{propositions, nameLength}
 use Rattle.session.specs.Format.{one, nameBytes, Each, GoodName}
-use Rattle.session.specs.Offence.{got, name, namesUpTo, wholeNames}
+use Rattle.session.specs.Offence.{name, namesUpTo}
 use Rattle.session.proofs.Spans.{Spans, first, second, head, inside, taken}
 use Rattle.session.proofs.Lists.{ones}
 use Rattle.session.proofs.Readers.{Section}

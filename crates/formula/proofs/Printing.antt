@@ -1,27 +1,25 @@
 -- Printing a node over its children: its length, the room it needs, and its bytes.
 -- Assumes nothing.
 use mathlib.Core.Path.{_≡_, refl, sym, ap, _∙_, subst}
-use mathlib.Core.Logic.{_⊎_, inl, inr}
+use mathlib.Core.Logic.{inl, inr}
 use mathlib.Core.Bool.{true, false}
 use mathlib.Core.List.{List, [], _∷_, _++_, append-assoc}
 use Prim.Native.Nat.{ℕ, _+_, _≤_, _<_}
 use native.Mathlib.Omega.{arith}
 use lib.ListN.{length, getD, take, length-append}
-use lib.Seq.{sets}
 use Rattle.sequence.specs.declared.operators.Operator.{Operator}
 use Rattle.sequence.specs.Operators.{Unary, Binary, unaryToken, binaryToken}
 use Rattle.sequence.specs.Table.{Listed}
 use Rattle.sequence.proofs.Unique.{unary-one, binary-one}
-use Rattle.walk.specs.Formula.{leaf, unary, binary, size, Leaf, proposition, constant, Formula}
+use Rattle.walk.specs.Formula.{leaf, unary, binary, size, proposition, constant, Formula}
 use Rattle.walk.specs.Nodes.{Node, nodeAt, Spells, codes}
-use Rattle.walk.specs.Input.{mostSize}
 use Rattle.walk.proofs.Trees.{spells-size}
 use Rattle.formula.specs.Rule.{IsUnary, IsBinary, propositionCode}
 use Rattle.formula.specs.Text.{text, leafText, mostText}
-use Rattle.formula.specs.Inner.{Fits, AllFit, namesIn, GoodNames, Printable, Long, Fitting, Wrote, Written, beforeLast}
+use Rattle.formula.specs.Inner.{Fits, namesIn, Printable, Long, Fitting, Wrote, Written, beforeLast}
 use Rattle.formula.specs.Inner.Fits.{leaf as a-leaf, unary as a-unary, binary as a-binary}
-use Rattle.formula.proofs.Faults.{leaf-between, not-both, not-unary-leaf, not-binary-leaf, left-under, right-under, fits-small}
-use Rattle.formula.proofs.Spelled.{spelled, spells-one}
+use Rattle.formula.proofs.Faults.{not-both, not-unary-leaf, not-binary-leaf, left-under, right-under, fits-small}
+use Rattle.formula.proofs.Spelled.{spelled}
 use Rattle.formula.proofs.Names.{short-names}
 use Rattle.formula.proofs.Writing.{wrote-both, wrote-length}
 use Rattle.formula.proofs.Texts.{Token, unary-token, binary-token, length-unary, length-binary, text-fits}

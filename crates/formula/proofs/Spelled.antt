@@ -1,22 +1,20 @@
 -- A list that passes the rule: each of its nodes, and the root, spells exactly one formula, and one of size at most 31.
 -- Assumes nothing.
-use mathlib.Core.Path.{_≡_, refl, sym, ap, ap₂, _∙_, subst}
-use mathlib.Core.Bool.{Bool, true, false}
+use mathlib.Core.Path.{_≡_, refl, sym, ap, ap₂, _∙_}
+use mathlib.Core.Bool.{true, false}
 use mathlib.Core.List.{List}
-use Prim.Native.Nat.{ℕ, zero, suc, _+_, _≤_, _<_}
+use Prim.Native.Nat.{ℕ, zero, suc, _≤_, _<_}
 use native.Mathlib.Omega.{arith}
-use lib.Dec.{lit≤}
 use lib.ListN.{length}
-use Rattle.sequence.specs.Operators.{Unary, Binary, unaryCode, binaryCode}
 use Rattle.sequence.proofs.Groups.{unary-below, binary-between}
 use Rattle.sequence.proofs.Unique.{unary-one, binary-one}
-use Rattle.walk.specs.Formula.{Tree, size, Leaf, proposition, constant, Formula}
+use Rattle.walk.specs.Formula.{size, Leaf, proposition, constant, Formula}
 use Rattle.walk.specs.Formula.Tree.{leaf, unary, binary}
 use Rattle.walk.specs.Nodes.{Node, nodeAt, Spells, codes, leafCode, leafNumber}
 use Rattle.walk.specs.Input.{mostSize}
 use Rattle.walk.proofs.Trees.{spells-size}
 use Rattle.formula.specs.Rule.{Broken}
-use Rattle.formula.specs.Inner.{LeafIn, Fits, AllFit}
+use Rattle.formula.specs.Inner.{Fits, AllFit}
 use Rattle.formula.specs.Inner.Fits.{leaf as a-leaf, unary as a-unary, binary as a-binary}
 use Rattle.formula.proofs.Faults.{leaf-between, fits-small, whole-fits}
 

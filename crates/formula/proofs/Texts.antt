@@ -1,14 +1,14 @@
 -- Lengths of texts: 391 bytes suffice for any formula of size up to 31, and one needs them all.
 -- Assumes nothing.
-use mathlib.Core.Path.{_≡_, refl, sym, ap, _∙_, subst}
+use mathlib.Core.Path.{_≡_, refl, sym, _∙_, subst}
 use mathlib.Core.Bool.{true, false}
 use mathlib.Core.List.{List, [], _∷_, _++_}
-use Prim.Native.Nat.{ℕ, _+_, _*_, _≤_, _<_}
+use Prim.Native.Nat.{ℕ, _+_, _*_, _≤_}
 use native.Mathlib.Omega.{arith}
 use lib.Dec.{lit≤}
 use lib.ListN.{length, getD, take, length-append}
 use Rattle.sequence.specs.declared.operators.Operator.{Operator}
-use Rattle.sequence.specs.Operators.{Unary, Binary, not, weakNext, strongNext, finally, globally, or, and, until, release, implies, equiv, unaryCode, binaryCode, unaryToken, binaryToken}
+use Rattle.sequence.specs.Operators.{Unary, Binary, not, weakNext, strongNext, finally, globally, or, and, until, release, implies, equiv, unaryToken, binaryToken}
 use Rattle.sequence.specs.Table.{Listed, unaryRow, binaryRow}
 use Rattle.sequence.specs.Table.Listed.{unary as unary-row, binary as binary-row, neither as no-row}
 use Rattle.sequence.proofs.Groups.{unary-below, binary-between}

@@ -1,7 +1,6 @@
 -- `print` meets its contract: the names, the list, the text's length against the room, and then the text.
 -- Assumes nothing.
-use mathlib.Core.Path.{_≡_, sym, _∙_}
-use native.Mathlib.Omega.{arith}
+use mathlib.Core.Path.{sym, _∙_}
 use Rattle.formula.specs.Kinds.{nodeOf, nodes}
 use Rattle.formula.proofs.Listed.{length-nodes}
 use Rattle.formula.proofs.Answers.{names-good, names-broken, prints-broken, few-enough, prints-nine, printable, prints-three, room-enough, prints-text}

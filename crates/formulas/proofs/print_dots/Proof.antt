@@ -1,7 +1,6 @@
 -- `print_dots` lends as many dots as are asked, up to 500.
 -- Assumes nothing.
-use mathlib.Core.Path.{_≡_, sym}
-use native.Mathlib.Omega.{arith}
+use mathlib.Core.Path.{sym}
 use lib.Seq.{length-take-le}
 use borrow.Author.Needs.{needs}
 use Rattle.formulas.proofs.print_dots.Statement.{statement}

@@ -1,6 +1,6 @@
 -- `agrees` meets its contract: a good session has to accept, and a bad one must not.
 -- Assumes nothing.
-use mathlib.Core.Path.{_≡_, sym, _∙_}
+use mathlib.Core.Path.{sym, _∙_}
 use mathlib.Core.Bool.{true≢false}
 use Rattle.formula.proofs.Checking.{marked-good, bad-accepts, bad-rejects}
 use borrow.Author.Needs.{needs}

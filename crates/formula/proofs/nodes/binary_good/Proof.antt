@@ -1,7 +1,7 @@
 -- `binary_good` meets its contract: each test that fails is a fault of 01's list.
 -- Assumes nothing.
 use native.Mathlib.Omega.{arith}
-use mathlib.Core.Path.{_≡_, sym}
+use mathlib.Core.Path.{sym}
 use Rattle.formula.specs.Rule.Fault.{leftPlace, rightPlace, binarySize, tooLarge}
 use Rattle.formula.specs.Inner.Fits.{binary}
 use borrow.Author.Needs.{needs}

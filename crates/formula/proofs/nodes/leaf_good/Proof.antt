@@ -1,7 +1,7 @@
 -- `leaf_good` meets its contract: each test that fails is a fault of 01's list, and what passes all of them is a leaf.
 -- Assumes nothing.
 use native.Mathlib.Omega.{arith}
-use mathlib.Core.Path.{_≡_, refl}
+use mathlib.Core.Path.{refl}
 use Rattle.walk.specs.Formula.{proposition}
 use Rattle.formula.specs.Rule.Fault.{unknownCode, noProposition, leftUnused, rightUnused, leafSize}
 use Rattle.formula.specs.Inner.Fits.{leaf}

@@ -1,7 +1,6 @@
 -- `node_at` meets its contract: the four numbers at the place are the node there.
 -- Assumes nothing.
-use mathlib.Core.Path.{_≡_, refl, sym, ap, _∙_}
-use native.Mathlib.Omega.{arith}
+use mathlib.Core.Path.{sym}
 use Rattle.formula.proofs.Listed.{node-at}
 use borrow.Author.Needs.{needs}
 use Rattle.formula.proofs.nodes.node_at.Statement.{statement}

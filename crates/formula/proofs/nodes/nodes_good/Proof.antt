@@ -1,7 +1,6 @@
 -- `nodes_good` meets its contract: the nodes before the place that is tested fit.
 -- Assumes nothing.
 use Prim.Native.Nat.{_≤_, _-_}
-use mathlib.Core.Path.{_∙_}
 use native.Mathlib.Omega.{arith}
 use Rattle.formula.specs.Kinds.{nodes}
 use Rattle.formula.specs.Inner.{AllFit}

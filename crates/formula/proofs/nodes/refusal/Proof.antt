@@ -1,7 +1,6 @@
 -- `refusal` meets its contract: the count, then each listed node, then the root.
 -- Assumes nothing.
 use mathlib.Core.Path.{sym, _∙_}
-use native.Mathlib.Omega.{arith}
 use Rattle.formula.proofs.Listed.{length-nodes}
 use Rattle.formula.proofs.Tests.{too-many, list-fails, root-fails, all-pass}
 use borrow.Author.Needs.{needs}

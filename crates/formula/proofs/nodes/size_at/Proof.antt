@@ -1,6 +1,6 @@
 -- `size_at` meets its contract: a node's size is a byte.
 -- Assumes nothing.
-use mathlib.Core.Path.{_≡_, refl, sym, ap, _∙_}
+use mathlib.Core.Path.{sym, ap}
 use native.Mathlib.Omega.{arith}
 use Rattle.walk.specs.Nodes.{Node}
 use Rattle.formula.proofs.Listed.{node-at}

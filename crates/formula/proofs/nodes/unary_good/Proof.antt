@@ -1,7 +1,7 @@
 -- `unary_good` meets its contract: each test that fails is a fault of 01's list.
 -- Assumes nothing.
 use native.Mathlib.Omega.{arith}
-use mathlib.Core.Path.{_≡_, sym}
+use mathlib.Core.Path.{sym}
 use Rattle.formula.specs.Rule.Fault.{unaryPlace, rightUnused, unarySize, tooLarge}
 use Rattle.formula.specs.Inner.Fits.{unary}
 use Rattle.formula.proofs.Faults.{not-both}

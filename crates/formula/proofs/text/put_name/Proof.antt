@@ -1,9 +1,9 @@
 -- `put_name` meets its contract: the letters of the name, out of the section.
 -- Assumes nothing.
-use mathlib.Core.Path.{_≡_, refl, sym, ap, _∙_, subst}
-use Prim.Native.Nat.{ℕ, _+_, _-_}
+use mathlib.Core.Path.{ap, _∙_, subst}
+use Prim.Native.Nat.{ℕ}
 use native.Mathlib.Omega.{arith}
-use mathlib.Core.List.{List, []}
+use mathlib.Core.List.{List}
 use lib.ListN.{length, getD}
 use Rattle.formula.specs.Inner.{Wrote}
 use Rattle.formula.proofs.Names.{start-in, name-byte, name-end, name-part}
