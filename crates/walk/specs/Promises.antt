@@ -212,8 +212,8 @@ goOn i n c = turn (offer i) (i .room) (i .bound) n c
 abbrev pub TurnsAdd : Type 0
 TurnsAdd = (i : Input) (a b : ℕ) (c : Cut (List ℕ)) → goOn i b (goOn i a c) ≡ goOn i (a + b) c
 
--- after n candidates the walk has ended, with the whole walk's answer, and at most n were tried; or n were tried and the whole walk tries more, and what is kept is
--- what those n came to
+-- after n candidates the walk has ended, with the whole walk's answer, and at most n were tried; or n were tried and the whole walk tries
+-- more, and what is kept is what those n came to
 abbrev pub CutOf : Input → ℕ → Cut (List ℕ) → Type 0
 CutOf i n (over e k m) = (search i ≡ ended e k m) × (m ≤ n)
 CutOf i n (more s j k m) =
