@@ -1,0 +1,191 @@
+// Reads lines of a letter, a space and a file in hex, and writes what the session file reader makes of each. The letter says how much room is lent:
+// s, 3 marks, 3 lengths, 4 words, 6 unary and 7 binary codes, all 99 before, and written out after; m, n, w, u, b, as much but for 1 mark, 1 length,
+// 1 word, 4 unary or 5 binary codes; l, room for the largest file.
+// A line that starts with # is copied.
+use session::file::ReadAnswer;
+ghost use mathlib.Core.Path.{_≡_};
+ghost use Prim.Native.Nat.{_+_, _<_, _≤_};
+ghost use lib.ListN.{length};
+
+fn digit(b: u8) -> u8
+    ensures { λ r. ⌜ r < 16 ⌝ }
+{
+    if b >= b'0' {
+        if b <= b'9' {
+            return b - b'0';
+        }
+    }
+    if b >= b'A' {
+        if b <= b'F' {
+            return b - b'A' + 10;
+        }
+    }
+    0
+}
+
+// The bytes of the hex digits from `from` on, and how many.
+fn decode(text: &[u8], out: &mut [u8]) -> usize
+    ensures { λ r. ⌜ r ≤ length (now (out .entry)) ⌝ }
+{
+    let mut n: usize = 0;
+    let mut i: usize = 0;
+    while i + 1 < text.len() {
+        if n < out.len() {
+            out[n] = digit(text[i]) * 16 + digit(text[i + 1]);
+            n += 1;
+        }
+        i += 2;
+    }
+    n
+}
+
+fn show(answer: ReadAnswer) {
+    match answer {
+        ReadAnswer::Parts {
+            sessions,
+            propositions,
+            names,
+            unary,
+            binary,
+            constants,
+            bound,
+        } => {
+            io::write_all(1, b"r ");
+            io::print_decimal(1, sessions as u64);
+            io::write_all(1, b" m ");
+            io::print_decimal(1, propositions as u64);
+            io::write_all(1, b" names ");
+            io::print_decimal(1, names as u64);
+            io::write_all(1, b" unary ");
+            io::print_decimal(1, unary as u64);
+            io::write_all(1, b" binary ");
+            io::print_decimal(1, binary as u64);
+            io::write_all(1, b" constants ");
+            io::print_decimal(1, constants as u64);
+            io::write_all(1, b" bound ");
+            io::print_decimal(1, bound as u64);
+        }
+        ReadAnswer::Broken(o) => {
+            io::write_all(1, b"refused 8 at ");
+            io::print_decimal(1, o as u64);
+        }
+        ReadAnswer::Room => {
+            io::write_all(1, b"refused 3");
+        }
+    }
+}
+
+fn show_bytes(list: &[u8]) {
+    io::write_all(1, b" |");
+    let mut i: usize = 0;
+    while i < list.len() {
+        io::write_all(1, b" ");
+        io::print_decimal(1, list[i] as u64);
+        i += 1;
+    }
+}
+
+fn show_words(list: &[u64]) {
+    io::write_all(1, b" |");
+    let mut i: usize = 0;
+    while i < list.len() {
+        io::write_all(1, b" ");
+        io::print_decimal(1, list[i]);
+        i += 1;
+    }
+}
+
+fn small(file: &[u8], a: usize, b: usize, c: usize, d: usize, e: usize)
+    requires { ⌜ (a ≤ 3) × (b ≤ 3) × (c ≤ 4) × (d ≤ 6) × (e ≤ 7) ⌝ }
+{
+    let mut marks = [99u8; 3];
+    let mut lengths = [99u8; 3];
+    let mut words = [99u64; 4];
+    let mut unary = [99u8; 6];
+    let mut binary = [99u8; 7];
+    let answer = session::file::read(
+        file,
+        &mut marks[..a],
+        &mut lengths[..b],
+        &mut words[..c],
+        &mut unary[..d],
+        &mut binary[..e],
+    );
+    show(answer);
+    show_bytes(&marks);
+    show_bytes(&lengths);
+    show_words(&words);
+    show_bytes(&unary);
+    show_bytes(&binary);
+    io::write_all(1, b"\n");
+}
+
+fn large(file: &[u8]) {
+    let mut marks = [99u8; 32];
+    let mut lengths = [99u8; 32];
+    let mut words = [99u64; 512];
+    let mut unary = [99u8; 5];
+    let mut binary = [99u8; 6];
+    let answer = session::file::read(
+        file,
+        &mut marks,
+        &mut lengths,
+        &mut words,
+        &mut unary,
+        &mut binary,
+    );
+    show(answer);
+    io::write_all(1, b"\n");
+}
+
+fn answer_line(line: &[u8]) {
+    if line.len() < 2 {
+        return;
+    }
+    if line[0] == b'#' {
+        io::write_all(1, line);
+        io::write_all(1, b"\n");
+        return;
+    }
+    let mut file = [0u8; 4500];
+    let n = decode(&line[2..], &mut file);
+    match line[0] {
+        b's' => small(&file[..n], 3, 3, 4, 6, 7),
+        b'm' => small(&file[..n], 1, 3, 4, 6, 7),
+        b'n' => small(&file[..n], 3, 1, 4, 6, 7),
+        b'w' => small(&file[..n], 3, 3, 1, 6, 7),
+        b'u' => small(&file[..n], 3, 3, 4, 4, 7),
+        b'b' => small(&file[..n], 3, 3, 4, 6, 5),
+        _ => large(&file[..n]),
+    }
+}
+
+// Where the line that starts at `from` ends: at a line end, or at the end.
+fn line_end(s: &[u8], from: usize) -> usize
+    requires { ⌜ from ≤ length (now s) ⌝ }
+    ensures { λ r. ⌜ (from ≤ r) × (r ≤ length (now (s .entry))) ⌝ }
+{
+    let mut i = from;
+    while i < s.len() {
+        if s[i] == b'\n' {
+            return i;
+        }
+        i += 1;
+    }
+    i
+}
+
+fn lines(s: &[u8]) {
+    let mut at: usize = 0;
+    while at < s.len() {
+        let end = line_end(s, at);
+        answer_line(&s[at..end]);
+        at = end + 1;
+    }
+}
+
+fn main() {
+    let mut buf = io::large_buffer();
+    let n = io::read_full(0, &mut buf);
+    lines(&buf[..n]);
+}

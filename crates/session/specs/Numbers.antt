@@ -1,0 +1,24 @@
+-- The numbers of document 01 that bound session data, each under one name. The largest length is `width`, of `words`.
+-- Assumes nothing.
+use mathlib.Core.Logic.{_⊎_}
+use Prim.Native.Nat.{ℕ, _<_}
+
+-- "sessions r 1 to 32"
+abbrev pub sessions : ℕ
+sessions = 32
+
+-- "propositions m 1 to 16"
+abbrev pub propositions : ℕ
+propositions = 16
+
+-- "size bound B 1 to 31"
+abbrev pub bound : ℕ
+bound = 31
+
+-- "names (length byte 1-16 ..)"
+abbrev pub nameLength : ℕ
+nameLength = 16
+
+-- n is none of the numbers from lo to hi
+abbrev pub Outside : ℕ → ℕ → ℕ → Type 0
+Outside lo hi n = (n < lo) ⊎ (hi < n)

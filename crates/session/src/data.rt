@@ -1,0 +1,96 @@
+// The tests of session data that search and check share.
+use crate::sessions::is_clear;
+ghost use mathlib.Core.Path.{_≡_};
+ghost use mathlib.Core.Bool.{true};
+ghost use Prim.Native.Nat.{ℕ, _+_, _*_, _≤_, _<_};
+ghost use lib.ListN.{length, getD};
+ghost use Rattle.words.specs.Word.{width, At};
+ghost use Rattle.sequence.specs.Refusals.{Decided};
+ghost use Rattle.session.specs.Data.{dataRows};
+ghost use Rattle.session.specs.Inner.{AllUpTo, Clear, AllClear};
+
+// Whether each of the first n numbers is at most `most`.
+fn all_up_to(list: &[u8], n: usize, most: u8) -> bool
+    requires { ⌜ n ≤ length (now list) ⌝ }
+    ensures { λ r. ⌜ AllUpTo (now (list .entry)) n most r ⌝ }
+{
+    let mut i: usize = 0;
+    while i < n {
+        if most < list[i] {
+            return false;
+        }
+        i += 1;
+    }
+    true
+}
+
+// Whether the m words from `from` on have no bit at or above n.
+fn session_clear(words: &[u64], from: usize, m: usize, n: usize) -> bool
+    requires { ⌜ (n ≤ width) × (from + m ≤ length (now words)) ⌝ }
+    ensures { λ r. ⌜ Clear (now (words .entry)) from m n r ⌝ }
+{
+    let mut p: usize = 0;
+    while p < m {
+        if is_clear(n, words[from + p]) {
+            p += 1;
+        } else {
+            return false;
+        }
+    }
+    true
+}
+
+fn all_clear(lengths: &[u8], words: &[u64], r: usize, m: usize) -> bool
+    requires { ⌜ (r ≤ length (now lengths)) × (m * r ≤ length (now words)) × AllUpTo (now lengths) r width true ⌝ }
+    ensures { λ b. ⌜ AllClear (now (lengths .entry)) (now (words .entry)) r m b ⌝ }
+{
+    let mut i: usize = 0;
+    let mut at: usize = 0;
+    while i < r {
+        if session_clear(words, at, m, lengths[i] as usize) {
+            at += m;
+            i += 1;
+        } else {
+            return false;
+        }
+    }
+    true
+}
+
+// 0 where the data are good, or the number of the first row that refuses them. A caller with rows of its own puts them between these by the number
+// alone: 1 comes before all of them; then its 2; then its own rooms, which are 3 before any other number here; then this number; then its 7.
+pub fn test(r: usize, m: usize, marks: &[u8], lengths: &[u8], words: &[u64]) -> u8
+    ensures { λ k. ⌜ Decided (dataRows r m (now (marks .entry)) (now (lengths .entry)) (now (words .entry))) k ⌝ }
+{
+    if r < 1 {
+        return 1;
+    }
+    if crate::SESSIONS < r {
+        return 1;
+    }
+    if m < 1 {
+        return 1;
+    }
+    if crate::PROPOSITIONS < m {
+        return 1;
+    }
+    if marks.len() < r {
+        return 3;
+    }
+    if lengths.len() < r {
+        return 3;
+    }
+    if words.len() < m * r {
+        return 3;
+    }
+    if all_up_to(lengths, r, 64) {
+        if all_clear(lengths, words, r, m) {
+            if all_up_to(marks, r, 1) {
+                return 0;
+            }
+            return 6;
+        }
+        return 5;
+    }
+    4
+}
