@@ -163,6 +163,8 @@ module _ (file : List ℕ) where
   settings-complete at s next g r =
       let a = second file (one 2) (one (s .constants) ++ one (s .bound)) r in
       let b = second file (one (s .constants)) (one (s .bound)) a in
-      rw (byte-complete (within 2 2) file at 2 refl (first file (one 2) (one (s .constants) ++ one (s .bound)) r),
+      rw (
+        byte-complete (within 2 2) file at 2 refl (first file (one 2) (one (s .constants) ++ one (s .bound)) r),
         byte-complete (within 0 1) file (at + 1) (s .constants) (within-is 0 1 (s .constants) (omega arith) (g .constants)) (first file (one (s .constants)) (one (s .bound)) a),
-        byte-complete (within 1 bound) file (at + 1 + 1) (s .bound) (within-is 1 bound (s .bound) (g .some) (g .low)) b)
+        byte-complete (within 1 bound) file (at + 1 + 1) (s .bound) (within-is 1 bound (s .bound) (g .some) (g .low)) b,
+      )

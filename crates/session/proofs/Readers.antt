@@ -84,7 +84,7 @@ module _ {A : Type 0} (item : List A → Reader A) (fit : List A → A → Type 
         is = r .is ∙ append-assoc before (t .0 ∷ []) (r .new);
         count = ap suc (r .count);
         fits = (f .0, r .fits);
-        spans = both file (bytes (t .0)) (flatMap bytes (r .new)) (f .1) (r .spans)
+        spans = both file (bytes (t .0)) (flatMap bytes (r .new)) (f .1) (r .spans);
       }
 
   pub row-complete : Complete → (new before : List A) (at : ℕ) {next : ℕ} → Each fit before new → Spans file at (flatMap bytes new) next → each item (length new) before file at ≡ got (before ++ new) next
@@ -117,7 +117,7 @@ module _ {A : Type 0} (item : List A → Reader A) (fit : List A → A → Type 
         some = omega (arith, within-low lo hi (t .0) (b .0));
         few = omega (arith, within-high lo hi (t .0) (b .0));
         fits = subst (Each fit []) (sym (r .is)) (r .fits);
-        spans = both file (one (length all)) (flatMap bytes all) u v
+        spans = both file (one (length all)) (flatMap bytes all) u v;
       }
 
   pub section-complete : Complete → (lo hi at : ℕ) (all : List A) {next : ℕ} → Section lo hi at all next → counted lo hi item file at ≡ got all next

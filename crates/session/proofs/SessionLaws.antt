@@ -23,8 +23,9 @@ use Rattle.session.proofs.Numbers.{Bytes, length-low, number-low, low-n
 bytes-take : (n : ℕ) (l : List ℕ) → Bytes l → Bytes (take n l)
 bytes-take n l h i =
     elim (decLt i n) [
-      yes b ↦ rw (getD-take n l i 0 b) (h i)
-    | no b ↦ rw (List·getD-eq-default (take n l) 0 {n = i} (omega (arith, lt-of-not-le b, length-take n l))) (omega arith) ]
+      | yes b ↦ rw (getD-take n l i 0 b) (h i)
+      | no b ↦ rw (List·getD-eq-default (take n l) 0 {n = i} (omega (arith, lt-of-not-le b, length-take n l))) (omega arith)
+    ]
 
 bytes-drop : (n : ℕ) (l : List ℕ) → Bytes l → Bytes (drop n l)
 bytes-drop n l h i = rw (getD-drop n l i 0) (h (n + i))
@@ -94,10 +95,12 @@ module _ (file : List ℕ) where
       let ws = flatMap wordBytes (s .words) in
       let a = second file (one (s .mark)) (one (s .length) ++ ws) r in
       let b = second file (one (s .length)) ws a in
-      rw (byte-complete (within 0 1) file at (s .mark) (within-is 0 1 (s .mark) (omega arith) (g .mark)) (first file (one (s .mark)) (one (s .length) ++ ws) r),
+      rw (
+        byte-complete (within 0 1) file at (s .mark) (within-is 0 1 (s .mark) (omega arith) (g .mark)) (first file (one (s .mark)) (one (s .length) ++ ws) r),
         byte-complete (within 0 width) file (at + 1) (s .length) (within-is 0 width (s .length) (omega arith) (g .short)) (first file (one (s .length)) ws a),
         ← (g .count),
-        row-complete (λ _. word (s .length)) (Fits (s .length)) wordBytes file (words-complete (s .length)) (s .words) [] (at + 1 + 1) (g .words) b)
+        row-complete (λ _. word (s .length)) (Fits (s .length)) wordBytes file (words-complete (s .length)) (s .words) [] (at + 1 + 1) (g .words) b,
+      )
 
   abbrev pub Fit : ℕ → List Session → Session → Type 0
   Fit m before s = GoodSession m s

@@ -23,7 +23,7 @@ module _ (file : List ℕ) where
   both {a} {b} {c} u v s t =
       record {
         is = s .is ∙ ap (λ (l : List ℕ). u ++ l) (t .is) ∙ sym (append-assoc u v (drop c file));
-        end = omega (arith, length-append u v)
+        end = omega (arith, length-append u v);
       }
 
   after : {a c : ℕ} (u v : List ℕ) → Spans file a (u ++ v) c → drop (a + length u) file ≡ v ++ drop c file
@@ -43,10 +43,11 @@ module _ (file : List ℕ) where
   pub head : (at b : ℕ) (rest : List ℕ) → drop at file ≡ b ∷ rest → (at < length file) × (getD file at 0 ≡ b) × (drop (at + 1) file ≡ rest)
   head at b rest e =
       elim (decLt at (length file)) [
-        yes h ↦
-          let q : getD file at 0 ∷ drop (suc at) file ≡ b ∷ rest = sym (drop-cons file at 0 h) ∙ e in
-          (h, head-eq-of-cons-eq q, ap (λ (n : ℕ). drop n file) (add-one at) ∙ tail-eq-of-cons-eq q)
-      | no h ↦ absurd (nil≢cons (sym (drop-of-length-le file {i = at} (omega (arith, lt-of-not-le h))) ∙ e)) ]
+        | yes h ↦
+            let q : getD file at 0 ∷ drop (suc at) file ≡ b ∷ rest = sym (drop-cons file at 0 h) ∙ e in
+            (h, head-eq-of-cons-eq q, ap (λ (n : ℕ). drop n file) (add-one at) ∙ tail-eq-of-cons-eq q)
+        | no h ↦ absurd (nil≢cons (sym (drop-of-length-le file {i = at} (omega (arith, lt-of-not-le h))) ∙ e))
+      ]
 
   pub one-byte : (at : ℕ) → at < length file → Spans file at (getD file at 0 ∷ []) (at + 1)
   one-byte at h = record { is = rw (add-one, drop-cons file at 0); end = omega arith }

@@ -93,19 +93,19 @@ module _ (file : List ℕ) where
       let is : q ≡ p = got-value (x .3) in
       let m : x .1 ≡ next = got-next (x .3) in
       let good : Good q =
-        record {
-          someNames = n .some;
-          fewNames = n .few;
-          names = n .fits;
-          someSessions = s .some;
-          fewSessions = s .few;
-          sessions = s .fits;
-          unary = each-map unary-good (v .0) [] (c .fits);
-          binary = each-map binary-good (w .0) [] (d .fits);
-          constants = f .0 .constants;
-          someBound = f .0 .some;
-          lowBound = f .0 .low
-        } in
+      record {
+        someNames = n .some;
+        fewNames = n .few;
+        names = n .fits;
+        someSessions = s .some;
+        fewSessions = s .few;
+        sessions = s .fits;
+        unary = each-map unary-good (v .0) [] (c .fits);
+        binary = each-map binary-good (w .0) [] (d .fits);
+        constants = f .0 .constants;
+        someBound = f .0 .some;
+        lowBound = f .0 .low;
+      } in
       let a = section nameBytes (t .0) in
       let b = section sessionBytes (u .0) in
       let g = section one (v .0) in
@@ -129,11 +129,13 @@ module _ (file : List ℕ) where
       let r2 = second file b (g ++ (h ++ k)) r1 in
       let r3 = second file g (h ++ k) r2 in
       let r4 = second file h k r3 in
-      rw (names-complete propositions at (p .names) (record { some = w .someNames; few = w .fewNames; fits = w .names; spans = first file a (b ++ (g ++ (h ++ k))) r }),
+      rw (
+        names-complete propositions at (p .names) (record { some = w .someNames; few = w .fewNames; fits = w .names; spans = first file a (b ++ (g ++ (h ++ k))) r }),
         all-complete (length (p .names)) (at + length a) (p .sessions) (record { some = w .someSessions; few = w .fewSessions; fits = w .sessions; spans = first file b (g ++ (h ++ k)) r1 }),
         codes-complete isUnary (at + length a + length b) (p .unary) (record { some = omega arith; few = omega (arith, few-unary (p .unary) us); fits = us; spans = first file g (h ++ k) r2 }),
         codes-complete isBinary (at + length a + length b + length g) (p .binary) (record { some = omega arith; few = omega (arith, few-binary (p .binary) bs); fits = bs; spans = first file h k r3 }),
-        settings-complete file (at + length a + length b + length g + length h) s next (record { constants = w .constants; some = w .someBound; low = w .lowBound }) r4)
+        settings-complete file (at + length a + length b + length g + length h) s next (record { constants = w .constants; some = w .someBound; low = w .lowBound }) r4,
+      )
 
   whole-run : (run : List ℕ) → run ≡ file → Spans file 0 run (length file)
   whole-run run e = record { is = sym e ∙ sym (append-nil run) ∙ ap (λ (l : List ℕ). run ++ l) (sym (drop-length file)); end = omega (arith, ap length e) }

@@ -1,0 +1,5 @@
+pub mod Listed
+pub mod Faults
+pub mod Tests
+pub mod Spelled
+pub mod Evaluation

@@ -1,0 +1,56 @@
+-- `leaf_good` meets its contract: each test that fails is a fault of 01's list, and what passes all of them is a leaf.
+-- Assumes nothing.
+use native.Mathlib.Omega.{arith}
+use mathlib.Core.Path.{_≡_, refl}
+use Rattle.walk.specs.Formula.{proposition}
+use Rattle.formula.specs.Rule.Fault.{unknownCode, noProposition, leftUnused, rightUnused, leafSize}
+use Rattle.formula.specs.Inner.Fits.{leaf}
+use Rattle.formula.proofs.Faults.{is-leaf, unknown, constant-fits}
+use borrow.Author.Needs.{needs}
+use Rattle.formula.proofs.nodes.leaf_good.Statement.{statement}
+use Rattle.formula.proofs.nodes.leaf_good.Tie as tie
+
+returns : tie.Need-returns
+returns c = let s = c .before .before .before .before .before .before in unknownCode (unknown _ (s .pre .1) (s .pre .2) (λ a b. omega arith))
+
+returns-2 : tie.Need-returns-2
+returns-2 c = let s = c .before .before .before .before .before .before .before .before in unknownCode (unknown _ (s .pre .1) (s .pre .2) (λ a b. omega arith))
+
+returns-3 : tie.Need-returns-3
+returns-3 c = rightUnused (c .before .before .before .before .before .before .before .before .before .before .pre .2) (c .if3 .taken)
+
+returns-4 : tie.Need-returns-4
+returns-4 c = leafSize (is-leaf _ (omega arith) (omega arith)) (c .if4 .taken)
+
+from-left-requires : tie.Need-from-left-requires
+from-left-requires c κs = search needs
+
+cast-if6 : tie.Need-cast-if6
+cast-if6 c = search needs
+
+returns-5 : tie.Need-returns-5
+returns-5 c = leaf (proposition (c .before .before .before .before .before .before .before .before .before .before .before .before .before .before .before .before .before .args .node .left .0)) (c .before .before .before .if5 .taken) refl (omega arith) (c .before .before .before .before .before .before .before .if3 .left) (c .before .before .before .before .before .if4 .left)
+
+returns-6 : tie.Need-returns-6
+returns-6 c = noProposition (c .before .before .before .if5 .taken) (omega arith)
+
+returns-7 : tie.Need-returns-7
+returns-7 c = leftUnused (is-leaf _ (omega arith) (omega arith)) (c .before .before .if5 .left) (c .if7 .taken)
+
+returns-8 : tie.Need-returns-8
+returns-8 c = constant-fits _ _ _ _ (omega arith) (omega arith) (c .if7 .left) (c .before .before .before .before .before .before .if3 .left) (c .before .before .before .before .if4 .left)
+
+pub leaf-good-spec : {M : Type 1} → statement M
+leaf-good-spec =
+    tie.close
+    (tie.spec
+    returns
+    returns-2
+    returns-3
+    returns-4
+    from-left-requires
+    cast-if6
+    returns-5
+    returns-6
+    returns-7
+    returns-8)

@@ -1,0 +1,62 @@
+-- How private functions speak of nodes that pass the rule. No public contract cites this file, so nothing here has to be believed.
+-- Assumes nothing.
+use mathlib.Core.Path.{_≡_}
+use mathlib.Core.Bool.{Bool, true, false}
+use mathlib.Core.List.{List}
+use Prim.Native.Nat.{ℕ, _+_, _≤_, _<_}
+use lib.ListN.{length, getD}
+use Rattle.words.specs.Word.{width, At, Wf, Means}
+use Rattle.sequence.specs.Operators.{Unary, Binary, unaryCode, binaryCode}
+use Rattle.walk.specs.Formula.{Leaf, proposition, constant, Formula, Trace, Holds}
+use Rattle.walk.specs.Nodes.{Node, nodeAt, Spells, codes, leafCode, leafNumber}
+use Rattle.walk.specs.Input.{mostSize}
+use Rattle.formula.specs.Kinds.{mostNumber}
+use Rattle.formula.specs.Rule.{Fault}
+
+abbrev pub LeafIn : ℕ → Leaf → Type 0
+LeafIn m (proposition p) = p < m
+LeafIn m (constant b) = Unit {0}
+
+module _ (m : ℕ) (k : List Node) where
+  -- a node without fault, by what it is
+  pub data Fits (below : ℕ) (n : Node) : Type 0 where
+    leaf : (c : Leaf) → n .code ≡ leafCode c → n .left ≡ leafNumber c → LeafIn m c → n .right ≡ 0 → n .size ≡ 1 → Fits below n
+    unary : (op : Unary) → n .code ≡ unaryCode op → n .left < below → n .right ≡ 0
+        → n .size ≡ 1 + nodeAt k (n .left) .size → n .size ≤ mostSize → Fits below n
+    binary : (op : Binary) → n .code ≡ binaryCode op → n .left < below → n .right < below
+        → n .size ≡ 1 + nodeAt k (n .left) .size + nodeAt k (n .right) .size → n .size ≤ mostSize → Fits below n
+
+  -- what a test of one node says
+  abbrev pub Judged : ℕ → Node → Bool → Type 0
+  Judged below n true = Fits below n
+  Judged below n false = Fault m k below n
+
+  -- the first `count` nodes are without fault
+  abbrev pub AllFit : ℕ → Type 0
+  AllFit count = (p : ℕ) → p < count → Fits p (nodeAt k p)
+
+  -- what a test of the whole list says
+  abbrev pub AllJudged : ℕ → Bool → Type 0
+  AllJudged count true = AllFit count
+  AllJudged count false = (p : ℕ) × (p < count) × Fault m k p (nodeAt k p)
+
+-- ---- evaluation
+
+-- what was recorded of a session of n snapshots whose words stand from `from` on
+abbrev pub traceAt : ℕ → List ℕ → ℕ → Trace
+traceAt n words from = record { length = n; holds = λ p. At (getD words (from + p) 0) }
+
+-- what the evaluator asks: a session's words are well formed, and the list, and the node over its first places, without fault
+pub record Ready (n : ℕ) (words : List ℕ) (from : ℕ) (k : List Node) (below : ℕ) (node : Node) : Type 0 where
+  pub short : n ≤ width
+  pub propositions : ℕ
+  pub few : propositions ≤ mostNumber
+  pub there : from + propositions ≤ length words
+  pub clear : (p : ℕ) → p < propositions → Wf n (getD words (from + p) 0)
+  pub all : AllFit propositions k (length k)
+  pub within : below ≤ length k
+  pub fits : Fits propositions k below node
+
+-- what it answers: the word of whatever formula the node spells
+abbrev pub Evaluated : ℕ → List ℕ → ℕ → List Node → Node → ℕ → Type 0
+Evaluated n words from k node r = (t : Formula) → Spells codes k node t → Means n r (Holds (traceAt n words from) t)

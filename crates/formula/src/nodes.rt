@@ -1,0 +1,218 @@
+// The rule of a node list (number 9), tested at each listed node and at the root.
+use crate::kinds::Node;
+use crate::kinds::Place;
+use crate::kinds::Proposition;
+use sequence::operators::Group;
+ghost use mathlib.Core.Path.{_≡_};
+ghost use mathlib.Core.List.{[], _∷_};
+ghost use Prim.Native.Nat.{_≤_, _<_};
+ghost use Rattle.walk.specs.Nodes.{nodeAt};
+ghost use Rattle.sequence.specs.Refusals.{Decided};
+ghost use Rattle.formula.specs.Kinds.{nodeOf, countOf, nodes, mostNumber};
+ghost use Rattle.formula.specs.Rule.{IsUnary, IsBinary, brokenList};
+ghost use Rattle.formula.specs.Inner.{Judged, AllJudged};
+
+// How many nodes four slices have: as many as the shortest.
+pub(crate) fn count(codes: &[u8], lefts: &[u16], rights: &[u16], sizes: &[u8]) -> usize
+    ensures { λ r. ⌜ r ≡ countOf (now (codes .entry)) (now (lefts .entry)) (now (rights .entry)) (now (sizes .entry)) ⌝ }
+{
+    let mut n = codes.len();
+    if lefts.len() < n {
+        n = lefts.len();
+    }
+    if rights.len() < n {
+        n = rights.len();
+    }
+    if sizes.len() < n {
+        n = sizes.len();
+    }
+    n
+}
+
+// The node at a place.
+pub(crate) fn node_at(codes: &[u8], lefts: &[u16], rights: &[u16], sizes: &[u8], at: usize) -> Node
+    requires { ⌜ at < countOf (now codes) (now lefts) (now rights) (now sizes) ⌝ }
+    ensures { λ r. ⌜ nodeOf r ≡ nodeAt (nodes (now (codes .entry)) (now (lefts .entry)) (now (rights .entry)) (now (sizes .entry))) at ⌝ }
+{
+    let code = codes[at];
+    let left = lefts[at];
+    let right = rights[at];
+    let size = sizes[at];
+    Node {
+        code,
+        left: Place(left),
+        right: Place(right),
+        size,
+    }
+}
+
+// The size of the node at a place.
+fn size_at(codes: &[u8], lefts: &[u16], rights: &[u16], sizes: &[u8], at: usize) -> usize
+    requires { ⌜ at < countOf (now codes) (now lefts) (now rights) (now sizes) ⌝ }
+    ensures { λ r. ⌜ (r ≡ nodeAt (nodes (now (codes .entry)) (now (lefts .entry)) (now (rights .entry)) (now (sizes .entry))) at .size) × (r ≤ mostNumber) ⌝ }
+{
+    sizes[at] as usize
+}
+
+// A node whose code is no operator's.
+fn leaf_good(
+    m: usize,
+    codes: &[u8],
+    lefts: &[u16],
+    rights: &[u16],
+    sizes: &[u8],
+    below: usize,
+    node: Node,
+) -> bool
+    requires { ⌜ (m ≤ mostNumber) × (IsUnary (node .code) → ⊥) × (IsBinary (node .code) → ⊥) ⌝ }
+    ensures { λ r. ⌜ Judged m (nodes (now (codes .entry)) (now (lefts .entry)) (now (rights .entry)) (now (sizes .entry))) below (nodeOf node) r ⌝ }
+{
+    if node.code < 16 {
+        return false;
+    }
+    if 18 < node.code {
+        return false;
+    }
+    if node.right.0 != 0 {
+        return false;
+    }
+    if node.size != 1 {
+        return false;
+    }
+    if node.code == 16 {
+        let p = Proposition::from_left(node.left);
+        if (p.0 as usize) < m {
+            return true;
+        }
+        return false;
+    }
+    if node.left.0 != 0 {
+        return false;
+    }
+    true
+}
+
+fn unary_good(
+    m: usize,
+    codes: &[u8],
+    lefts: &[u16],
+    rights: &[u16],
+    sizes: &[u8],
+    below: usize,
+    node: Node,
+) -> bool
+    requires { ⌜ (below ≤ countOf (now codes) (now lefts) (now rights) (now sizes)) × IsUnary (node .code) ⌝ }
+    ensures { λ r. ⌜ Judged m (nodes (now (codes .entry)) (now (lefts .entry)) (now (rights .entry)) (now (sizes .entry))) below (nodeOf node) r ⌝ }
+{
+    let left = node.left.0 as usize;
+    if below <= left {
+        return false;
+    }
+    if node.right.0 != 0 {
+        return false;
+    }
+    let l = size_at(codes, lefts, rights, sizes, left);
+    let size = node.size as usize;
+    if size != 1 + l {
+        return false;
+    }
+    if 31 < size {
+        return false;
+    }
+    true
+}
+
+fn binary_good(
+    m: usize,
+    codes: &[u8],
+    lefts: &[u16],
+    rights: &[u16],
+    sizes: &[u8],
+    below: usize,
+    node: Node,
+) -> bool
+    requires { ⌜ (below ≤ countOf (now codes) (now lefts) (now rights) (now sizes)) × IsBinary (node .code) ⌝ }
+    ensures { λ r. ⌜ Judged m (nodes (now (codes .entry)) (now (lefts .entry)) (now (rights .entry)) (now (sizes .entry))) below (nodeOf node) r ⌝ }
+{
+    let left = node.left.0 as usize;
+    if below <= left {
+        return false;
+    }
+    let right = node.right.0 as usize;
+    if below <= right {
+        return false;
+    }
+    let l = size_at(codes, lefts, rights, sizes, left);
+    let r = size_at(codes, lefts, rights, sizes, right);
+    let size = node.size as usize;
+    if size != 1 + l + r {
+        return false;
+    }
+    if 31 < size {
+        return false;
+    }
+    true
+}
+
+// One node, whose children have to stand below a place.
+fn node_good(
+    m: usize,
+    codes: &[u8],
+    lefts: &[u16],
+    rights: &[u16],
+    sizes: &[u8],
+    below: usize,
+    node: Node,
+) -> bool
+    requires { ⌜ (m ≤ mostNumber) × (below ≤ countOf (now codes) (now lefts) (now rights) (now sizes)) ⌝ }
+    ensures { λ r. ⌜ Judged m (nodes (now (codes .entry)) (now (lefts .entry)) (now (rights .entry)) (now (sizes .entry))) below (nodeOf node) r ⌝ }
+{
+    let group = sequence::operators::operator_of(node.code).group;
+    match group {
+        Group::Unary => unary_good(m, codes, lefts, rights, sizes, below, node),
+        Group::Binary => binary_good(m, codes, lefts, rights, sizes, below, node),
+        Group::Neither => leaf_good(m, codes, lefts, rights, sizes, below, node),
+    }
+}
+
+// Each of the first n nodes, reachable or not.
+fn nodes_good(m: usize, codes: &[u8], lefts: &[u16], rights: &[u16], sizes: &[u8], n: usize) -> bool
+    requires { ⌜ (m ≤ mostNumber) × (n ≤ countOf (now codes) (now lefts) (now rights) (now sizes)) ⌝ }
+    ensures { λ r. ⌜ AllJudged m (nodes (now (codes .entry)) (now (lefts .entry)) (now (rights .entry)) (now (sizes .entry))) n r ⌝ }
+{
+    let mut i: usize = 0;
+    while i < n {
+        let node = node_at(codes, lefts, rights, sizes, i);
+        if node_good(m, codes, lefts, rights, sizes, i, node) {
+            i += 1;
+        } else {
+            return false;
+        }
+    }
+    true
+}
+
+// 9 where the list or the root breaks the rule, else 0.
+pub(crate) fn refusal(
+    m: usize,
+    codes: &[u8],
+    lefts: &[u16],
+    rights: &[u16],
+    sizes: &[u8],
+    root: Node,
+) -> u8
+    requires { ⌜ m ≤ mostNumber ⌝ }
+    ensures { λ r. ⌜ Decided (brokenList m (nodes (now (codes .entry)) (now (lefts .entry)) (now (rights .entry)) (now (sizes .entry))) (nodeOf root) ∷ []) r ⌝ }
+{
+    let n = count(codes, lefts, rights, sizes);
+    if 4096 < n {
+        return 9;
+    }
+    if nodes_good(m, codes, lefts, rights, sizes, n) {
+        if node_good(m, codes, lefts, rights, sizes, n, root) {
+            return 0;
+        }
+        return 9;
+    }
+    9
+}
