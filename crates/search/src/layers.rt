@@ -75,7 +75,20 @@ fn layer(
     let mut k = kept;
     let mut n = tried;
     loop {
-        let event = scan(given, marks, lengths, words, unary, binary, matrices, k, starts, s, at, n);
+        let event = scan(
+            given,
+            marks,
+            lengths,
+            words,
+            unary,
+            binary,
+            matrices,
+            k,
+            starts,
+            s,
+            at,
+            n,
+        );
         match event {
             Event::Through(t) => {
                 return Stand::Going { tried: t, kept: k };
@@ -109,7 +122,16 @@ fn layer(
                         kept: k,
                     };
                 }
-                let rows = rows_of(r, given.propositions, lengths, words, matrices, code, left, right);
+                let rows = rows_of(
+                    r,
+                    given.propositions,
+                    lengths,
+                    words,
+                    matrices,
+                    code,
+                    left,
+                    right,
+                );
                 put_node(codes, lefts, rights, sizes, k, code, left, right, s);
                 store(r, matrices, &rows, k * r);
                 k += 1;

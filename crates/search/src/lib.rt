@@ -62,7 +62,17 @@ pub fn search(
         constants,
     };
     let stand = layers::layers(
-        given, marks, lengths, words, unary, binary, codes, lefts, rights, sizes, matrices,
+        given,
+        marks,
+        lengths,
+        words,
+        unary,
+        binary,
+        codes,
+        lefts,
+        rights,
+        sizes,
+        matrices,
     );
     match stand {
         Stand::Going { tried, kept } => SearchAnswer::None { tried, kept },

@@ -35,7 +35,14 @@ fn unary_rows(r: usize, lengths: &[u8], matrices: &[u64], code: u8, from: usize)
     rows
 }
 
-fn binary_rows(r: usize, lengths: &[u8], matrices: &[u64], code: u8, left: usize, right: usize) -> Matrix {
+fn binary_rows(
+    r: usize,
+    lengths: &[u8],
+    matrices: &[u64],
+    code: u8,
+    left: usize,
+    right: usize,
+) -> Matrix {
     let mut rows = [0u64; 32];
     let mut j: usize = 0;
     while j < r {
@@ -81,8 +88,7 @@ fn agrees_at(x: u64, length: u8, mark: u8) -> bool {
     let accepts = CharSeq {
         length: length as usize,
         values: x,
-    }
-    .accepts();
+    }.accepts();
     if accepts { mark == 1 } else { mark != 1 }
 }
 

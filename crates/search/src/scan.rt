@@ -58,7 +58,16 @@ fn one(
     tried: u64,
 ) -> Event {
     let r = given.sessions;
-    let rows = rows_of(r, given.propositions, lengths, words, matrices, code, left, right);
+    let rows = rows_of(
+        r,
+        given.propositions,
+        lengths,
+        words,
+        matrices,
+        code,
+        left,
+        right,
+    );
     if agrees(r, marks, lengths, &rows) {
         return Event::Found {
             tried: tried + 1,
@@ -109,19 +118,55 @@ fn both(
         second: 0,
     };
     if at.second == 0 {
-        let event = one(given, marks, lengths, words, matrices, kept, code, l, q, halfway, tried);
+        let event = one(
+            given,
+            marks,
+            lengths,
+            words,
+            matrices,
+            kept,
+            code,
+            l,
+            q,
+            halfway,
+            tried,
+        );
         if commutes {
             return event;
         }
         let Event::Through(n) = event else {
             return event;
         };
-        return one(given, marks, lengths, words, matrices, kept, code, q, l, after, n);
+        return one(
+            given,
+            marks,
+            lengths,
+            words,
+            matrices,
+            kept,
+            code,
+            q,
+            l,
+            after,
+            n,
+        );
     }
     if commutes {
         return Event::Through(tried);
     }
-    one(given, marks, lengths, words, matrices, kept, code, q, l, after, tried)
+    one(
+        given,
+        marks,
+        lengths,
+        words,
+        matrices,
+        kept,
+        code,
+        q,
+        l,
+        after,
+        tried,
+    )
 }
 
 // The binary operators over a pair.
@@ -147,7 +192,17 @@ fn row(
             operator: o,
             second,
         };
-        let event = both(given, marks, lengths, words, matrices, kept, binary[o], here, n);
+        let event = both(
+            given,
+            marks,
+            lengths,
+            words,
+            matrices,
+            kept,
+            binary[o],
+            here,
+            n,
+        );
         let Event::Through(t) = event else {
             return event;
         };
@@ -183,7 +238,17 @@ fn column(
             operator: o,
             second,
         };
-        let event = row(given, marks, lengths, words, binary, matrices, kept, here, n);
+        let event = row(
+            given,
+            marks,
+            lengths,
+            words,
+            binary,
+            matrices,
+            kept,
+            here,
+            n,
+        );
         let Event::Through(t) = event else {
             return event;
         };
@@ -223,7 +288,18 @@ fn pairs(
             operator: o,
             second,
         };
-        let event = column(given, marks, lengths, words, binary, matrices, kept, to, here, n);
+        let event = column(
+            given,
+            marks,
+            lengths,
+            words,
+            binary,
+            matrices,
+            kept,
+            to,
+            here,
+            n,
+        );
         let Event::Through(t) = event else {
             return event;
         };
@@ -315,7 +391,19 @@ fn unary_row(
             operator: o + 1,
             second: 0,
         };
-        let event = one(given, marks, lengths, words, matrices, kept, unary[o], place, 0, next, n);
+        let event = one(
+            given,
+            marks,
+            lengths,
+            words,
+            matrices,
+            kept,
+            unary[o],
+            place,
+            0,
+            next,
+            n,
+        );
         let Event::Through(t) = event else {
             return event;
         };
@@ -437,7 +525,18 @@ pub(crate) fn scan(
         return seeds(given, marks, lengths, words, matrices, kept, at.left, tried);
     }
     if at.split == 0 {
-        let event = unary_places(given, marks, lengths, words, unary, matrices, kept, starts[s], at, tried);
+        let event = unary_places(
+            given,
+            marks,
+            lengths,
+            words,
+            unary,
+            matrices,
+            kept,
+            starts[s],
+            at,
+            tried,
+        );
         let Event::Through(n) = event else {
             return event;
         };
@@ -448,7 +547,31 @@ pub(crate) fn scan(
             operator: 0,
             second: 0,
         };
-        return splits(given, marks, lengths, words, binary, matrices, kept, starts, s, first, n);
+        return splits(
+            given,
+            marks,
+            lengths,
+            words,
+            binary,
+            matrices,
+            kept,
+            starts,
+            s,
+            first,
+            n,
+        );
     }
-    splits(given, marks, lengths, words, binary, matrices, kept, starts, s, at, tried)
+    splits(
+        given,
+        marks,
+        lengths,
+        words,
+        binary,
+        matrices,
+        kept,
+        starts,
+        s,
+        at,
+        tried,
+    )
 }

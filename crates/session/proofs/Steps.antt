@@ -62,7 +62,7 @@ module _ {A : Type 0} (item : List A → Reader A) (file : List ℕ) where
           seen = l .seen ++ (a ∷ []);
           count = omega (arith, length-append (l .seen) (a ∷ []), l .count);
           upto = omega arith;
-          is = sym (on (n - (i + 1)) (l .seen) p e) ∙ ap (λ (k : ℕ). each item k (l .seen) file p) (sym (left h)) ∙ l .is
+          is = sym (on (n - (i + 1)) (l .seen) p e) ∙ ap (λ (k : ℕ). each item k (l .seen) file p) (sym (left h)) ∙ l .is;
         }
 
     pub broken : {o : ℕ} → i < n → item (l .seen) file p ≡ bad o → Broken o ≡ stepOf length (each item n [] file at)

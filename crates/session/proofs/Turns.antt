@@ -47,7 +47,7 @@ module _ (group : ℕ → Bool) (file : List ℕ) (from count : ℕ) where
           loop = turn (code group) file (l .loop) h (t .1);
           seen = ap (λ (x : List ℕ). x ++ (t .0 ∷ [])) (l .seen) ∙ ap (λ (x : ℕ). take i (drop from file) ++ (x ∷ [])) (sym g) ∙ sym (run-more file from i lt);
           at = omega (arith, s .end, l .at);
-          room = inside file (one (t .0)) s (l .room)
+          room = inside file (one (t .0)) s (l .room);
         }
 
     pub codes-broken : {o : ℕ} → r ≡ Broken o → Broken o ≡ stepOf length (each (code group) count [] file from)
@@ -82,7 +82,7 @@ module _ (file : List ℕ) (count : ℕ) where
           loop = turn name file (l .loop) h (t .1);
           seen = ap (λ (x : List (List ℕ)). x ++ (t .0 ∷ [])) (l .seen) ∙ ap (λ (x : List ℕ). walk file i 1 ++ (x ∷ [])) (sym is) ∙ sym (walk-more file i 1) ∙ ap (λ (k : ℕ). walk file k 1) (sym (add-one i));
           at = sym (ap (λ (k : ℕ). walkEnd file k 1) (add-one i) ∙ end-more file i 1 ∙ to);
-          room = inside file (nameBytes (t .0)) s (l .room)
+          room = inside file (nameBytes (t .0)) s (l .room);
         }
 
     pub names-broken : {o : ℕ} → r ≡ Broken o → Broken o ≡ stepOf length (each name count [] file 1)

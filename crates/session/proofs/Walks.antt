@@ -90,7 +90,7 @@ module _ (file : List ℕ) (a b n : ℕ) where
     runs-turn h la lb e =
         record {
           upto = omega arith;
-          is = sym (and-on _ (eq-eqb (getD file (a + i) 0) (getD file (b + i) 0) e)) ∙ sym (runs-step h la lb) ∙ r .is
+          is = sym (and-on _ (eq-eqb (getD file (a + i) 0) (getD file (b + i) 0) e)) ∙ sym (runs-step h la lb) ∙ r .is;
         }
 
     pub runs-differ : i < n → a + n ≤ length file → b + n ≤ length file → (getD file (a + i) 0 ≡ getD file (b + i) 0 → ⊥) → false ≡ sameBytes (take n (drop a file)) (take n (drop b file))
@@ -124,7 +124,7 @@ module _ (file : List ℕ) (from count c : ℕ) where
     among-turn h l e =
         record {
           upto = omega arith;
-          is = sym (or-on _ (ne-eqb c (getD file (from + i) 0) (λ q. e (sym q)))) ∙ sym (among-step h l) ∙ r .is
+          is = sym (or-on _ (ne-eqb c (getD file (from + i) 0) (λ q. e (sym q)))) ∙ sym (among-step h l) ∙ r .is;
         }
 
     pub among-here : i < count → from + count ≤ length file → getD file (from + i) 0 ≡ c → true ≡ isIn eqb c (take count (drop from file))
@@ -164,7 +164,7 @@ module _ (file name : List ℕ) (count : ℕ) where
         record {
           upto = omega arith;
           is = sym (or-on _ e) ∙ sym (known-step h) ∙ r .is;
-          ends = known-ends h
+          ends = known-ends h;
         }
 
     pub known-here : j < count → sameBytes name (take (getD file p 0) (drop (p + 1) file)) ≡ true → true ≡ isIn sameBytes name (walk file count 1)

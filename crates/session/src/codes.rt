@@ -79,7 +79,10 @@ fn codes_from(file: &[u8], from: usize, count: usize, unary: bool) -> Step
         }
         i += 1;
     }
-    Step::Read { value: count, next: p }
+    Step::Read {
+        value: count,
+        next: p,
+    }
 }
 
 pub(crate) fn codes_section(file: &[u8], at: usize, unary: bool) -> Step

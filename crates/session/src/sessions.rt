@@ -18,7 +18,10 @@ pub(crate) fn is_clear(n: usize, w: u64) -> bool
     requires { ⌜ n ≤ width ⌝ }
     ensures { λ r. ⌜ r ≡ ltb w (2 ^ n) ⌝ }
 {
-    let word = CharSeq { length: n, values: w };
+    let word = CharSeq {
+        length: n,
+        values: w,
+    };
     word.is_well_formed()
 }
 

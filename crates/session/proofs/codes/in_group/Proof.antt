@@ -30,21 +30,21 @@ enum-told-3 c = search needs
 
 -- src/codes.rt:15:1
 returns : tie.Need-returns
-returns c = 
+returns c =
     let f = c .before .before .operator-of in
     let op = in-unary _ (f .result) (f .ensures) (c .enum-told .given .1) in
     group-unary _ _ (op .0) (op .1)
 
 -- src/codes.rt:15:1
 returns-2 : tie.Need-returns-2
-returns-2 c = 
+returns-2 c =
     let f = c .before .before .operator-of in
     let op = in-binary _ (f .result) (f .ensures) (c .enum-told2 .given .1) in
     group-binary _ (c .before .before .before .args .unary) (op .0) (op .1)
 
 -- src/codes.rt:15:1
 returns-3 : tie.Need-returns-3
-returns-3 c = 
+returns-3 c =
     let f = c .before .before .operator-of in
     group-neither _ (c .before .before .before .args .unary) (off-unary _ (f .result) (f .ensures) (λ g. let z : _≡_ {A = ℕ} 0 1 = cc (c .enum-told3 .given .1) in omega arith))
     (off-binary _ (f .result) (f .ensures) (λ g. let z : _≡_ {A = ℕ} 0 1 = cc (c .enum-told3 .given .1) in omega arith))

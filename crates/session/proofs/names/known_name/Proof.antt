@@ -42,7 +42,7 @@ same-bytes-requires c κs = omega (arith, known-room _ _ _ (c .before .before .b
 
 -- src/names.rt:130:17
 returns : tie.Need-returns Inv-loop μ-loop
-returns c = 
+returns c =
     let f = c .before .before .before .before .before .before .before .args .file .now in
     known-here _ _ _ (c .before .before .before .before .before .loop .inv) (c .before .before .before .before .loop-test .taken) (ap (λ (k : ℕ). sameBytes (take (c .before .before .before .before .before .before .before .args .n) (drop (c .before .before .before .before .before .before .before .args .at) f)) (take k (drop (c .before .before .before .before .before .loop .p + 1) f))) (c .before .before .if1 .taken) ∙ sym (c .before .same-bytes .ensures) ∙ c .if2 .taken)
 
@@ -64,7 +64,7 @@ loop-less c = search needs
 
 -- src/names.rt:126:5
 loop-again : tie.Need-loop-again Inv-loop μ-loop
-loop-again c = 
+loop-again c =
     let f = c .before .before .before .before .before .args .file .now in
     let n = c .before .before .before .before .before .args .n in
     let at = c .before .before .before .before .before .args .at in

@@ -44,7 +44,7 @@ enum-known-s-2 c = search needs
 
 -- src/names.rt:96:17
 returns : tie.Need-returns Inv-loop μ-loop
-returns c = 
+returns c =
     let l = c .before .before .before .before .before .loop .inv in
     broken letter _ l (c .before .before .before .before .loop-test .taken) (step-broken (λ b. b) _ _ (step l (c .before .before .before .letter-at .ensures)) (c .before .s2 .given .1))
 
@@ -58,7 +58,7 @@ loop-less c = search needs
 
 -- src/names.rt:89:5
 loop-again : tie.Need-loop-again Inv-loop μ-loop
-loop-again c = 
+loop-again c =
     let l = c .before .before .before .before .before .loop .inv in
     turn letter _ l (c .before .before .before .before .loop-test .taken) (step-read (λ b. b) _ _ (step l (c .before .before .before .letter-at .ensures)) (c .before .s .given .1) .1)
 

@@ -31,12 +31,12 @@ enum-known-s c = search needs
 
 -- src/names.rt:153:24
 known-name-requires : tie.Need-known-name-requires
-known-name-requires c κs = 
+known-name-requires c κs =
     (c .before .before .before .before .before .before .before .before .before .pre, name-fits _ [] _ _ (c .before .before .before .before .before .before .before .byte-within .ensures) (c .before .before .before .before .before .c .given .1) _ (c .before .before .before .letters-from .ensures) (c .before .s .given .1))
 
 -- src/names.rt:154:25
 returns : tie.Need-returns
-returns c = 
+returns c =
     name-twice _ _ _ _ (c .before .before .before .before .before .before .before .before .before .byte-within .ensures) (c .before .before .before .before .before .before .before .c .given .1) _ (c .before .before .before .before .before .letters-from .ensures) (c .before .before .before .s .given .1) (sym (c .before .known-name .ensures) ∙ c .if1 .taken)
 
 -- src/names.rt:161:30
@@ -49,7 +49,7 @@ enum-known-c-2 c = search needs
 
 -- src/names.rt:140:1
 returns-2 : tie.Need-returns-2
-returns-2 c = 
+returns-2 c =
     name-new _ _ _ _ (c .before .before .before .before .before .before .before .before .before .byte-within .ensures) (c .before .before .before .before .before .before .before .c .given .1) _ (c .before .before .before .before .before .letters-from .ensures) (c .before .before .before .s .given .1) (sym (c .before .known-name .ensures) ∙ c .if1 .left)
 
 -- src/names.rt:140:1

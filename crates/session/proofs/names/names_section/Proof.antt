@@ -34,7 +34,7 @@ enum-known-c-2 c = search needs
 
 -- src/names.rt:194:1
 returns : tie.Need-returns
-returns c = 
+returns c =
     let n = byte-next _ _ _ (byte-read _ _ (c .before .before .before .before .byte-within .ensures) (c .before .before .c .given .1)) in
     let at : 1 ≡ c .before .before .c .given .0 .1 .0 = omega (arith, n .1) in
     section-read _ _ 1 _ 0 _ (c .before .before .before .before .byte-within .ensures) _ (c .before .before .c .given .1)

@@ -22,7 +22,7 @@ bytes-left-requires c κs = search needs
 -- src/sessions.rt:30:9
 returns : tie.Need-returns
 unfolding word
-returns c = 
+returns c =
     let a = c .before .before .before .args in
     let short : length (a .file .now) < a .at + 8 = omega (arith, c .before .bytes-left .ensures) in
     simp (lt-leb _ _ short)
@@ -42,7 +42,7 @@ add-t10 c = search needs
 -- src/sessions.rt:24:1
 returns-2 : tie.Need-returns-2
 unfolding word
-returns-2 c = 
+returns-2 c =
     let a = c .before .before .before .before .before .before .args in
     let long : a .at + 8 ≤ length (a .file .now) = omega (arith, c .before .before .before .before .bytes-left .ensures) in
     simp (le-leb _ _ long, sym (c .before .before .word-at .ensures), sym (c .before .is-clear .ensures) ∙ c .if2 .taken)
@@ -50,7 +50,7 @@ returns-2 c =
 -- src/sessions.rt:24:1
 returns-3 : tie.Need-returns-3
 unfolding word
-returns-3 c = 
+returns-3 c =
     let a = c .before .before .before .before .before .before .args in
     let long : a .at + 8 ≤ length (a .file .now) = omega (arith, c .before .before .before .before .bytes-left .ensures) in
     simp (le-leb _ _ long, sym (c .before .before .word-at .ensures), sym (c .before .is-clear .ensures) ∙ c .if2 .left)
