@@ -1,21 +1,38 @@
 // A candidate's matrix, its acceptance against the marks, and its comparison with what is kept (cm.rs).
 // The rows of a candidate are computed once, into an array of the function that asks for them: a table that is full has no place for them,
 // and what is not kept must not be written.
+use crate::given::Given;
 use sequence::CharSeq;
 use sequence::operators;
+ghost use mathlib.Core.Path.{_≡_};
+ghost use mathlib.Core.Bool.{Bool, Bool·beq};
+ghost use Prim.Native.Nat.{ℕ, _+_, _*_, _≤_, _<_};
+ghost use lib.ListN.{length, take, drop};
+ghost use lib.Dec.{eqb};
+ghost use Rattle.walk.specs.Rows.{acceptsRow};
+ghost use Rattle.search.specs.Matrix.{UnaryAt, BinaryAt, LeafAt, UnaryRows, BinaryRows, LeafRows, RowsAsk, RowsOf, agreesAt, SameAt, Known};
+ghost use Rattle.walk.specs.Walk.{count};
+ghost use Rattle.walk.specs.Input.{every};
+ghost use lib.Seq.{paste};
 
 // One word per session, 0 from the last session on.
 pub type Matrix = [u64; 32];
 
-fn unary_at(code: u8, x: u64, length: u8) -> u64 {
+fn unary_at(code: u8, x: u64, length: u8) -> u64
+    ensures { λ w. ⌜ UnaryAt code x length w ⌝ }
+{
     operators::unary_word(code, x, CharSeq::mask(length as usize))
 }
 
-fn binary_at(code: u8, x: u64, y: u64, length: u8) -> u64 {
+fn binary_at(code: u8, x: u64, y: u64, length: u8) -> u64
+    ensures { λ w. ⌜ BinaryAt code x y length w ⌝ }
+{
     operators::binary_word(code, x, y, CharSeq::mask(length as usize))
 }
 
-fn leaf_at(code: u8, x: u64, length: u8) -> u64 {
+fn leaf_at(code: u8, x: u64, length: u8) -> u64
+    ensures { λ w. ⌜ LeafAt code x length w ⌝ }
+{
     if code == 16 {
         return x;
     }
@@ -25,7 +42,10 @@ fn leaf_at(code: u8, x: u64, length: u8) -> u64 {
     CharSeq::mask(length as usize)
 }
 
-fn unary_rows(r: usize, lengths: &[u8], matrices: &[u64], code: u8, from: usize) -> Matrix {
+fn unary_rows(r: usize, lengths: &[u8], matrices: &[u64], code: u8, from: usize) -> Matrix
+    requires { ⌜ (r ≤ 32) × (r ≤ length (now lengths)) × (from + r ≤ length (now matrices)) ⌝ }
+    ensures { λ rows. ⌜ UnaryRows r (now (lengths .entry)) (now (matrices .entry)) code from rows ⌝ }
+{
     let mut rows = [0u64; 32];
     let mut j: usize = 0;
     while j < r {
@@ -42,7 +62,10 @@ fn binary_rows(
     code: u8,
     left: usize,
     right: usize,
-) -> Matrix {
+) -> Matrix
+    requires { ⌜ (r ≤ 32) × (r ≤ length (now lengths)) × (left + r ≤ length (now matrices)) × (right + r ≤ length (now matrices)) ⌝ }
+    ensures { λ rows. ⌜ BinaryRows r (now (lengths .entry)) (now (matrices .entry)) code left right rows ⌝ }
+{
     let mut rows = [0u64; 32];
     let mut j: usize = 0;
     while j < r {
@@ -52,7 +75,10 @@ fn binary_rows(
     rows
 }
 
-fn leaf_rows(r: usize, m: usize, lengths: &[u8], words: &[u64], code: u8, number: usize) -> Matrix {
+fn leaf_rows(r: usize, m: usize, lengths: &[u8], words: &[u64], code: u8, number: usize) -> Matrix
+    requires { ⌜ (r ≤ 32) × (m ≤ 65535) × (r ≤ length (now lengths)) × (number < m) × (m * r ≤ length (now words)) ⌝ }
+    ensures { λ rows. ⌜ LeafRows r m (now (lengths .entry)) (now (words .entry)) code number rows ⌝ }
+{
     let mut rows = [0u64; 32];
     let mut j: usize = 0;
     let mut at = number;
@@ -66,25 +92,30 @@ fn leaf_rows(r: usize, m: usize, lengths: &[u8], words: &[u64], code: u8, number
 
 // The matrix of the candidate with that code, left and right field.
 pub(crate) fn rows_of(
-    r: usize,
-    m: usize,
+    given: Given,
     lengths: &[u8],
     words: &[u64],
     matrices: &[u64],
     code: u8,
     left: usize,
     right: usize,
-) -> Matrix {
+) -> Matrix
+    requires { ⌜ RowsAsk given (now lengths) (now words) (now matrices) code left right ⌝ }
+    ensures { λ rows. ⌜ RowsOf given (now (lengths .entry)) (now (words .entry)) (now (matrices .entry)) code left right rows ⌝ }
+{
+    let r = given.sessions;
     if code < 5 {
         return unary_rows(r, lengths, matrices, code, left * r);
     }
     if code < 16 {
         return binary_rows(r, lengths, matrices, code, left * r, right * r);
     }
-    leaf_rows(r, m, lengths, words, code, left)
+    leaf_rows(r, given.propositions, lengths, words, code, left)
 }
 
-fn agrees_at(x: u64, length: u8, mark: u8) -> bool {
+fn agrees_at(x: u64, length: u8, mark: u8) -> bool
+    ensures { λ b. ⌜ b ≡ Bool·beq (acceptsRow length x) (eqb mark 1) ⌝ }
+{
     let accepts = CharSeq {
         length: length as usize,
         values: x,
@@ -93,7 +124,10 @@ fn agrees_at(x: u64, length: u8, mark: u8) -> bool {
 }
 
 // Whether exactly the sessions marked 1 accept.
-pub(crate) fn agrees(r: usize, marks: &[u8], lengths: &[u8], rows: &Matrix) -> bool {
+pub(crate) fn agrees(r: usize, marks: &[u8], lengths: &[u8], rows: &Matrix) -> bool
+    requires { ⌜ (r ≤ 32) × (r ≤ length (now marks)) × (r ≤ length (now lengths)) ⌝ }
+    ensures { λ b. ⌜ b ≡ every (count 0 r) (agreesAt (now (marks .entry)) (now (lengths .entry)) (now (rows .entry))) ⌝ }
+{
     let mut j: usize = 0;
     while j < r {
         if agrees_at(rows[j], lengths[j], marks[j]) {
@@ -106,7 +140,10 @@ pub(crate) fn agrees(r: usize, marks: &[u8], lengths: &[u8], rows: &Matrix) -> b
 }
 
 // Whether the matrix that starts at `from` is the same in every row.
-fn same_at(r: usize, matrices: &[u64], rows: &Matrix, from: usize) -> bool {
+fn same_at(r: usize, matrices: &[u64], rows: &Matrix, from: usize) -> bool
+    requires { ⌜ (r ≤ 32) × (from + r ≤ length (now matrices)) ⌝ }
+    ensures { λ b. ⌜ SameAt r (now (rows .entry)) (now (matrices .entry)) from b ⌝ }
+{
     let mut j: usize = 0;
     while j < r {
         if rows[j] != matrices[from + j] {
@@ -118,7 +155,10 @@ fn same_at(r: usize, matrices: &[u64], rows: &Matrix, from: usize) -> bool {
 }
 
 // Whether one of the kept matrices is the same.
-pub(crate) fn known(r: usize, matrices: &[u64], kept: usize, rows: &Matrix) -> bool {
+pub(crate) fn known(r: usize, matrices: &[u64], kept: usize, rows: &Matrix) -> bool
+    requires { ⌜ (r ≤ 32) × (kept * r ≤ length (now matrices)) ⌝ }
+    ensures { λ b. ⌜ Known r (now (rows .entry)) (now (matrices .entry)) kept b ⌝ }
+{
     let mut p: usize = 0;
     let mut from: usize = 0;
     while p < kept {
@@ -132,7 +172,10 @@ pub(crate) fn known(r: usize, matrices: &[u64], kept: usize, rows: &Matrix) -> b
 }
 
 // Writes the rows from `from` on.
-pub(crate) fn store(r: usize, matrices: &mut [u64], rows: &Matrix, from: usize) {
+pub(crate) fn store(r: usize, matrices: &mut [u64], rows: &Matrix, from: usize)
+    requires { ⌜ (r ≤ length (now rows)) × (r ≤ 32) × (from + r ≤ length (now matrices)) ⌝ }
+    ensures { λ u. ⌜ now (matrices .exit) ≡ paste (now (matrices .entry)) from (now (rows .entry)) r ⌝ }
+{
     let mut j: usize = 0;
     while j < r {
         matrices[from + j] = rows[j];

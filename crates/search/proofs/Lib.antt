@@ -1,0 +1,4 @@
+pub mod Words
+pub mod Arrays
+pub mod Products
+pub mod Matrices
