@@ -2,3 +2,4 @@ pub mod Words
 pub mod Arrays
 pub mod Products
 pub mod Matrices
+pub mod Judge

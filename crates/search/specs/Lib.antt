@@ -1,3 +1,4 @@
 -- What a reader must believe of the search.
 -- `Matrix` is only for private functions: no public contract cites it.
 pub mod Matrix
+pub mod Scan

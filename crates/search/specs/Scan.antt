@@ -1,0 +1,130 @@
+-- What the loops over a size's candidates promise each other. No public contract cites this.
+-- Assumes nothing.
+use mathlib.Core.Path.{_≡_}
+use mathlib.Core.Bool.{Bool, true, false, cond}
+use mathlib.Core.List.{List, [], _∷_, _++_, map, foldl}
+use Prim.Native.Nat.{ℕ, zero, suc, _+_, _-_, _*_, _/_, _^_, _≤_, _<_}
+use lib.ListN.{length, getD, take, drop}
+use lib.Dec.{eqb, ltb}
+use Rattle.sequence.specs.Operators.{commutes}
+use Rattle.walk.specs.Nodes.{Node}
+use Rattle.walk.specs.Walk.{Candidate, Ending, found, State, going, ended, each, count, consider, known}
+use Rattle.walk.specs.Input.{Input, Passes, binaryOf, separating, offer}
+use Rattle.walk.specs.Promises.{Table}
+use Rattle.search.specs.declared.given.Given.{Given}
+use Rattle.search.specs.declared.scan.Cursor.{Cursor}
+use Rattle.search.specs.declared.scan.Event.{Event}
+use Rattle.search.specs.declared.scan.Event.the-variants.{Through, Found, New}
+use Rattle.search.specs.Matrix.{nothing, matrixAt, input, Stored, made, Makes, Readable}
+
+-- ---- the candidates, by places
+
+abbrev pub nodeOf : ℕ → ℕ → ℕ → ℕ → Node
+nodeOf s code left right = record { code = code; left = left; right = right; size = s }
+
+abbrev pub candidate : Input → Table → ℕ → ℕ → ℕ → ℕ → Candidate (List ℕ)
+candidate i k s code left right = record { node = nodeOf s code left right; matrix = made i k code left right }
+
+-- of f p, f (p + 1) and so on up to b, where of f p only `first` is left
+unfoldable pub resume : {A : Type 0} → List A → (ℕ → List A) → ℕ → ℕ → List A
+resume first f p b = cond (ltb p b) (first ++ each (count (p + 1) (b - (p + 1))) f) []
+
+-- the code and the left field of leaf p of m propositions and the constants
+abbrev pub leafCode : ℕ → ℕ → ℕ
+leafCode m p = cond (ltb p m) 16 (cond (eqb p m) 17 18)
+
+abbrev pub leafLeft : ℕ → ℕ → ℕ
+leafLeft m p = cond (ltb p m) p 0
+
+abbrev pub leafCount : Given → ℕ
+leafCount g = cond (eqb (g .constants) 1) (g .propositions + 2) (g .propositions)
+
+module _ (i : Input) (k : Table) (s : ℕ) where
+  unfoldable pub both : ℕ → ℕ → ℕ → List (Candidate (List ℕ))
+  both l q c = cond (commutes (binaryOf c)) (candidate i k s c l q ∷ []) (candidate i k s c l q ∷ (candidate i k s c q l ∷ []))
+
+  abbrev pub row : ℕ → ℕ → List ℕ → List (Candidate (List ℕ))
+  row l q codes = each codes (both l q)
+
+  abbrev pub column : ℕ → ℕ → ℕ → List (Candidate (List ℕ))
+  column a b l = each (count a (b - a)) λ q. row l q (i .binary)
+
+  abbrev pub pairs : ℕ → ℕ → ℕ → ℕ → List (Candidate (List ℕ))
+  pairs e f a b = each (count e (f - e)) (column a b)
+
+  abbrev pub split : List ℕ → ℕ → List (Candidate (List ℕ))
+  split starts t = pairs (getD starts t 0) (getD starts (t + 1) 0) (getD starts (s - 1 - t) 0) (getD starts (s - t) 0)
+
+  abbrev pub unaryRow : ℕ → List ℕ → List (Candidate (List ℕ))
+  unaryRow p codes = map (λ c. candidate i k s c p 0) codes
+
+  abbrev pub leafAt : ℕ → Candidate (List ℕ)
+  leafAt p = candidate i k s (leafCode (i .propositions) p) (leafLeft (i .propositions) p) 0
+
+  -- what is left from a cursor on
+  abbrev pub rowRest : ℕ → ℕ → Cursor → List (Candidate (List ℕ))
+  rowRest l q at = drop (cond (at .second) 1 0) (row l q (drop (at .operator) (i .binary)))
+
+  abbrev pub columnRest : ℕ → ℕ → Cursor → List (Candidate (List ℕ))
+  columnRest l b at = resume (rowRest l (at .right) at) (λ q. row l q (i .binary)) (at .right) b
+
+  abbrev pub pairsRest : ℕ → ℕ → ℕ → Cursor → List (Candidate (List ℕ))
+  pairsRest f a b at = resume (columnRest (at .left) b at) (column a b) (at .left) f
+
+  abbrev pub splitsRest : List ℕ → Cursor → List (Candidate (List ℕ))
+  splitsRest starts at =
+      resume (pairsRest (getD starts (at .split + 1) 0) (getD starts (s - 1 - at .split) 0) (getD starts (s - at .split) 0) at) (split starts) (at .split) ((s + 1) / 2)
+
+  abbrev pub unaryRest : ℕ → Cursor → List (Candidate (List ℕ))
+  unaryRest b at = resume (unaryRow (at .left) (drop (at .operator) (i .unary))) (λ p. unaryRow p (i .unary)) (at .left) b
+
+  abbrev pub seedsRest : ℕ → ℕ → List (Candidate (List ℕ))
+  seedsRest p b = map leafAt (count p (b - p))
+
+-- ---- what a scan says
+
+-- from n tried the candidates cs come to what ds come to from n′ tried; nothing is kept in between
+pub record Onward (i : Input) (k : Table) (n : ℕ) (cs : List (Candidate (List ℕ))) (n′ : ℕ) (ds : List (Candidate (List ℕ))) : Type 0 where
+  pub is : foldl (consider (offer i) (i .room)) (going k n) cs ≡ foldl (consider (offer i) (i .room)) (going k n′) ds
+
+pub record Fresh (i : Input) (k : Table) (x : Candidate (List ℕ)) : Type 0 where
+  pub rejected : separating i (x .matrix) ≡ false
+  pub unknown : known (offer i) (x .matrix) k ≡ false
+
+abbrev pub Scanned : Input → Table → Table → ℕ → ℕ → List (Candidate (List ℕ)) → (Cursor → List (Candidate (List ℕ))) → Event → Type 0
+Scanned i k₀ k s n cs rest (Through t) = Onward i k n cs t []
+Scanned i k₀ k s n cs rest (Found t code left right) = foldl (consider (offer i) (i .room)) (going k n) cs ≡ ended (found (nodeOf s code left right)) k t
+Scanned i k₀ k s n cs rest (New t code left right next) =
+    Onward i k n cs t (candidate i k₀ s code left right ∷ rest next) × Fresh i k (candidate i k₀ s code left right)
+
+-- and what holds whatever the table
+abbrev pub Safe : ℕ → ℕ → ℕ → (Cursor → Type 0) → Event → Type 0
+Safe m kept limit keeps (Through t) = t ≤ limit
+Safe m kept limit keeps (Found t code left right) = (t ≤ limit) × Makes m kept code left right
+Safe m kept limit keeps (New t code left right next) = (t < limit) × Makes m kept code left right × keeps next
+
+-- the slices hold the table k, which begins with k₀
+pub record Stands (i : Input) (k₀ k : Table) (matrices : List ℕ) (kept : ℕ) : Type 0 where
+  pub passes : Passes i
+  pub counted : kept ≡ length k
+  pub stored : Stored i k matrices
+  pub less : length k₀ ≤ length k
+  pub same : (p : ℕ) → p < length k₀ → getD k p nothing ≡ getD k₀ p nothing
+
+pub record Asks (g : Given) (marks lengths words matrices : List ℕ) (kept tried cost : ℕ) : Type 0 where
+  pub readable : Readable g lengths words matrices kept
+  pub marks-there : g .sessions ≤ length marks
+  pub few : kept ≤ 4096
+  pub counts : tried + cost < 2 ^ 64
+
+-- ---- one candidate
+
+pub record OneAsks (g : Given) (marks lengths words matrices : List ℕ) (kept code left right tried : ℕ) : Type 0 where
+  pub asks : Asks g marks lengths words matrices kept tried 1
+  pub makes : Makes (g .propositions) kept code left right
+
+pub record OneDoes (g : Given) (marks lengths words matrices : List ℕ) (kept code left right : ℕ) (next : Cursor) (tried : ℕ) (event : Event) : Type 0 where
+  pub safe : Safe (g .propositions) kept (tried + 1) (λ at. at ≡ next) event
+  pub runs : (unary binary : List ℕ) (k₀ k : Table) (s : ℕ) → Stands (input g marks lengths words unary binary) k₀ k matrices kept
+      → Makes (g .propositions) (length k₀) code left right
+      → Scanned (input g marks lengths words unary binary) k₀ k s tried (candidate (input g marks lengths words unary binary) k₀ s code left right ∷ []) (λ at. []) event
