@@ -70,25 +70,29 @@ module _ {g : Given} {marks lengths words matrices : List ℕ} {kept code left r
   pub one-found : {next : Cursor} → true ≡ every (count 0 (g .sessions)) (agreesAt marks lengths xs)
       → OneDoes g marks lengths words matrices kept code left right next tried (Found (tried + 1) code left right)
   one-found e = record {
-    safe = (omega arith, ask .makes);
-    runs = λ unary binary k₀ k s st mk. con-found (input g marks lengths words unary binary) k tried _ (agreed unary binary k₀ k st mk true e);
+    safe = record { says = (omega arith, ask .makes) };
+    runs = λ unary binary k₀ k s st mk. record { says = con-found (input g marks lengths words unary binary) k tried _ (agreed unary binary k₀ k st mk true e) };
   }
 
   pub one-known : {next : Cursor} → false ≡ every (count 0 (g .sessions)) (agreesAt marks lengths xs) → Known (g .sessions) xs matrices kept true
       → OneDoes g marks lengths words matrices kept code left right next tried (Through (tried + 1))
   one-known e w = record {
-    safe = omega arith;
+    safe = record { says = omega arith };
     runs = λ unary binary k₀ k s st mk. record {
-      is = con-known (input g marks lengths words unary binary) k tried _ (agreed unary binary k₀ k st mk false e) (found-already unary binary k₀ k st mk true w);
+      says = record {
+        is = con-known (input g marks lengths words unary binary) k tried _ (agreed unary binary k₀ k st mk false e) (found-already unary binary k₀ k st mk true w);
+      };
     };
   }
 
   pub one-new : {next : Cursor} → false ≡ every (count 0 (g .sessions)) (agreesAt marks lengths xs) → Known (g .sessions) xs matrices kept false
       → OneDoes g marks lengths words matrices kept code left right next tried (New tried code left right next)
   one-new e w = record {
-    safe = (omega arith, ask .makes, refl);
-    runs = λ unary binary k₀ k s st mk. (
-      record { is = refl },
-      record { rejected = agreed unary binary k₀ k st mk false e; unknown = found-already unary binary k₀ k st mk false w },
-    );
+    safe = record { says = (omega arith, ask .makes, refl) };
+    runs = λ unary binary k₀ k s st mk. record {
+      says = (
+        record { is = refl },
+        record { rejected = agreed unary binary k₀ k st mk false e; unknown = found-already unary binary k₀ k st mk false w },
+      );
+    };
   }

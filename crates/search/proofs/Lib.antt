@@ -3,3 +3,5 @@ pub mod Arrays
 pub mod Products
 pub mod Matrices
 pub mod Judge
+pub mod Onward
+pub mod Both

@@ -91,17 +91,23 @@ pub record Fresh (i : Input) (k : Table) (x : Candidate (List ℕ)) : Type 0 whe
   pub rejected : separating i (x .matrix) ≡ false
   pub unknown : known (offer i) (x .matrix) k ≡ false
 
-abbrev pub Scanned : Input → Table → Table → ℕ → ℕ → List (Candidate (List ℕ)) → (Cursor → List (Candidate (List ℕ))) → Event → Type 0
-Scanned i k₀ k s n cs rest (Through t) = Onward i k n cs t []
-Scanned i k₀ k s n cs rest (Found t code left right) = foldl (consider (offer i) (i .room)) (going k n) cs ≡ ended (found (nodeOf s code left right)) k t
-Scanned i k₀ k s n cs rest (New t code left right next) =
+abbrev pub ScannedBy : Input → Table → Table → ℕ → ℕ → List (Candidate (List ℕ)) → (Cursor → List (Candidate (List ℕ))) → Event → Type 0
+ScannedBy i k₀ k s n cs rest (Through t) = Onward i k n cs t []
+ScannedBy i k₀ k s n cs rest (Found t code left right) = foldl (consider (offer i) (i .room)) (going k n) cs ≡ ended (found (nodeOf s code left right)) k t
+ScannedBy i k₀ k s n cs rest (New t code left right next) =
     Onward i k n cs t (candidate i k₀ s code left right ∷ rest next) × Fresh i k (candidate i k₀ s code left right)
 
+pub record Scanned (i : Input) (k₀ k : Table) (s n : ℕ) (cs : List (Candidate (List ℕ))) (rest : Cursor → List (Candidate (List ℕ))) (event : Event) : Type 0 where
+  pub says : ScannedBy i k₀ k s n cs rest event
+
 -- and what holds whatever the table
-abbrev pub Safe : ℕ → ℕ → ℕ → (Cursor → Type 0) → Event → Type 0
-Safe m kept limit keeps (Through t) = t ≤ limit
-Safe m kept limit keeps (Found t code left right) = (t ≤ limit) × Makes m kept code left right
-Safe m kept limit keeps (New t code left right next) = (t < limit) × Makes m kept code left right × keeps next
+abbrev pub SafeBy : ℕ → ℕ → ℕ → (Cursor → Type 0) → Event → Type 0
+SafeBy m kept limit keeps (Through t) = t ≤ limit
+SafeBy m kept limit keeps (Found t code left right) = (t ≤ limit) × Makes m kept code left right
+SafeBy m kept limit keeps (New t code left right next) = (t < limit) × Makes m kept code left right × keeps next
+
+pub record Safe (m kept limit : ℕ) (keeps : Cursor → Type 0) (event : Event) : Type 0 where
+  pub says : SafeBy m kept limit keeps event
 
 -- the slices hold the table k, which begins with k₀
 pub record Stands (i : Input) (k₀ k : Table) (matrices : List ℕ) (kept : ℕ) : Type 0 where
@@ -128,3 +134,36 @@ pub record OneDoes (g : Given) (marks lengths words matrices : List ℕ) (kept c
   pub runs : (unary binary : List ℕ) (k₀ k : Table) (s : ℕ) → Stands (input g marks lengths words unary binary) k₀ k matrices kept
       → Makes (g .propositions) (length k₀) code left right
       → Scanned (input g marks lengths words unary binary) k₀ k s tried (candidate (input g marks lengths words unary binary) k₀ s code left right ∷ []) (λ at. []) event
+
+-- ---- one operator over a pair
+
+-- the same pair
+pub record SamePair (at next : Cursor) : Type 0 where
+  pub split : next .split ≡ at .split
+  pub left : next .left ≡ at .left
+  pub right : next .right ≡ at .right
+
+-- at the same operator with its second order left, or after it
+pub record NextBoth (at next : Cursor) : Type 0 where
+  pub pair : SamePair at next
+  pub operator : next .operator ≡ cond (next .second) (at .operator) (at .operator + 1)
+
+pub record BothAsks (g : Given) (marks lengths words matrices : List ℕ) (kept code : ℕ) (at : Cursor) (tried : ℕ) : Type 0 where
+  pub asks : Asks g marks lengths words matrices kept tried 2
+  pub above : 5 ≤ code
+  pub below : code < 11
+  pub left-in : at .left < kept
+  pub right-in : at .right < kept
+  pub operator-in : at .operator < 2 ^ 32
+
+module _ (i : Input) (k : Table) (s : ℕ) where
+  abbrev pub bothRest : ℕ → ℕ → ℕ → Cursor → List (Candidate (List ℕ))
+  bothRest l q code next = cond (next .second) (drop 1 (both i k s l q code)) []
+
+pub record BothDoes (g : Given) (marks lengths words matrices : List ℕ) (kept code : ℕ) (at : Cursor) (tried : ℕ) (event : Event) : Type 0 where
+  pub safe : Safe (g .propositions) kept (tried + 2) (NextBoth at) event
+  pub runs : (unary binary : List ℕ) (k₀ k : Table) (s : ℕ) → Stands (input g marks lengths words unary binary) k₀ k matrices kept
+      → at .left < length k₀ → at .right < length k₀
+      → Scanned (input g marks lengths words unary binary) k₀ k s tried
+      (drop (cond (at .second) 1 0) (both (input g marks lengths words unary binary) k₀ s (at .left) (at .right) code))
+      (bothRest (input g marks lengths words unary binary) k₀ s (at .left) (at .right) code) event

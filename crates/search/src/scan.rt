@@ -5,7 +5,7 @@ use crate::matrix::agrees;
 use crate::matrix::known;
 use crate::matrix::rows_of;
 use sequence::operators::operator_of;
-ghost use Rattle.search.specs.Scan.{OneAsks, OneDoes};
+ghost use Rattle.search.specs.Scan.{OneAsks, OneDoes, BothAsks, BothDoes};
 
 // Where a size's candidates go on: the split (0 before the pairs), the left place, or the number of a leaf, the right place, the operator's
 // position in its list, and whether its first order is done.
@@ -73,5 +73,89 @@ fn one(
         right,
         next,
     }
+}
+
+// One binary operator over a pair: both orders where it doesn't commute, or what is left of them.
+fn both(
+    given: Given,
+    marks: &[u8],
+    lengths: &[u8],
+    words: &[u64],
+    matrices: &[u64],
+    kept: usize,
+    code: u8,
+    at: Cursor,
+    tried: u64,
+) -> Event
+    requires { ⌜ BothAsks given (now marks) (now lengths) (now words) (now matrices) kept code at tried ⌝ }
+    ensures { λ event. ⌜ BothDoes given (now (marks .entry)) (now (lengths .entry)) (now (words .entry)) (now (matrices .entry)) kept code at tried event ⌝ }
+{
+    let l = at.left;
+    let q = at.right;
+    let commutes = operator_of(code).commutes;
+    let halfway = Cursor {
+        split: at.split,
+        left: l,
+        right: q,
+        operator: at.operator,
+        second: true,
+    };
+    let after = Cursor {
+        split: at.split,
+        left: l,
+        right: q,
+        operator: at.operator + 1,
+        second: false,
+    };
+    if !at.second {
+        let event = one(
+            given,
+            marks,
+            lengths,
+            words,
+            matrices,
+            kept,
+            code,
+            l,
+            q,
+            halfway,
+            tried,
+        );
+        if commutes {
+            return event;
+        }
+        let Event::Through(n) = event else {
+            return event;
+        };
+        return one(
+            given,
+            marks,
+            lengths,
+            words,
+            matrices,
+            kept,
+            code,
+            q,
+            l,
+            after,
+            n,
+        );
+    }
+    if commutes {
+        return Event::Through(tried);
+    }
+    one(
+        given,
+        marks,
+        lengths,
+        words,
+        matrices,
+        kept,
+        code,
+        q,
+        l,
+        after,
+        tried,
+    )
 }
 
