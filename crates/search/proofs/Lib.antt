@@ -5,3 +5,4 @@ pub mod Matrices
 pub mod Judge
 pub mod Onward
 pub mod Both
+pub mod PairLoops

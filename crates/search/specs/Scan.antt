@@ -167,3 +167,66 @@ pub record BothDoes (g : Given) (marks lengths words matrices : List ℕ) (kept 
       → Scanned (input g marks lengths words unary binary) k₀ k s tried
       (drop (cond (at .second) 1 0) (both (input g marks lengths words unary binary) k₀ s (at .left) (at .right) code))
       (bothRest (input g marks lengths words unary binary) k₀ s (at .left) (at .right) code) event
+
+-- ---- the binary operators over a pair
+
+-- "binary 5-10", none twice
+pub record Codes (low high most : ℕ) (codes : List ℕ) : Type 0 where
+  pub in-group : (o : ℕ) → o < length codes → (low ≤ getD codes o 0) × (getD codes o 0 < high)
+  pub short : length codes ≤ most
+
+abbrev pub BinaryCodes : List ℕ → Type 0
+BinaryCodes codes = Codes 5 11 6 codes
+
+abbrev pub UnaryCodes : List ℕ → Type 0
+UnaryCodes codes = Codes 0 5 5 codes
+
+pub record RowAsks (g : Given) (marks lengths words binary matrices : List ℕ) (kept : ℕ) (at : Cursor) (tried : ℕ) : Type 0 where
+  pub asks : Asks g marks lengths words matrices kept tried 12
+  pub codes : BinaryCodes binary
+  pub left-in : at .left < kept
+  pub right-in : at .right < kept
+
+pub record RowDoes (g : Given) (marks lengths words binary matrices : List ℕ) (kept : ℕ) (at : Cursor) (tried : ℕ) (event : Event) : Type 0 where
+  pub safe : Safe (g .propositions) kept (tried + 12) (SamePair at) event
+  pub runs : (unary : List ℕ) (k₀ k : Table) (s : ℕ) → Stands (input g marks lengths words unary binary) k₀ k matrices kept
+      → at .left < length k₀ → at .right < length k₀
+      → Scanned (input g marks lengths words unary binary) k₀ k s tried
+      (rowRest (input g marks lengths words unary binary) k₀ s (at .left) (at .right) at)
+      (rowRest (input g marks lengths words unary binary) k₀ s (at .left) (at .right)) event
+
+-- ---- the right places under a left one
+
+pub record SameLeft (at next : Cursor) : Type 0 where
+  pub split : next .split ≡ at .split
+  pub left : next .left ≡ at .left
+
+pub record ColumnAsks (g : Given) (marks lengths words binary matrices : List ℕ) (kept to : ℕ) (at : Cursor) (tried : ℕ) : Type 0 where
+  pub asks : Asks g marks lengths words matrices kept tried 49152
+  pub codes : BinaryCodes binary
+  pub left-in : at .left < kept
+  pub to-in : to ≤ kept
+
+pub record ColumnDoes (g : Given) (marks lengths words binary matrices : List ℕ) (kept to : ℕ) (at : Cursor) (tried : ℕ) (event : Event) : Type 0 where
+  pub safe : Safe (g .propositions) kept (tried + 49152) (SameLeft at) event
+  pub runs : (unary : List ℕ) (k₀ k : Table) (s : ℕ) → Stands (input g marks lengths words unary binary) k₀ k matrices kept
+      → at .left < length k₀ → to ≤ length k₀
+      → Scanned (input g marks lengths words unary binary) k₀ k s tried
+      (columnRest (input g marks lengths words unary binary) k₀ s (at .left) to at)
+      (columnRest (input g marks lengths words unary binary) k₀ s (at .left) to) event
+
+-- ---- the pairs of a split
+
+pub record PairsAsks (g : Given) (marks lengths words binary matrices : List ℕ) (kept leftTo from to : ℕ) (at : Cursor) (tried : ℕ) : Type 0 where
+  pub asks : Asks g marks lengths words matrices kept tried 201326592
+  pub codes : BinaryCodes binary
+  pub left-in : leftTo ≤ kept
+  pub to-in : to ≤ kept
+
+pub record PairsDoes (g : Given) (marks lengths words binary matrices : List ℕ) (kept leftTo from to : ℕ) (at : Cursor) (tried : ℕ) (event : Event) : Type 0 where
+  pub safe : Safe (g .propositions) kept (tried + 201326592) (λ next. next .split ≡ at .split) event
+  pub runs : (unary : List ℕ) (k₀ k : Table) (s : ℕ) → Stands (input g marks lengths words unary binary) k₀ k matrices kept
+      → leftTo ≤ length k₀ → to ≤ length k₀
+      → Scanned (input g marks lengths words unary binary) k₀ k s tried
+      (pairsRest (input g marks lengths words unary binary) k₀ s leftTo from to at)
+      (pairsRest (input g marks lengths words unary binary) k₀ s leftTo from to) event

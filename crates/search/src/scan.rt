@@ -5,7 +5,7 @@ use crate::matrix::agrees;
 use crate::matrix::known;
 use crate::matrix::rows_of;
 use sequence::operators::operator_of;
-ghost use Rattle.search.specs.Scan.{OneAsks, OneDoes, BothAsks, BothDoes};
+ghost use Rattle.search.specs.Scan.{OneAsks, OneDoes, BothAsks, BothDoes, RowAsks, RowDoes, ColumnAsks, ColumnDoes, PairsAsks, PairsDoes};
 
 // Where a size's candidates go on: the split (0 before the pairs), the left place, or the number of a leaf, the right place, the operator's
 // position in its list, and whether its first order is done.
@@ -157,5 +157,157 @@ fn both(
         after,
         tried,
     )
+}
+
+// The binary operators over a pair.
+fn row(
+    given: Given,
+    marks: &[u8],
+    lengths: &[u8],
+    words: &[u64],
+    binary: &[u8],
+    matrices: &[u64],
+    kept: usize,
+    at: Cursor,
+    tried: u64,
+) -> Event
+    requires { ⌜ RowAsks given (now marks) (now lengths) (now words) (now binary) (now matrices) kept  at tried ⌝ }
+    ensures { λ event. ⌜ RowDoes given (now (marks .entry)) (now (lengths .entry)) (now (words .entry)) (now (binary .entry)) (now (matrices .entry)) kept  at tried event ⌝ }
+{
+    let mut o = at.operator;
+    let mut second = at.second;
+    let mut n = tried;
+    while o < binary.len() {
+        let here = Cursor {
+            split: at.split,
+            left: at.left,
+            right: at.right,
+            operator: o,
+            second,
+        };
+        let event = both(
+            given,
+            marks,
+            lengths,
+            words,
+            matrices,
+            kept,
+            binary[o],
+            here,
+            n,
+        );
+        let Event::Through(t) = event else {
+            return event;
+        };
+        n = t;
+        second = false;
+        o += 1;
+    }
+    Event::Through(n)
+}
+
+// The right places up to `to`, under one left place.
+fn column(
+    given: Given,
+    marks: &[u8],
+    lengths: &[u8],
+    words: &[u64],
+    binary: &[u8],
+    matrices: &[u64],
+    kept: usize,
+    to: usize,
+    at: Cursor,
+    tried: u64,
+) -> Event
+    requires { ⌜ ColumnAsks given (now marks) (now lengths) (now words) (now binary) (now matrices) kept to at tried ⌝ }
+    ensures { λ event. ⌜ ColumnDoes given (now (marks .entry)) (now (lengths .entry)) (now (words .entry)) (now (binary .entry)) (now (matrices .entry)) kept to at tried event ⌝ }
+{
+    let mut q = at.right;
+    let mut o = at.operator;
+    let mut second = at.second;
+    let mut n = tried;
+    while q < to {
+        let here = Cursor {
+            split: at.split,
+            left: at.left,
+            right: q,
+            operator: o,
+            second,
+        };
+        let event = row(
+            given,
+            marks,
+            lengths,
+            words,
+            binary,
+            matrices,
+            kept,
+            here,
+            n,
+        );
+        let Event::Through(t) = event else {
+            return event;
+        };
+        n = t;
+        o = 0;
+        second = false;
+        q += 1;
+    }
+    Event::Through(n)
+}
+
+// The left places up to `end`, each with the right places from `from` up to `to`.
+fn pairs(
+    given: Given,
+    marks: &[u8],
+    lengths: &[u8],
+    words: &[u64],
+    binary: &[u8],
+    matrices: &[u64],
+    kept: usize,
+    end: usize,
+    from: usize,
+    to: usize,
+    at: Cursor,
+    tried: u64,
+) -> Event
+    requires { ⌜ PairsAsks given (now marks) (now lengths) (now words) (now binary) (now matrices) kept end from to at tried ⌝ }
+    ensures { λ event. ⌜ PairsDoes given (now (marks .entry)) (now (lengths .entry)) (now (words .entry)) (now (binary .entry)) (now (matrices .entry)) kept end from to at tried event ⌝ }
+{
+    let mut l = at.left;
+    let mut q = at.right;
+    let mut o = at.operator;
+    let mut second = at.second;
+    let mut n = tried;
+    while l < end {
+        let here = Cursor {
+            split: at.split,
+            left: l,
+            right: q,
+            operator: o,
+            second,
+        };
+        let event = column(
+            given,
+            marks,
+            lengths,
+            words,
+            binary,
+            matrices,
+            kept,
+            to,
+            here,
+            n,
+        );
+        let Event::Through(t) = event else {
+            return event;
+        };
+        n = t;
+        q = from;
+        o = 0;
+        second = false;
+        l += 1;
+    }
+    Event::Through(n)
 }
 
