@@ -6,3 +6,5 @@ pub mod Judge
 pub mod Onward
 pub mod Both
 pub mod PairLoops
+pub mod Splits
+pub mod UnaryLoops

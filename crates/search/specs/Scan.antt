@@ -230,3 +230,94 @@ pub record PairsDoes (g : Given) (marks lengths words binary matrices : List ℕ
       → Scanned (input g marks lengths words unary binary) k₀ k s tried
       (pairsRest (input g marks lengths words unary binary) k₀ s leftTo from to at)
       (pairsRest (input g marks lengths words unary binary) k₀ s leftTo from to) event
+
+-- ---- the splits of a size
+
+pub record Starts (starts : List ℕ) (s most : ℕ) : Type 0 where
+  pub long : s < length starts
+  pub below : (t : ℕ) → t ≤ s → getD starts t 0 ≤ most
+
+pub record SplitsAsks (g : Given) (marks lengths words binary matrices : List ℕ) (kept : ℕ) (starts : List ℕ) (s : ℕ) (at : Cursor) (tried : ℕ) : Type 0 where
+  pub asks : Asks g marks lengths words matrices kept tried 3221225472
+  pub codes : BinaryCodes binary
+  pub starts-in : Starts starts s kept
+  pub size-in : s ≤ 31
+  pub split-in : 1 ≤ at .split
+
+pub record SplitsDoes (g : Given) (marks lengths words binary matrices : List ℕ) (kept : ℕ) (starts : List ℕ) (s : ℕ) (at : Cursor) (tried : ℕ) (event : Event) : Type 0 where
+  pub safe : Safe (g .propositions) kept (tried + 3221225472) (λ next. 1 ≤ next .split) event
+  pub runs : (unary : List ℕ) (k₀ k : Table) → Stands (input g marks lengths words unary binary) k₀ k matrices kept → Starts starts s (length k₀)
+      → Scanned (input g marks lengths words unary binary) k₀ k s tried
+      (splitsRest (input g marks lengths words unary binary) k₀ s starts at)
+      (splitsRest (input g marks lengths words unary binary) k₀ s starts) event
+
+-- ---- the unary operators
+
+pub record UnaryRowAsks (g : Given) (marks lengths words unary matrices : List ℕ) (kept place from tried : ℕ) : Type 0 where
+  pub asks : Asks g marks lengths words matrices kept tried 5
+  pub codes : UnaryCodes unary
+  pub place-in : place < kept
+
+pub record AtPlace (place : ℕ) (next : Cursor) : Type 0 where
+  pub split : next .split ≡ 0
+  pub left : next .left ≡ place
+
+pub record UnaryRowDoes (g : Given) (marks lengths words unary matrices : List ℕ) (kept place from tried : ℕ) (event : Event) : Type 0 where
+  pub safe : Safe (g .propositions) kept (tried + 5) (AtPlace place) event
+  pub runs : (binary : List ℕ) (k₀ k : Table) (s : ℕ) → Stands (input g marks lengths words unary binary) k₀ k matrices kept → place < length k₀
+      → Scanned (input g marks lengths words unary binary) k₀ k s tried
+      (unaryRow (input g marks lengths words unary binary) k₀ s place (drop from unary))
+      (λ next. unaryRow (input g marks lengths words unary binary) k₀ s place (drop (next .operator) unary)) event
+
+pub record UnaryAsks (g : Given) (marks lengths words unary matrices : List ℕ) (kept to : ℕ) (at : Cursor) (tried : ℕ) : Type 0 where
+  pub asks : Asks g marks lengths words matrices kept tried 20480
+  pub codes : UnaryCodes unary
+  pub to-in : to ≤ kept
+
+pub record UnaryDoes (g : Given) (marks lengths words unary matrices : List ℕ) (kept to : ℕ) (at : Cursor) (tried : ℕ) (event : Event) : Type 0 where
+  pub safe : Safe (g .propositions) kept (tried + 20480) (λ next. next .split ≡ 0) event
+  pub runs : (binary : List ℕ) (k₀ k : Table) (s : ℕ) → Stands (input g marks lengths words unary binary) k₀ k matrices kept → to ≤ length k₀
+      → Scanned (input g marks lengths words unary binary) k₀ k s tried
+      (unaryRest (input g marks lengths words unary binary) k₀ s to at)
+      (unaryRest (input g marks lengths words unary binary) k₀ s to) event
+
+-- ---- the leaves
+
+pub record SeedsAsks (g : Given) (marks lengths words matrices : List ℕ) (kept from tried : ℕ) : Type 0 where
+  pub asks : Asks g marks lengths words matrices kept tried 65537
+  pub some : 1 ≤ g .propositions
+
+pub record SeedsDoes (g : Given) (marks lengths words matrices : List ℕ) (kept from tried : ℕ) (event : Event) : Type 0 where
+  pub safe : Safe (g .propositions) kept (tried + 65537) (λ next. next .split ≡ 0) event
+  pub runs : (unary binary : List ℕ) (k₀ k : Table) (s : ℕ) → Stands (input g marks lengths words unary binary) k₀ k matrices kept
+      → Scanned (input g marks lengths words unary binary) k₀ k s tried
+      (seedsRest (input g marks lengths words unary binary) k₀ s from (leafCount g))
+      (λ next. seedsRest (input g marks lengths words unary binary) k₀ s (next .left) (leafCount g)) event
+
+-- ---- a size
+
+-- where the pairs begin
+abbrev pub firstPair : List ℕ → ℕ → Cursor
+firstPair starts s = record { split = 1; left = getD starts 1 0; right = getD starts (s - 2) 0; operator = 0; second = false }
+
+module _ (i : Input) (k : Table) (s : ℕ) where
+  -- what is left of a size from a cursor on
+  unfoldable pub layerRest : List ℕ → ℕ → Cursor → List (Candidate (List ℕ))
+  layerRest starts leaves at =
+      cond (eqb s 1) (seedsRest i k s (at .left) leaves)
+      (cond (eqb (at .split) 0) (unaryRest i k s (getD starts s 0) at ++ splitsRest i k s starts (firstPair starts s)) (splitsRest i k s starts at))
+
+pub record ScanAsks (g : Given) (marks lengths words unary binary matrices : List ℕ) (kept : ℕ) (starts : List ℕ) (s : ℕ) (at : Cursor) (tried : ℕ) : Type 0 where
+  pub asks : Asks g marks lengths words matrices kept tried 4294967296
+  pub some : 1 ≤ g .propositions
+  pub unary-codes : UnaryCodes unary
+  pub binary-codes : BinaryCodes binary
+  pub starts-in : Starts starts s kept
+  pub size-in : (1 ≤ s) × (s ≤ 31)
+
+pub record ScanDoes (g : Given) (marks lengths words unary binary matrices : List ℕ) (kept : ℕ) (starts : List ℕ) (s : ℕ) (at : Cursor) (tried : ℕ) (event : Event) : Type 0 where
+  pub safe : Safe (g .propositions) kept (tried + 4294967296) (λ next. Unit {0}) event
+  pub runs : (k₀ k : Table) → Stands (input g marks lengths words unary binary) k₀ k matrices kept → Starts starts s (length k₀)
+      → Scanned (input g marks lengths words unary binary) k₀ k s tried
+      (layerRest (input g marks lengths words unary binary) k₀ s starts (leafCount g) at)
+      (layerRest (input g marks lengths words unary binary) k₀ s starts (leafCount g)) event

@@ -5,7 +5,9 @@ use crate::matrix::agrees;
 use crate::matrix::known;
 use crate::matrix::rows_of;
 use sequence::operators::operator_of;
-ghost use Rattle.search.specs.Scan.{OneAsks, OneDoes, BothAsks, BothDoes, RowAsks, RowDoes, ColumnAsks, ColumnDoes, PairsAsks, PairsDoes};
+ghost use mathlib.Core.Path.{_≡_};
+ghost use Prim.Native.Nat.{_≤_};
+ghost use Rattle.search.specs.Scan.{OneAsks, OneDoes, BothAsks, BothDoes, RowAsks, RowDoes, ColumnAsks, ColumnDoes, PairsAsks, PairsDoes, SplitsAsks, SplitsDoes, UnaryRowAsks, UnaryRowDoes, UnaryAsks, UnaryDoes, leafCode, leafLeft, leafCount, SeedsAsks, SeedsDoes, ScanAsks, ScanDoes};
 
 // Where a size's candidates go on: the split (0 before the pairs), the left place, or the number of a leaf, the right place, the operator's
 // position in its list, and whether its first order is done.
@@ -311,3 +313,288 @@ fn pairs(
     Event::Through(n)
 }
 
+// The splits of size s: the left children's size i, from 1 while i < ceil(s/2). `starts` has the first place of each size.
+fn splits(
+    given: Given,
+    marks: &[u8],
+    lengths: &[u8],
+    words: &[u64],
+    binary: &[u8],
+    matrices: &[u64],
+    kept: usize,
+    starts: &[usize],
+    s: usize,
+    at: Cursor,
+    tried: u64,
+) -> Event
+    requires { ⌜ SplitsAsks given (now marks) (now lengths) (now words) (now binary) (now matrices) kept (now starts) s at tried ⌝ }
+    ensures { λ event. ⌜ SplitsDoes given (now (marks .entry)) (now (lengths .entry)) (now (words .entry)) (now (binary .entry)) (now (matrices .entry)) kept (now (starts .entry)) s at tried event ⌝ }
+{
+    let half = (s + 1) / 2;
+    let mut i = at.split;
+    let mut l = at.left;
+    let mut q = at.right;
+    let mut o = at.operator;
+    let mut second = at.second;
+    let mut n = tried;
+    while i < half {
+        let here = Cursor {
+            split: i,
+            left: l,
+            right: q,
+            operator: o,
+            second,
+        };
+        let event = pairs(
+            given,
+            marks,
+            lengths,
+            words,
+            binary,
+            matrices,
+            kept,
+            starts[i + 1],
+            starts[s - 1 - i],
+            starts[s - i],
+            here,
+            n,
+        );
+        let Event::Through(t) = event else {
+            return event;
+        };
+        n = t;
+        l = starts[i + 1];
+        q = starts[s - 2 - i];
+        o = 0;
+        second = false;
+        i += 1;
+    }
+    Event::Through(n)
+}
+
+// The unary operators over a place.
+fn unary_row(
+    given: Given,
+    marks: &[u8],
+    lengths: &[u8],
+    words: &[u64],
+    unary: &[u8],
+    matrices: &[u64],
+    kept: usize,
+    place: usize,
+    from: usize,
+    tried: u64,
+) -> Event
+    requires { ⌜ UnaryRowAsks given (now marks) (now lengths) (now words) (now unary) (now matrices) kept place from tried ⌝ }
+    ensures { λ event. ⌜ UnaryRowDoes given (now (marks .entry)) (now (lengths .entry)) (now (words .entry)) (now (unary .entry)) (now (matrices .entry)) kept place from tried event ⌝ }
+{
+    let mut o = from;
+    let mut n = tried;
+    while o < unary.len() {
+        let next = Cursor {
+            split: 0,
+            left: place,
+            right: 0,
+            operator: o + 1,
+            second: false,
+        };
+        let event = one(
+            given,
+            marks,
+            lengths,
+            words,
+            matrices,
+            kept,
+            unary[o],
+            place,
+            0,
+            next,
+            n,
+        );
+        let Event::Through(t) = event else {
+            return event;
+        };
+        n = t;
+        o += 1;
+    }
+    Event::Through(n)
+}
+
+// The unary operators over the places up to `to`.
+fn unary_places(
+    given: Given,
+    marks: &[u8],
+    lengths: &[u8],
+    words: &[u64],
+    unary: &[u8],
+    matrices: &[u64],
+    kept: usize,
+    to: usize,
+    at: Cursor,
+    tried: u64,
+) -> Event
+    requires { ⌜ UnaryAsks given (now marks) (now lengths) (now words) (now unary) (now matrices) kept to at tried ⌝ }
+    ensures { λ event. ⌜ UnaryDoes given (now (marks .entry)) (now (lengths .entry)) (now (words .entry)) (now (unary .entry)) (now (matrices .entry)) kept to at tried event ⌝ }
+{
+    let mut p = at.left;
+    let mut o = at.operator;
+    let mut n = tried;
+    while p < to {
+        let event = unary_row(given, marks, lengths, words, unary, matrices, kept, p, o, n);
+        let Event::Through(t) = event else {
+            return event;
+        };
+        n = t;
+        o = 0;
+        p += 1;
+    }
+    Event::Through(n)
+}
+
+// The code and the left field of leaf p: the propositions in order, then false, then true.
+fn leaf_code(m: usize, p: usize) -> u8
+    ensures { λ r. ⌜ r ≡ leafCode m p ⌝ }
+{
+    if p < m {
+        return 16;
+    }
+    if p == m { 17 } else { 18 }
+}
+
+fn leaf_left(m: usize, p: usize) -> usize
+    ensures { λ r. ⌜ r ≡ leafLeft m p ⌝ }
+{
+    if p < m { p } else { 0 }
+}
+
+fn leaf_count(given: Given) -> usize
+    requires { ⌜ given .propositions ≤ 65535 ⌝ }
+    ensures { λ r. ⌜ r ≡ leafCount given ⌝ }
+{
+    if given.constants == 1 {
+        given.propositions + 2
+    } else {
+        given.propositions
+    }
+}
+
+// The leaves from number p on.
+fn seeds(
+    given: Given,
+    marks: &[u8],
+    lengths: &[u8],
+    words: &[u64],
+    matrices: &[u64],
+    kept: usize,
+    from: usize,
+    tried: u64,
+) -> Event
+    requires { ⌜ SeedsAsks given (now marks) (now lengths) (now words) (now matrices) kept from tried ⌝ }
+    ensures { λ event. ⌜ SeedsDoes given (now (marks .entry)) (now (lengths .entry)) (now (words .entry)) (now (matrices .entry)) kept from tried event ⌝ }
+{
+    let m = given.propositions;
+    let count = leaf_count(given);
+    let mut p = from;
+    let mut n = tried;
+    while p < count {
+        let next = Cursor {
+            split: 0,
+            left: p + 1,
+            right: 0,
+            operator: 0,
+            second: false,
+        };
+        let event = one(
+            given,
+            marks,
+            lengths,
+            words,
+            matrices,
+            kept,
+            leaf_code(m, p),
+            leaf_left(m, p),
+            0,
+            next,
+            n,
+        );
+        let Event::Through(t) = event else {
+            return event;
+        };
+        n = t;
+        p += 1;
+    }
+    Event::Through(n)
+}
+
+// The candidates of size s from a cursor on.
+pub(crate) fn scan(
+    given: Given,
+    marks: &[u8],
+    lengths: &[u8],
+    words: &[u64],
+    unary: &[u8],
+    binary: &[u8],
+    matrices: &[u64],
+    kept: usize,
+    starts: &[usize],
+    s: usize,
+    at: Cursor,
+    tried: u64,
+) -> Event
+    requires { ⌜ ScanAsks given (now marks) (now lengths) (now words) (now unary) (now binary) (now matrices) kept (now starts) s at tried ⌝ }
+    ensures { λ event. ⌜ ScanDoes given (now (marks .entry)) (now (lengths .entry)) (now (words .entry)) (now (unary .entry)) (now (binary .entry)) (now (matrices .entry)) kept (now (starts .entry)) s at tried event ⌝ }
+{
+    if s == 1 {
+        return seeds(given, marks, lengths, words, matrices, kept, at.left, tried);
+    }
+    if at.split == 0 {
+        let event = unary_places(
+            given,
+            marks,
+            lengths,
+            words,
+            unary,
+            matrices,
+            kept,
+            starts[s],
+            at,
+            tried,
+        );
+        let Event::Through(n) = event else {
+            return event;
+        };
+        let first = Cursor {
+            split: 1,
+            left: starts[1],
+            right: starts[s - 2],
+            operator: 0,
+            second: false,
+        };
+        return splits(
+            given,
+            marks,
+            lengths,
+            words,
+            binary,
+            matrices,
+            kept,
+            starts,
+            s,
+            first,
+            n,
+        );
+    }
+    splits(
+        given,
+        marks,
+        lengths,
+        words,
+        binary,
+        matrices,
+        kept,
+        starts,
+        s,
+        at,
+        tried,
+    )
+}
