@@ -8,3 +8,4 @@ pub mod Both
 pub mod PairLoops
 pub mod Splits
 pub mod UnaryLoops
+pub mod Layer
