@@ -37,8 +37,8 @@ module _ (i : Input) (k : Table) (n : ℕ) (x : Candidate (List ℕ)) where
 pub made-base : {i : Input} {k₀ k : Table} {matrices : List ℕ} {kept : ℕ} (code left right : ℕ) → Stands i k₀ k matrices kept
     → Makes (i .propositions) (length k₀) code left right → made i k code left right ≡ made i k₀ code left right
 unfolding made
-made-base code left right st (Makes.leaf a b c) = rw (le-ltb code 5 (omega arith), le-ltb code 16 a)
-made-base {i} code left right st (Makes.unary a b) = rw (lt-ltb code 5 a) (ap (λ (c : Candidate (List ℕ)). offer i .unaryMatrix (unaryOf code) (c .matrix)) (st .same left b))
+made-base code left right st (Makes.leaf a b c z) = rw (le-ltb code 5 (omega arith), le-ltb code 16 a)
+made-base {i} code left right st (Makes.unary a b z) = rw (lt-ltb code 5 a) (ap (λ (c : Candidate (List ℕ)). offer i .unaryMatrix (unaryOf code) (c .matrix)) (st .same left b))
 made-base {i} code left right st (Makes.binary a b c d) =
     rw (le-ltb code 5 a, lt-ltb code 16 (omega arith))
     (ap₂ (λ (x y : Candidate (List ℕ)). offer i .binaryMatrix (binaryOf code) (x .matrix) (y .matrix)) (st .same left c) (st .same right d))
@@ -92,7 +92,7 @@ module _ {g : Given} {marks lengths words matrices : List ℕ} {kept code left r
     runs = λ unary binary k₀ k s st mk. record {
       says = (
         record { is = refl },
-        record { rejected = agreed unary binary k₀ k st mk false e; unknown = found-already unary binary k₀ k st mk false w },
+        record { rejected = agreed unary binary k₀ k st mk false e; unknown = found-already unary binary k₀ k st mk false w; rows = made-base code left right st mk },
       );
     };
   }

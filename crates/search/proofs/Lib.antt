@@ -9,3 +9,5 @@ pub mod PairLoops
 pub mod Splits
 pub mod UnaryLoops
 pub mod Layer
+pub mod Table
+pub mod Driver

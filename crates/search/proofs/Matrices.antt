@@ -26,7 +26,7 @@ use Rattle.search.specs.Matrix.{UnaryRows, BinaryRows, LeafRows, leafWor
 
 -- ---- the rows
 
-length-map : {A B : Type 0} (f : A → B) (l : List A) → length (map f l) ≡ length l
+pub length-map : {A B : Type 0} (f : A → B) (l : List A) → length (map f l) ≡ length l
 length-map f [] = refl
 length-map f (x ∷ l) = ap suc (length-map f l)
 
@@ -78,8 +78,8 @@ module _ {g : Given} {lengths words matrices : List ℕ} {code left right : ℕ}
   }
     where
       place : {kept : ℕ} → Makes (g .propositions) kept code left right → left < kept
-      place (Makes.leaf a b c) = absurd (omega arith)
-      place (Makes.unary a b) = b
+      place (Makes.leaf a b c z) = absurd (omega arith)
+      place (Makes.unary a b z) = b
       place (Makes.binary a b c d) = absurd (omega arith)
 
   pub binary-made : 5 ≤ code → code < 16 → BinaryRows (g .sessions) lengths matrices code (left * g .sessions) (right * g .sessions) xs
@@ -97,8 +97,8 @@ module _ {g : Given} {lengths words matrices : List ℕ} {code left right : ℕ}
   }
     where
       place : {kept : ℕ} → Makes (g .propositions) kept code left right → (binaryCode (binaryOf code) ≡ code) × (left < kept) × (right < kept)
-      place (Makes.leaf a b c) = absurd (omega arith)
-      place (Makes.unary a b) = absurd (omega arith)
+      place (Makes.leaf a b c z) = absurd (omega arith)
+      place (Makes.unary a b z) = absurd (omega arith)
       place (Makes.binary a b c d) = (binary-code code a b, c, d)
 
   pub leaf-made : 16 ≤ code → LeafRows (g .sessions) (g .propositions) lengths words code left xs → RowsOf g lengths words matrices code left right xs
@@ -124,13 +124,13 @@ fine-rows i f h = record {
 
 pub made-fine : (i : Input) → Passes i → (k : Table) (code left right kept : ℕ) → Makes (i .propositions) kept code left right → Fine i (made i k code left right)
 unfolding made
-made-fine i ok k code left right kept (Makes.leaf a b c) =
+made-fine i ok k code left right kept (Makes.leaf a b c z) =
     rw (le-ltb code 5 (omega arith), le-ltb code 16 a) (fine-rows i (leafRow i (leafOf code left)) (λ j l. go j l (eqb code 16)))
   where
     go : (j : ℕ) → j < i .sessions → (t : Bool) → Wf (lengthOf i j) (leafRow i (cond t (proposition left) (constant (not (eqb code 17)))) j)
     go j l true = ok .well-formed j left l c
     go j l false = constant-row-means (not (eqb code 17)) (ok .short j l) .wf
-made-fine i ok k code left right kept (Makes.unary a b) =
+made-fine i ok k code left right kept (Makes.unary a b z) =
     rw (lt-ltb code 5 a) (fine-rows i _ (λ j l. unary-row-means (unaryOf code) (row (matrixAt k left) j) (ok .short j l) .wf))
 made-fine i ok k code left right kept (Makes.binary a b c d) =
     rw (le-ltb code 5 a, lt-ltb code 16 (omega arith))
@@ -215,16 +215,16 @@ module _ {g : Given} {lengths words matrices : List ℕ} {code left right : ℕ}
   unary-reads h = go (a .makes)
     where
       go : Makes (g .propositions) (a .kept) code left right → left * g .sessions + g .sessions ≤ length matrices
-      go (Makes.leaf x y z) = absurd (omega arith)
-      go (Makes.unary x y) = omega (arith, place-end left (a .kept) (g .sessions) y, a .readable .matrices-there)
+      go (Makes.leaf x y z u) = absurd (omega arith)
+      go (Makes.unary x y u) = omega (arith, place-end left (a .kept) (g .sessions) y, a .readable .matrices-there)
       go (Makes.binary x y z w) = absurd (omega arith)
 
   pub binary-reads : 5 ≤ code → code < 16 → (left * g .sessions + g .sessions ≤ length matrices) × (right * g .sessions + g .sessions ≤ length matrices)
   binary-reads h l = go (a .makes)
     where
       go : Makes (g .propositions) (a .kept) code left right → (left * g .sessions + g .sessions ≤ length matrices) × (right * g .sessions + g .sessions ≤ length matrices)
-      go (Makes.leaf x y z) = absurd (omega arith)
-      go (Makes.unary x y) = absurd (omega arith)
+      go (Makes.leaf x y z u) = absurd (omega arith)
+      go (Makes.unary x y u) = absurd (omega arith)
       go (Makes.binary x y z w) = (
         omega (arith, place-end left (a .kept) (g .sessions) z, a .readable .matrices-there),
         omega (arith, place-end right (a .kept) (g .sessions) w, a .readable .matrices-there),
@@ -234,6 +234,6 @@ module _ {g : Given} {lengths words matrices : List ℕ} {code left right : ℕ}
   leaf-reads h = go (a .makes)
     where
       go : Makes (g .propositions) (a .kept) code left right → left < g .propositions
-      go (Makes.leaf x y z) = z
-      go (Makes.unary x y) = absurd (omega arith)
+      go (Makes.leaf x y z u) = z
+      go (Makes.unary x y u) = absurd (omega arith)
       go (Makes.binary x y z w) = absurd (omega arith)

@@ -50,7 +50,7 @@ module _ {g : Given} {marks lengths words unary matrices : List ℕ} {kept place
     (v : UnaryRowLoop g marks lengths words unary matrices kept place from tried o n) where
   pub unary-row-one : UnaryRowAsks g marks lengths words unary matrices kept place from tried → o < length unary
       → OneAsks g marks lengths words matrices kept (getD unary o 0) place 0 n
-  unary-row-one a h = record { asks = asks-less (a .asks) (omega (arith, v .within)); makes = Makes.unary (a .codes .in-group o h .1) (a .place-in) }
+  unary-row-one a h = record { asks = asks-less (a .asks) (omega (arith, v .within)); makes = Makes.unary (a .codes .in-group o h .1) (a .place-in) refl }
 
   pub unary-row-turn : {t : ℕ} → UnaryRowAsks g marks lengths words unary matrices kept place from tried → o < length unary
       → OneDoes g marks lengths words matrices kept (getD unary o 0) place 0 (afterUnary place o) n (Through t)
@@ -59,7 +59,7 @@ module _ {g : Given} {marks lengths words unary matrices : List ℕ} {kept place
     within = omega (arith, v .within, w .safe .says);
     runs = λ binary k₀ k s st p.
         onward-through (v .runs binary k₀ k s st p) (unary-cons (input g marks lengths words unary binary) k₀ s place o h)
-        (w .runs unary binary k₀ k s st (Makes.unary (a .codes .in-group o h .1) p) .says);
+        (w .runs unary binary k₀ k s st (Makes.unary (a .codes .in-group o h .1) p refl) .says);
   }
 
   pub unary-row-stops : {event : Event} → UnaryRowAsks g marks lengths words unary matrices kept place from tried → o < length unary → Stops event
@@ -69,7 +69,7 @@ module _ {g : Given} {marks lengths words unary matrices : List ℕ} {kept place
     safe = safe-more event (w .safe) (omega (arith, v .within)) (λ next y. subst (AtPlace place) (sym y) (record { split = refl; left = refl }));
     runs = λ binary k₀ k s st p.
         stop-part _ (v .runs binary k₀ k s st p) (unary-cons (input g marks lengths words unary binary) k₀ s place o h) event x
-        (w .runs unary binary k₀ k s st (Makes.unary (a .codes .in-group o h .1) p)) (w .safe) (λ next y. rw y);
+        (w .runs unary binary k₀ k s st (Makes.unary (a .codes .in-group o h .1) p refl)) (w .safe) (λ next y. rw y);
   }
 
   pub unary-row-ends : length unary ≤ o → UnaryRowDoes g marks lengths words unary matrices kept place from tried (Through n)
@@ -132,9 +132,9 @@ leaf-makes : (m kept p : ℕ) → 1 ≤ m → Makes m kept (leafCode m p) (leafL
 leaf-makes m kept p h = go (ltb p m) refl (eqb p m)
   where
     go : (b : Bool) → ltb p m ≡ b → (d : Bool) → Makes m kept (cond b 16 (cond d 17 18)) (cond b p 0) 0
-    go true e d = Makes.leaf (omega arith) (omega arith) (ltb-true p m e)
-    go false e true = Makes.leaf (omega arith) (omega arith) (omega arith)
-    go false e false = Makes.leaf (omega arith) (omega arith) (omega arith)
+    go true e d = Makes.leaf (omega arith) (omega arith) (ltb-true p m e) refl
+    go false e true = Makes.leaf (omega arith) (omega arith) (omega arith) refl
+    go false e false = Makes.leaf (omega arith) (omega arith) (omega arith) refl
 
 module _ (i : Input) (k : Table) (s : ℕ) where
   seeds-cons : (p b : ℕ) → p < b → seedsRest i k s p b ≡ (leafAt i k s p ∷ []) ++ seedsRest i k s (p + 1) b

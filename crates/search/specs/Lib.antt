@@ -2,3 +2,4 @@
 -- `Matrix` is only for private functions: no public contract cites it.
 pub mod Matrix
 pub mod Scan
+pub mod Layers

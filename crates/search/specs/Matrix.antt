@@ -92,8 +92,8 @@ made i k code left right =
 
 -- the code is in its group, and the fields it uses are in range
 pub data Makes (m kept code left right : ℕ) : Type 0 where
-  leaf : 16 ≤ code → code ≤ 18 → left < m → Makes m kept code left right
-  unary : code < 5 → left < kept → Makes m kept code left right
+  leaf : 16 ≤ code → code ≤ 18 → left < m → right ≡ 0 → Makes m kept code left right
+  unary : code < 5 → left < kept → right ≡ 0 → Makes m kept code left right
   binary : 5 ≤ code → code < 11 → left < kept → right < kept → Makes m kept code left right
 
 -- what is asked, so that no index is out of range

@@ -90,6 +90,7 @@ pub record Onward (i : Input) (k : Table) (n : ℕ) (cs : List (Candidate (List 
 pub record Fresh (i : Input) (k : Table) (x : Candidate (List ℕ)) : Type 0 where
   pub rejected : separating i (x .matrix) ≡ false
   pub unknown : known (offer i) (x .matrix) k ≡ false
+  pub rows : made i k (x .node .code) (x .node .left) (x .node .right) ≡ x .matrix
 
 abbrev pub ScannedBy : Input → Table → Table → ℕ → ℕ → List (Candidate (List ℕ)) → (Cursor → List (Candidate (List ℕ))) → Event → Type 0
 ScannedBy i k₀ k s n cs rest (Through t) = Onward i k n cs t []

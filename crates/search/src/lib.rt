@@ -1,4 +1,5 @@
 // The search: the walk of document 01 over a table in lent slices (aux.rs, cache.rs, cm.rs).
 mod given;
+mod layers;
 mod matrix;
 mod scan;
