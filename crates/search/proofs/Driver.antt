@@ -18,7 +18,7 @@ use Rattle.walk.proofs.Pass.{stays}
 use Rattle.search.specs.declared.given.Given.{Given}
 use Rattle.search.specs.declared.scan.Cursor.{Cursor}
 use Rattle.search.specs.declared.scan.Event.{Event}
-use Rattle.search.specs.declared.scan.Event.the-variants.{Through, New} 
+use Rattle.search.specs.declared.scan.Event.the-variants.{Through, New}
 use Rattle.search.specs.declared.scan.Event.the-variants as event
 use Rattle.search.specs.declared.layers.Stand.{Stand}
 use Rattle.search.specs.declared.layers.Stand.the-variants.{Going, Found, Full}
@@ -115,6 +115,12 @@ module _ {g : Given} {marks lengths words unary binary starts : List ℕ} {s : �
       → Stands i k₀ (r .table) (t′ .matrices) k
   stands ok r = record { passes = ok; counted = r .holds .counted; stored = holds-stored (r .holds); less = r .less; same = r .same }
 
+  -- the fields fit their types
+  pub layer-small : {code left right : ℕ} → Makes (g .propositions) k code left right → (left < 2 ^ 16) × (right < 2 ^ 16)
+  layer-small (Makes.leaf p q x y) = (omega (arith, a .sound .propositions-in), omega arith)
+  layer-small (Makes.unary p q y) = (omega (arith, v .kept-in, a .sound .room-in), omega arith)
+  layer-small (Makes.binary p q x y) = (omega (arith, v .kept-in, a .sound .room-in), omega (arith, v .kept-in, a .sound .room-in))
+
   -- all dropped
   pub layer-through : {n′ : ℕ} → ScanDoes g marks lengths words unary binary (t′ .matrices) k starts s at n (Through n′)
       → LayerDoes g marks lengths words unary binary starts s t kept tried t′ (Going n′ k)
@@ -166,7 +172,7 @@ module _ {g : Given} {marks lengths words unary binary starts : List ℕ} {s : �
 
     pub layer-node : NodeAsks t′ k left right s
     layer-node =
-        let (l, r) = small (w .safe .says .1) in
+        let (l, r) = layer-small (w .safe .says .1) in
         record {
           codes-in = omega (arith, a .room .codes, v .long .codes);
           lefts-in = omega (arith, a .room .lefts, v .long .lefts);
@@ -176,14 +182,12 @@ module _ {g : Given} {marks lengths words unary binary starts : List ℕ} {s : �
           right-in = r;
           size-in = omega (arith, a .size-in);
         }
-      where
-        small : Makes (g .propositions) k code left right → (left < 2 ^ 16) × (right < 2 ^ 16)
-        small (Makes.leaf p q x y) = (omega (arith, a .sound .propositions-in), omega arith)
-        small (Makes.unary p q y) = (omega (arith, v .kept-in, a .sound .room-in), omega arith)
-        small (Makes.binary p q x y) = (omega (arith, v .kept-in, a .sound .room-in), omega (arith, v .kept-in, a .sound .room-in))
 
     pub layer-words : k * g .sessions + g .sessions ≤ length (t′ .matrices)
     layer-words = omega (arith, place-end k (g .room) (g .sessions) free, a .room .matrices, v .long .matrices)
+
+    pub layer-product : k * g .sessions ≤ 131072
+    layer-product = at-most k 4096 (g .sessions) 32 (omega (arith, v .kept-in, a .sound .room-in)) (a .sound .sessions-in)
 
     pub layer-turn : {xs : List ℕ} → RowsOf g lengths words (t′ .matrices) code left right xs
         → LayerLoop g marks lengths words unary binary starts s t kept tried

@@ -120,8 +120,8 @@ module _ {i : Input} {k : Table} {t₀ t : Cols} {kept : ℕ} (x : Candidate (Li
         let c = push-col (λ c. c .node .right) (t₀ .rights) rights in
         let d = push-col (λ c. c .node .size) (t₀ .sizes) sizes in
         let m : paste (over (flat k) (t₀ .matrices)) (kept * i .sessions) xs (i .sessions) ≡ over (flat (k ++ (x ∷ []))) (t₀ .matrices) =
-            over-paste (flat k) (t₀ .matrices) xs (kept * i .sessions) (i .sessions)
-            (length-flat i k (h .fine) ∙ ap (λ (n : ℕ). n * i .sessions) (sym (h .counted))) l
-            ∙ ap (λ (y : List ℕ). over (flat k ++ y) (t₀ .matrices)) (sym e) ∙ ap (λ (y : List ℕ). over y (t₀ .matrices)) (sym (flat-snoc k x)) in
+        over-paste (flat k) (t₀ .matrices) xs (kept * i .sessions) (i .sessions)
+        (length-flat i k (h .fine) ∙ ap (λ (n : ℕ). n * i .sessions) (sym (h .counted))) l
+        ∙ ap (λ (y : List ℕ). over (flat k ++ y) (t₀ .matrices)) (sym e) ∙ ap (λ (y : List ℕ). over y (t₀ .matrices)) (sym (flat-snoc k x)) in
         rw (a, b, c, d, m));
   }

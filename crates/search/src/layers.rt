@@ -1,9 +1,9 @@
 // The sizes one after the other: what is to be kept is written at the next place, and the size goes on after it (aux.rs).
+use crate::given::Given;
 use crate::matrix::rows_of;
 use crate::matrix::store;
 use crate::scan::Cursor;
 use crate::scan::Event;
-use crate::given::Given;
 use crate::scan::scan;
 ghost use mathlib.Core.Path.{_≡_};
 ghost use lib.ListN.{set};
@@ -147,4 +147,3 @@ fn layer(
         }
     }
 }
-

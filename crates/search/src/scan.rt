@@ -173,8 +173,8 @@ fn row(
     at: Cursor,
     tried: u64,
 ) -> Event
-    requires { ⌜ RowAsks given (now marks) (now lengths) (now words) (now binary) (now matrices) kept  at tried ⌝ }
-    ensures { λ event. ⌜ RowDoes given (now (marks .entry)) (now (lengths .entry)) (now (words .entry)) (now (binary .entry)) (now (matrices .entry)) kept  at tried event ⌝ }
+    requires { ⌜ RowAsks given (now marks) (now lengths) (now words) (now binary) (now matrices) kept at tried ⌝ }
+    ensures { λ event. ⌜ RowDoes given (now (marks .entry)) (now (lengths .entry)) (now (words .entry)) (now (binary .entry)) (now (matrices .entry)) kept at tried event ⌝ }
 {
     let mut o = at.operator;
     let mut second = at.second;

@@ -46,11 +46,10 @@ loop-less c = search needs
 loop-again : tie.Need-loop-again Inv-loop μ-loop
 loop-again c =
     let a = c .before .before .before .before .before .before .before .before .before .args in
-    let v = c .before .before .before .before .before .before .loop in
-    (
+    let v = c .before .before .before .before .before .before .loop in (
       omega arith,
       v .inv .1 ∙ every-turn (v .j) (a .r) (agreesAt (a .marks .now) (a .lengths .now) (a .rows .now)) (c .before .before .before .before .before .loop-test .taken)
-      ∙ ap (λ (b : Bool). b && every (count (v .j + 1) (a .r - (v .j + 1))) (agreesAt (a .marks .now) (a .lengths .now) (a .rows .now))) (sym (c .before .agrees-at .ensures) ∙ c .if1 .taken),
+          ∙ ap (λ (b : Bool). b && every (count (v .j + 1) (a .r - (v .j + 1))) (agreesAt (a .marks .now) (a .lengths .now) (a .rows .now))) (sym (c .before .agrees-at .ensures) ∙ c .if1 .taken),
     )
 
 returns : tie.Need-returns Inv-loop μ-loop

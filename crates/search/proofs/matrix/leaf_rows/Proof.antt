@@ -52,8 +52,7 @@ loop-again : tie.Need-loop-again Inv-loop μ-loop
 loop-again c =
     let v = c .before .before .before .before .loop in
     let a = c .before .before .before .before .before .before .before .args in
-    let e = v .inv .2 in
-    (
+    let e = v .inv .2 in (
       omega arith,
       length-set (v .rows) (v .j) _ ∙ v .inv .1,
       omega (arith, next-row (v .j) (a .m)),

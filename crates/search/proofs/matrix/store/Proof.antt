@@ -43,8 +43,7 @@ loop-less c = search needs
 loop-again : tie.Need-loop-again Inv-loop μ-loop
 loop-again c =
     let v = c .before .before .loop in
-    let a = c .before .before .before .args in
-    (
+    let a = c .before .before .before .args in (
       omega arith,
       length-set (v .matrices) (a .from + v .j) _ ∙ v .inv .1,
       rw (add-one, v .inv .2) (paste-suc (a .matrices .now) (a .from) (a .rows .now) (v .j) 0 (omega arith) (omega arith)),

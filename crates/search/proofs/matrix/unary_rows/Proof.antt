@@ -50,8 +50,7 @@ loop-less c = search needs
 loop-again : tie.Need-loop-again Inv-loop μ-loop
 loop-again c =
     let v = c .before .before .before .before .loop in
-    let a = c .before .before .before .before .before .before .before .args in
-    (
+    let a = c .before .before .before .before .before .before .before .args in (
       omega arith,
       length-set (v .rows) (v .j) _ ∙ v .inv .1,
       filled-more (λ t w. UnaryAt (a .code) (getD (a .matrices .now) (a .from + t) 0) (getD (a .lengths .now) t 0) w) (v .rows) (v .j) _ (omega (arith, v .inv .1)) (v .inv .2) (c .unary-at .ensures),
