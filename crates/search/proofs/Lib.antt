@@ -11,3 +11,4 @@ pub mod UnaryLoops
 pub mod Layer
 pub mod Table
 pub mod Driver
+pub mod Listing
