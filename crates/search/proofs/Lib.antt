@@ -12,3 +12,4 @@ pub mod Layer
 pub mod Table
 pub mod Driver
 pub mod Listing
+pub mod Sizes

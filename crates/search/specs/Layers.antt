@@ -121,3 +121,14 @@ pub record LayerDoes (g : Given) (marks lengths words unary binary starts : List
       → Stood (input g marks lengths words unary binary) t₀
       (foldl (consider (offer (input g marks lengths words unary binary)) (g .room)) (going k₀ tried)
       (layerRest (input g marks lengths words unary binary) k₀ s starts (leafCount g) (begin starts s))) t′ stand
+
+-- ---- the sizes
+
+pub record LayersAsks (g : Given) (marks lengths words unary binary : List ℕ) (t : Cols) : Type 0 where
+  pub sound : Sound g marks lengths words unary binary
+  pub room : Room g t
+  pub bound-in : g .bound ≤ 31
+
+pub record LayersDoes (g : Given) (marks lengths words unary binary : List ℕ) (t t′ : Cols) (stand : Stand) : Type 0 where
+  pub runs : Passes (input g marks lengths words unary binary)
+      → Stood (input g marks lengths words unary binary) t (after (offer (input g marks lengths words unary binary)) (g .room) (g .bound)) t′ stand
