@@ -7,7 +7,7 @@ use crate::scan::Event;
 use crate::scan::scan;
 ghost use mathlib.Core.Path.{_≡_};
 ghost use lib.ListN.{set};
-ghost use Rattle.search.specs.Layers.{cols, NodeAsks, LayerAsks, LayerDoes};
+ghost use Rattle.search.specs.Layers.{cols, NodeAsks, LayerAsks, LayerDoes, LayersAsks, LayersDoes};
 
 // Where the walk stands after some sizes.
 pub enum Stand {
@@ -146,4 +146,58 @@ fn layer(
             }
         }
     }
+}
+
+// The sizes from 1 to the bound.
+pub(crate) fn layers(
+    given: Given,
+    marks: &[u8],
+    lengths: &[u8],
+    words: &[u64],
+    unary: &[u8],
+    binary: &[u8],
+    codes: &mut [u8],
+    lefts: &mut [u16],
+    rights: &mut [u16],
+    sizes: &mut [u8],
+    matrices: &mut [u64],
+) -> Stand
+    requires { ⌜ LayersAsks given (now marks) (now lengths) (now words) (now unary) (now binary)
+        (cols (now codes) (now lefts) (now rights) (now sizes) (now matrices)) ⌝ }
+    ensures { λ stand. ⌜ LayersDoes given (now (marks .entry)) (now (lengths .entry)) (now (words .entry)) (now (unary .entry)) (now (binary .entry))
+        (cols (now (codes .entry)) (now (lefts .entry)) (now (rights .entry)) (now (sizes .entry)) (now (matrices .entry)))
+        (cols (now (codes .exit)) (now (lefts .exit)) (now (rights .exit)) (now (sizes .exit)) (now (matrices .exit))) stand ⌝ }
+{
+    let bound = given.bound;
+    let mut starts = [0usize; 32];
+    let mut k: usize = 0;
+    let mut n: u64 = 0;
+    let mut s: usize = 1;
+    while s <= bound {
+        starts[s] = k;
+        let stand = layer(
+            given,
+            marks,
+            lengths,
+            words,
+            unary,
+            binary,
+            &starts,
+            s,
+            codes,
+            lefts,
+            rights,
+            sizes,
+            matrices,
+            k,
+            n,
+        );
+        let Stand::Going { tried, kept } = stand else {
+            return stand;
+        };
+        n = tried;
+        k = kept;
+        s += 1;
+    }
+    Stand::Going { tried: n, kept: k }
 }
