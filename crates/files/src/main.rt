@@ -3,8 +3,7 @@
 // 1 word, 4 unary or 5 binary codes; l, room for the largest file.
 // A line that starts with # is copied.
 use session::file::ReadAnswer;
-ghost use mathlib.Core.Path.{_≡_};
-ghost use Prim.Native.Nat.{_+_, _<_, _≤_};
+ghost use Prim.Native.Nat.{_<_, _≤_};
 ghost use lib.ListN.{length};
 
 fn digit(b: u8) -> u8
@@ -23,20 +22,25 @@ fn digit(b: u8) -> u8
     0
 }
 
-// The bytes of the hex digits from `from` on, and how many.
+// The bytes that the hex digits spell, and how many there are.
 fn decode(text: &[u8], out: &mut [u8]) -> usize
     ensures { λ r. ⌜ r ≤ length (now (out .entry)) ⌝ }
 {
     let mut n: usize = 0;
     let mut i: usize = 0;
     while i + 1 < text.len() {
-        if n < out.len() {
-            out[n] = digit(text[i]) * 16 + digit(text[i + 1]);
-            n += 1;
+        if out.len() <= n {
+            return n;
         }
+        out[n] = digit(text[i]) * 16 + digit(text[i + 1]);
+        n += 1;
         i += 2;
     }
     n
+}
+
+fn wide(x: u8) -> u64 {
+    x as u64
 }
 
 fn show(answer: ReadAnswer) {
@@ -61,9 +65,9 @@ fn show(answer: ReadAnswer) {
             io::write_all(1, b" binary ");
             io::print_decimal(1, binary as u64);
             io::write_all(1, b" constants ");
-            io::print_decimal(1, constants as u64);
+            io::print_decimal(1, wide(constants));
             io::write_all(1, b" bound ");
-            io::print_decimal(1, bound as u64);
+            io::print_decimal(1, wide(bound));
         }
         ReadAnswer::Broken(o) => {
             io::write_all(1, b"refused 8 at ");
@@ -80,7 +84,7 @@ fn show_bytes(list: &[u8]) {
     let mut i: usize = 0;
     while i < list.len() {
         io::write_all(1, b" ");
-        io::print_decimal(1, list[i] as u64);
+        io::print_decimal(1, wide(list[i]));
         i += 1;
     }
 }
@@ -95,32 +99,121 @@ fn show_words(list: &[u64]) {
     }
 }
 
-fn small(file: &[u8], a: usize, b: usize, c: usize, d: usize, e: usize)
-    requires { ⌜ (a ≤ 3) × (b ≤ 3) × (c ≤ 4) × (d ≤ 6) × (e ≤ 7) ⌝ }
-{
+fn run(
+    file: &[u8],
+    marks: &mut [u8],
+    lengths: &mut [u8],
+    words: &mut [u64],
+    unary: &mut [u8],
+    binary: &mut [u8],
+) {
+    let answer = session::file::read(file, marks, lengths, words, unary, binary);
+    show(answer);
+    show_bytes(marks);
+    show_bytes(lengths);
+    show_words(words);
+    show_bytes(unary);
+    show_bytes(binary);
+    io::write_all(1, b"\n");
+}
+
+fn enough(file: &[u8]) {
     let mut marks = [99u8; 3];
     let mut lengths = [99u8; 3];
     let mut words = [99u64; 4];
     let mut unary = [99u8; 6];
     let mut binary = [99u8; 7];
-    let answer = session::file::read(
+    run(
         file,
-        &mut marks[..a],
-        &mut lengths[..b],
-        &mut words[..c],
-        &mut unary[..d],
-        &mut binary[..e],
+        &mut marks,
+        &mut lengths,
+        &mut words,
+        &mut unary,
+        &mut binary,
     );
-    show(answer);
-    show_bytes(&marks);
-    show_bytes(&lengths);
-    show_words(&words);
-    show_bytes(&unary);
-    show_bytes(&binary);
-    io::write_all(1, b"\n");
 }
 
-fn large(file: &[u8]) {
+fn one_mark(file: &[u8]) {
+    let mut marks = [99u8; 1];
+    let mut lengths = [99u8; 3];
+    let mut words = [99u64; 4];
+    let mut unary = [99u8; 6];
+    let mut binary = [99u8; 7];
+    run(
+        file,
+        &mut marks,
+        &mut lengths,
+        &mut words,
+        &mut unary,
+        &mut binary,
+    );
+}
+
+fn one_length(file: &[u8]) {
+    let mut marks = [99u8; 3];
+    let mut lengths = [99u8; 1];
+    let mut words = [99u64; 4];
+    let mut unary = [99u8; 6];
+    let mut binary = [99u8; 7];
+    run(
+        file,
+        &mut marks,
+        &mut lengths,
+        &mut words,
+        &mut unary,
+        &mut binary,
+    );
+}
+
+fn one_word(file: &[u8]) {
+    let mut marks = [99u8; 3];
+    let mut lengths = [99u8; 3];
+    let mut words = [99u64; 1];
+    let mut unary = [99u8; 6];
+    let mut binary = [99u8; 7];
+    run(
+        file,
+        &mut marks,
+        &mut lengths,
+        &mut words,
+        &mut unary,
+        &mut binary,
+    );
+}
+
+fn four_unary(file: &[u8]) {
+    let mut marks = [99u8; 3];
+    let mut lengths = [99u8; 3];
+    let mut words = [99u64; 4];
+    let mut unary = [99u8; 4];
+    let mut binary = [99u8; 7];
+    run(
+        file,
+        &mut marks,
+        &mut lengths,
+        &mut words,
+        &mut unary,
+        &mut binary,
+    );
+}
+
+fn five_binary(file: &[u8]) {
+    let mut marks = [99u8; 3];
+    let mut lengths = [99u8; 3];
+    let mut words = [99u64; 4];
+    let mut unary = [99u8; 6];
+    let mut binary = [99u8; 5];
+    run(
+        file,
+        &mut marks,
+        &mut lengths,
+        &mut words,
+        &mut unary,
+        &mut binary,
+    );
+}
+
+fn largest(file: &[u8]) {
     let mut marks = [99u8; 32];
     let mut lengths = [99u8; 32];
     let mut words = [99u64; 512];
@@ -138,6 +231,21 @@ fn large(file: &[u8]) {
     io::write_all(1, b"\n");
 }
 
+fn answer_file(letter: u8, buffer: &[u8], n: usize)
+    requires { ⌜ n ≤ length (now buffer) ⌝ }
+{
+    let file = &buffer[..n];
+    match letter {
+        b's' => enough(file),
+        b'm' => one_mark(file),
+        b'n' => one_length(file),
+        b'w' => one_word(file),
+        b'u' => four_unary(file),
+        b'b' => five_binary(file),
+        _ => largest(file),
+    }
+}
+
 fn answer_line(line: &[u8]) {
     if line.len() < 2 {
         return;
@@ -149,15 +257,7 @@ fn answer_line(line: &[u8]) {
     }
     let mut file = [0u8; 4500];
     let n = decode(&line[2..], &mut file);
-    match line[0] {
-        b's' => small(&file[..n], 3, 3, 4, 6, 7),
-        b'm' => small(&file[..n], 1, 3, 4, 6, 7),
-        b'n' => small(&file[..n], 3, 1, 4, 6, 7),
-        b'w' => small(&file[..n], 3, 3, 1, 6, 7),
-        b'u' => small(&file[..n], 3, 3, 4, 4, 7),
-        b'b' => small(&file[..n], 3, 3, 4, 6, 5),
-        _ => large(&file[..n]),
-    }
+    answer_file(line[0], &file, n);
 }
 
 // Where the line that starts at `from` ends: at a line end, or at the end.

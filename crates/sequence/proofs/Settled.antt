@@ -8,7 +8,8 @@ use lib.Dec.{T, leb, ltb, eqb, leb→le, ltb→lt, eqb→eq}
 use Rattle.words.specs.Word.{width, At, Wf, Means}
 use Rattle.words.proofs.At.{lt-wf}
 use Rattle.sequence.specs.Operators.{unaryReading, binaryReading}
-use Rattle.sequence.specs.Settled.{seq, Example, one, two, Claim, All, settled}
+use Rattle.sequence.specs.Sequence.{seq}
+use Rattle.sequence.specs.Settled.{Example, one, two, Claim, All, settled}
 use Rattle.sequence.proofs.Answers.{unary-passes, binary-passes}
 use Rattle.sequence.proofs.Computed.{unaryAt, binaryAt, unary-at-means, binary-at-means}
 

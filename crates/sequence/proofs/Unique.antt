@@ -17,7 +17,7 @@ use Rattle.sequence.specs.Masked.{UnaryWord, BinaryWord, unaryMasked, bi
 use Rattle.sequence.specs.Masked.UnaryWord.{word as uword, nothing as unothing}
 use Rattle.sequence.specs.Masked.BinaryWord.{word as bword, nothing as bnothing}
 use Rattle.sequence.specs.Table.{Listed, unary, binary, neither, unaryRow, binaryRow}
-use Rattle.sequence.specs.Sequence.{Denotes, NewAnswer, UnaryRead, UnaryAnswer, BinaryRead, BinaryAnswer}
+use Rattle.sequence.specs.Sequence.{seq, Denotes, NewAnswer, UnaryRead, UnaryAnswer, BinaryRead, BinaryAnswer}
 use Rattle.sequence.proofs.Refusals.{answers-unique}
 use Rattle.sequence.proofs.Groups.{unary-below, binary-between}
 
@@ -31,11 +31,7 @@ test-unique false false p q = refl
 -- ---- sequences
 
 -- a sequence is determined by its length and bits
-seq : ℕ → ℕ → CharSeq
-seq n x = record { length = n; values = x }
-
 same-seq : (s t : CharSeq) → s .length ≡ t .length → s .values ≡ t .values → s ≡ t
-unfolding seq
 same-seq s t p q = ap₂ seq p q
 
 pub denotes-unique : {n : ℕ} {f : Reading} (s t : CharSeq) → Denotes n f s → Denotes n f t → s ≡ t

@@ -1,4 +1,5 @@
 -- What a reader must believe of sequences and operators.
+pub mod Limits
 pub mod Operators
 pub mod Masked
 pub mod Refusals

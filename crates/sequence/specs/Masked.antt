@@ -1,26 +1,27 @@
--- The operators on bare words: what each says at 64 places, where a mask m has the places of a session. Nothing here is a law of LTL:
--- `unary-cut` and `binary-cut` (proofs/Masked.antt) prove that on a session's mask and well-formed words these are the readings.
+-- The operators by code on bare words, at the places of a mask m of 64. On a session's mask and well-formed words these are the readings
+-- (`unary-cut`, `binary-cut` in proofs/Masked.antt).
 -- Assumes nothing.
 use mathlib.Core.Path.{_≡_}
 use Prim.Native.Nat.{ℕ}
-use Rattle.words.specs.Ltlf.{Reading, Not, Or, And, Implies, Equiv, StrongNext, Finally, Globally, Until, Release}
+use Rattle.words.specs.Ltlf.{Reading, Or, And, StrongNext, Finally, Until}
+use Rattle.words.specs.Masked.{NotOn, ImpliesOn, EquivOn, WeakNextOn, GloballyOn, ReleaseOn}
 use Rattle.words.specs.Word.{width, At, Means}
 use Rattle.sequence.specs.Operators.{Unary, not, weakNext, strongNext, finally, globally, Binary, or, and, until, release, implies, equiv, unaryCode, binaryCode}
 
 abbrev pub unaryMasked : Unary → Reading → Reading → Reading
-unaryMasked not m f = And m (Not f)
-unaryMasked weakNext m f = And m (Implies (StrongNext width m) (StrongNext width f))
+unaryMasked not m f = NotOn m f
+unaryMasked weakNext m f = WeakNextOn m f
 unaryMasked strongNext m f = StrongNext width f
 unaryMasked finally m f = Finally width f
-unaryMasked globally m f = And m (Globally width (Implies m f))
+unaryMasked globally m f = GloballyOn m f
 
 abbrev pub binaryMasked : Binary → Reading → Reading → Reading → Reading
 binaryMasked or m f g = Or f g
 binaryMasked and m f g = And f g
 binaryMasked until m f g = Until width f g
-binaryMasked release m f g = And m (Release width (Implies m f) (Implies m g))
-binaryMasked implies m f g = And m (Implies f g)
-binaryMasked equiv m f g = And m (Equiv f g)
+binaryMasked release m f g = ReleaseOn m f g
+binaryMasked implies m f g = ImpliesOn m f g
+binaryMasked equiv m f g = EquivOn m f g
 
 -- what the words by code answer; a code of no operator of the group has no snapshot
 pub data UnaryWord (code x m r : ℕ) : Type 0 where

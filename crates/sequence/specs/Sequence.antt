@@ -11,7 +11,11 @@ use Rattle.sequence.specs.declared.Answer.the-variants.{Sequence, Refuse
 use Rattle.sequence.specs.Operators.{Unary, Binary, unaryCode, binaryCode, unaryReading, binaryReading}
 use Rattle.sequence.specs.Refusals.{Row, Decided}
 
--- "A sequence is a length n and a 64-bit word"; "It is well formed if n is at most 64 and no bit at or above n is set"
+-- "A sequence is a length n and a 64-bit word"
+abbrev pub seq : ℕ → ℕ → CharSeq
+seq n x = record { length = n; values = x }
+
+-- "It is well formed if n is at most 64 and no bit at or above n is set"
 abbrev pub WellFormed : CharSeq → Type 0
 WellFormed s = Wf (s .length) (s .values)
 
@@ -26,22 +30,22 @@ pub record Denotes (n : ℕ) (f : Reading) (r : CharSeq) : Type 0 where
 
 -- ---- the rows
 
--- "4: a length above 64"
+-- 4: "a length above 64"
 abbrev pub tooLong : CharSeq → Row
 tooLong s = record { number = 4; given = width < s .length }
 
--- "5: a bit set at or above the length"
+-- 5: "a bit set at or above the length"
 abbrev pub bitAbove : CharSeq → Row
 bitAbove s = record { number = 5; given = (i : ℕ) × (s .length ≤ i) × At (s .values) i }
 
--- "7: code not in its group (unary 0-4, binary 5-10)"
+-- 7: "code not in its group (unary 0-4, binary 5-10), or repeated"; at "operators (group only)"
 abbrev pub notUnary : ℕ → Row
 notUnary code = record { number = 7; given = ((op : Unary) → unaryCode op ≡ code → ⊥) }
 
 abbrev pub notBinary : ℕ → Row
 notBinary code = record { number = 7; given = ((op : Binary) → binaryCode op ≡ code → ⊥) }
 
--- "10: two sequences of unequal length"
+-- 10: "two sequences of unequal length"
 abbrev pub unequal : CharSeq → CharSeq → Row
 unequal s t = record { number = 10; given = (s .length ≡ t .length → ⊥) }
 
@@ -74,7 +78,7 @@ Answers rows asked a = Decided rows (numberOf a) × Carries asked a
 
 -- the sequence of that length and word
 abbrev pub NewAnswer : ℕ → ℕ → Answer → Type 0
-NewAnswer n x a = Answers (illFormed (record { length = n; values = x })) (λ r. (r .length ≡ n) × (r .values ≡ x)) a
+NewAnswer n x a = Answers (illFormed (seq n x)) (λ r. (r .length ≡ n) × (r .values ≡ x)) a
 
 -- the operator with that code, read on the sequence
 abbrev pub UnaryRead : ℕ → CharSeq → CharSeq → Type 0

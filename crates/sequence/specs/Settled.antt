@@ -2,13 +2,9 @@
 -- Assumes nothing.
 use mathlib.Core.List.{List, [], _∷_}
 use Prim.Native.Nat.{ℕ, _-_, _^_}
-use Rattle.sequence.specs.declared.CharSeq.{CharSeq}
 use Rattle.sequence.specs.declared.Answer.the-variants.{Sequence}
 use Rattle.sequence.specs.Operators.{Unary, Binary, not, weakNext, strongNext, finally, globally, until, release, implies, equiv, unaryCode, binaryCode}
-use Rattle.sequence.specs.Sequence.{UnaryAnswer, BinaryAnswer}
-
-abbrev pub seq : ℕ → ℕ → CharSeq
-seq n x = record { length = n; values = x }
+use Rattle.sequence.specs.Sequence.{seq, UnaryAnswer, BinaryAnswer}
 
 -- an operator, the length, its words and what it gives
 pub data Example : Type 0 where

@@ -17,7 +17,9 @@ pub struct Operator {
     pub commutes: bool,
 }
 
-const OPERATORS: [Operator; 11] = [
+const COUNT: usize = 11;
+
+const OPERATORS: [Operator; COUNT] = [
     Operator {
         token: [b'!', 0, 0, 0],
         bytes: 1,
@@ -91,7 +93,7 @@ pub fn operator_of(code: u8) -> Operator
     ensures { λ r. ⌜ Listed code r ⌝ }
 {
     let at = code as usize;
-    if at < 11 {
+    if at < COUNT {
         OPERATORS[at]
     } else {
         Operator {

@@ -4,11 +4,10 @@ use mathlib.Core.Path.{_≡_, refl, sym, ap, _∙_, subst}
 use mathlib.Core.Bool.{Bool, true, false, _&&_}
 use mathlib.Core.Bool as bool
 use mathlib.Core.List.{List, [], _∷_, _++_, flatMap, List·Memᴰ}
-use Prim.Native.Nat.{ℕ, zero, suc, _+_, _-_, _≤_, _<_}
+use Prim.Native.Nat.{ℕ, zero, suc, _+_, _-_, _≤_}
 use native.Mathlib.Omega.{arith}
 use borrow.Author.Tests.{eq-eqb, eqb-true, not-true}
 use lib.Dec.{eqb}
-use lib.ListN.{length}
 use Rattle.sequence.specs.Operators.{Unary, Binary, unaryCode, binaryCode}
 use Rattle.sequence.specs.Operators.Unary.{not, weakNext, strongNext, finally, globally}
 use Rattle.sequence.specs.Operators.Binary.{or, and, until, release, implies, equiv}

@@ -12,3 +12,12 @@ pub mod Steps
 pub mod Walks
 pub mod Turns
 pub mod Sections
+pub mod Filling
+pub mod Positions
+pub mod Outcome
+pub mod DataLaws
+pub mod Theorems
+pub mod Largest
+pub mod Cuts
+pub mod Interleaved
+pub mod Offsets

@@ -2,7 +2,7 @@
 -- Assumes nothing.
 use mathlib.Core.Path.{_≡_, refl, sym, ap, _∙_, subst}
 use mathlib.Core.Bool.{Bool, true, false}
-use mathlib.Core.List.{List, [], _∷_, _++_, flatMap, List·Memᴰ}
+use mathlib.Core.List.{List, [], _++_, flatMap}
 use Prim.Native.Nat.{ℕ, _+_, _≤_, _<_}
 use native.Mathlib.Omega.{arith}
 use lib.ListN.{length, getD, take, drop}
@@ -11,7 +11,7 @@ use Rattle.session.specs.Format.{one, nameBytes, fitsName, GoodName}
 use Rattle.session.specs.Offence.{got, bad, each, byte, within, counted, letter, isIn, sameBytes, notTwice, name}
 use Rattle.session.proofs.Spans.{Spans, head, second, taken, inside}
 use Rattle.session.proofs.Lists.{not-in, in-not, same-refl, same-eq, ones}
-use Rattle.session.proofs.Readers.{got-bad, got-value, got-next, in-turn, byte-sound, byte-complete, Sound, Complete, Row, row-sound, Section, section-sound, section-complete}
+use Rattle.session.proofs.Readers.{got-bad, got-value, got-next, in-turn, byte-sound, byte-complete, Sound, Complete, row-sound, Section, section-sound, section-complete}
 
 abbrev pub Letter : List ℕ → ℕ → Type 0
 Letter seen b = fitsName seen b ≡ true

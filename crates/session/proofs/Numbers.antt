@@ -1,6 +1,6 @@
 -- A word and its eight bytes, low byte first, are the same thing; "no bit at or above n is set" is "below 2 ^ n".
 -- Assumes nothing.
-use mathlib.Core.Path.{_≡_, refl, sym, ap, _∙_, subst}
+use mathlib.Core.Path.{_≡_, refl, sym, ap, _∙_}
 use mathlib.Core.Logic.{_↔_}
 use mathlib.Core.Bool.{Bool, true, false}
 use mathlib.Core.List.{List, [], _∷_}
@@ -12,7 +12,7 @@ use lib.Dec.{ltb}
 use lib.ListN.{length, getD, take, drop, length-drop}
 use lib.Seq.{getD-drop, drop-drop}
 use Rattle.words.specs.Word.{width, Wf}
-use Rattle.words.proofs.Bits.{clear-lt, bit-high}
+use Rattle.words.proofs.At.{lt-wf, wf-lt}
 use Rattle.session.specs.Format.{lowFirst}
 use Rattle.session.specs.Offence.{number}
 
@@ -40,12 +40,6 @@ low-number (b ∷ l) h =
     let m : (b + 256 * number l) % 256 ≡ b = omega arith in
     let d : (b + 256 * number l) / 256 ≡ number l = omega arith in
     rw (m, d) (ap (λ (r : List ℕ). b ∷ r) (low-number l (λ i. h (suc i))))
-
-pub wf-below : {n w : ℕ} → Wf n w → w < 2 ^ n
-wf-below {n} {w} h = clear-lt n w (h .clear)
-
-pub below-wf : (n w : ℕ) → n ≤ width → w < 2 ^ n → Wf n w
-below-wf n w s l = record { short = s; clear = λ i h. bit-high n w i l h }
 
 -- ---- a word's bytes, as they are read
 
@@ -80,9 +74,9 @@ module _ (file : List ℕ) (at : ℕ) where
 
 -- a test for a well-formed word of length n is the test for a number below 2 ^ n
 pub clear-is : (n w : ℕ) → n ≤ width → (r : Bool) → ((r ≡ true) ↔ Wf n w) → r ≡ ltb w (2 ^ n)
-clear-is n w s true h = sym (lt-ltb w (2 ^ n) (wf-below (h .0 refl)))
+clear-is n w s true h = sym (lt-ltb w (2 ^ n) (wf-lt (h .0 refl)))
 clear-is n w s false h = go (ltb w (2 ^ n)) refl
   where
     go : (b : Bool) → ltb w (2 ^ n) ≡ b → false ≡ ltb w (2 ^ n)
-    go true e = h .1 (below-wf n w s (ltb-true w (2 ^ n) e)) ∙ sym e
+    go true e = h .1 (lt-wf s (ltb-true w (2 ^ n) e)) ∙ sym e
     go false e = sym e

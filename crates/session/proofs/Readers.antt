@@ -4,15 +4,15 @@
 use mathlib.Core.Path.{_≡_, refl, sym, ap, _∙_, subst}
 use mathlib.Core.Bool.{Bool, true, false, cond}
 use mathlib.Core.List.{List, [], _∷_, _++_, flatMap, append-assoc, append-nil}
-use Prim.Native.Nat.{ℕ, zero, suc, _+_, _≤_, _<_}
+use Prim.Native.Nat.{ℕ, zero, suc, _+_, _≤_}
 use native.Mathlib.Omega.{arith}
 use borrow.Author.Tests.{ltb-true, lt-ltb}
 use lib.Dec.{ltb}
-use lib.ListN.{length, getD, drop, length-append}
+use lib.ListN.{length, getD, drop}
 use Rattle.session.specs.Format.{section, one, Each}
 use Rattle.session.specs.Offence.{Got, got, bad, Reader, andThen, each, byte, within, counted}
 use Rattle.session.proofs.Spans.{Spans, none, both, first, second, head, one-byte}
-use Rattle.session.proofs.Lists.{within-low, within-high, within-is, true-false}
+use Rattle.session.proofs.Lists.{within-low, within-high, within-is}
 
 module _ {A : Type 0} where
   pub got-bad : {a : A} {next o : ℕ} → got a next ≡ bad o → ⊥

@@ -1,8 +1,8 @@
 -- One name, one session, the settings and the whole file, step by step as the code takes them.
 -- Assumes nothing.
-use mathlib.Core.Path.{_≡_, refl, sym, ap, _∙_, subst}
+use mathlib.Core.Path.{_≡_, refl, sym, ap, _∙_}
 use mathlib.Core.Bool.{Bool, true, false, cond}
-use mathlib.Core.List.{List, [], _∷_, _++_}
+use mathlib.Core.List.{List, []}
 use Prim.Native.Nat.{ℕ, _+_, _≤_, _<_}
 use native.Mathlib.Omega.{arith}
 use borrow.Author.Tests.{eq-eqb, ne-eqb}
@@ -15,11 +15,10 @@ use Rattle.session.specs.declared.file.Tail.{Tail}
 use Rattle.session.specs.declared.file.Tail.the-variants.{Read as TailRead, Broken as TailBroken}
 use Rattle.session.specs.declared.file.ReadAnswer.{ReadAnswer}
 use Rattle.session.specs.declared.file.ReadAnswer.the-variants.{Parts as AllParts, Broken as FileBroken}
-use Rattle.session.specs.declared.names.NamesAnswer.{NamesAnswer}
 use Rattle.session.specs.declared.names.NamesAnswer.the-variants.{Names, Broken as NamesBroken}
 use Rattle.session.specs.Numbers.{propositions, bound, nameLength}
 use Rattle.session.specs.Format.{Session, Parts, section, nameBytes}
-use Rattle.session.specs.Offence.{Got, got, bad, andThen, each, byte, within, letter, name, isIn, sameBytes, notTwice, namesUpTo, word, session, allSessions, isUnary, isBinary, codes, Settings, settings, atEnd, parts, wholeFile, wholeNames}
+use Rattle.session.specs.Offence.{Got, got, bad, andThen, each, byte, within, letter, name, isIn, sameBytes, notTwice, namesUpTo, word, session, allSessions, isUnary, isBinary, codes, Settings, settings, atEnd, parts, wholeFile}
 use Rattle.session.specs.Reading.{saidNames, namesSaid}
 use Rattle.session.specs.Inner.{stepOf, wordCount, tailOf, tailAt, numbersOf, answerOf}
 use Rattle.session.proofs.Steps.{step-read, step-broken, byte-read, byte-next}

@@ -2,23 +2,24 @@
 -- Assumes nothing.
 use mathlib.Core.Path.{_≡_, refl, sym, ap, _∙_, subst}
 use mathlib.Core.Bool.{Bool, true, false, cond}
-use mathlib.Core.List.{List, [], _∷_, _++_, flatMap}
-use Prim.Native.Nat.{ℕ, _+_, _-_, _^_, _≤_, _<_}
+use mathlib.Core.List.{List, [], _++_, flatMap}
+use Prim.Native.Nat.{ℕ, _+_, _-_, _^_, _≤_}
 use native.Mathlib.Decide.{decLt}
 use native.Mathlib.Nat.{lt-of-lt-of-le, lt-of-not-le}
 use native.Mathlib.Omega.{arith}
 use borrow.Author.Tests.{leb-true, le-leb, ltb-true, lt-ltb}
 use lib.Dec.{leb, ltb}
 use lib.Pow.{pow-mono}
-use lib.ListN.{length, getD, take, drop, length-append, length-take, length-drop, take-append-drop, List·getD-eq-default}
+use lib.ListN.{length, take, drop, length-append, length-take, length-drop, take-append-drop, List·getD-eq-default}
 use lib.Seq.{drop-drop, getD-take, getD-drop}
 use Rattle.words.specs.Word.{width, Wf}
-use Rattle.session.specs.Format.{Session, one, wordBytes, sessionBytes, lowFirst, Each, GoodSession}
+use Rattle.words.proofs.At.{lt-wf, wf-lt}
+use Rattle.session.specs.Format.{Session, one, wordBytes, sessionBytes, lowFirst, GoodSession}
 use Rattle.session.specs.Offence.{got, bad, each, byte, within, number, word, session}
 use Rattle.session.proofs.Spans.{Spans, both, first, second, taken}
-use Rattle.session.proofs.Lists.{within-low, within-high, within-is}
-use Rattle.session.proofs.Readers.{got-bad, got-value, got-next, in-turn, byte-sound, byte-complete, Sound, Complete, Row, row-sound, row-complete}
-use Rattle.session.proofs.Numbers.{Bytes, length-low, number-low, low-number, wf-below, below-wf}
+use Rattle.session.proofs.Lists.{within-high, within-is}
+use Rattle.session.proofs.Readers.{got-bad, got-value, got-next, in-turn, byte-sound, byte-complete, Sound, Complete, row-sound, row-complete}
+use Rattle.session.proofs.Numbers.{Bytes, length-low, number-low, low-number}
 
 bytes-take : (n : ℕ) (l : List ℕ) → Bytes l → Bytes (take n l)
 bytes-take n l h i =
@@ -48,7 +49,7 @@ module _ (file : List ℕ) where
           let low : lowFirst 8 (number run) ≡ run = ap (λ (x : ℕ). lowFirst x (number run)) (sym k) ∙ low-number run (bytes-take 8 (drop at file) (bytes-drop at file bs)) in
           let is : drop at file ≡ lowFirst 8 (number run) ++ drop (at + 8) file = sym (take-append-drop 8 (drop at file)) ∙ ap (λ (l : List ℕ). run ++ l) (drop-drop 8 at file) ∙ ap (λ (l : List ℕ). l ++ drop (at + 8) file) (sym low) in
           let spans : Spans file at (wordBytes (number run)) (at + 8) = record { is = is; end = omega (arith, length-low 8 (number run)) } in
-          (rw (← v) (below-wf n (number run) s (ltb-true (number run) (2 ^ n) t)), rw (← v, ← m) spans)
+          (rw (← v) (lt-wf s (ltb-true (number run) (2 ^ n) t)), rw (← v, ← m) spans)
       go true false h t g = absurd (got-bad (sym g))
       go false q h t g = absurd (got-bad (sym g))
 
@@ -59,8 +60,8 @@ module _ (file : List ℕ) where
       let m : at + 8 ≡ next = omega (arith, s .end, k) in
       let r : at + 8 ≤ length file = omega (arith, length-drop at file, ap length (s .is), length-append (wordBytes w) (drop next file), k) in
       let run : take 8 (drop at file) ≡ wordBytes w = ap (λ (x : ℕ). take x (drop at file)) (sym k) ∙ taken file (wordBytes w) s in
-      let v : number (wordBytes w) ≡ w = number-low 8 w (lt-of-lt-of-le (wf-below f) (pow-mono (f .short))) in
-      rw (le-leb (at + 8) (length file) r, run, v, lt-ltb w (2 ^ n) (wf-below f)) (ap (λ (x : ℕ). got w x) m)
+      let v : number (wordBytes w) ≡ w = number-low 8 w (lt-of-lt-of-le (wf-lt f) (pow-mono (f .short))) in
+      rw (le-leb (at + 8) (length file) r, run, v, lt-ltb w (2 ^ n) (wf-lt f)) (ap (λ (x : ℕ). got w x) m)
 
   abbrev pub Fits : ℕ → List ℕ → ℕ → Type 0
   Fits n before w = Wf n w

@@ -11,7 +11,7 @@ use Rattle.session.specs.declared.bytes.Step.{Step}
 use Rattle.session.specs.declared.bytes.Step.the-variants.{Read, Broken}
 use Rattle.session.specs.Offence.{Got, got, bad, Reader, each, byte, within, counted, letter}
 use Rattle.session.specs.Inner.{stepOf, fitsAt}
-use Rattle.session.proofs.Spans.{Spans, head}
+use Rattle.session.proofs.Spans.{head}
 use Rattle.session.proofs.Readers.{byte-sound}
 
 module _ {A : Type 0} (value : A → ℕ) (r : Step) where

@@ -1,19 +1,19 @@
 -- The two loops over items that remember the items before: names and codes. What the code looks at are the file's own bytes.
 -- Assumes nothing.
-use mathlib.Core.Path.{_≡_, refl, sym, ap, _∙_, subst}
+use mathlib.Core.Path.{_≡_, refl, sym, ap, _∙_}
 use mathlib.Core.Bool.{Bool}
 use mathlib.Core.List.{List, [], _∷_, _++_}
-use Prim.Native.Nat.{ℕ, zero, suc, _+_, _≤_, _<_}
+use Prim.Native.Nat.{ℕ, _+_, _≤_, _<_}
 use native.Mathlib.Omega.{arith}
 use native.Mathlib.Numerals.{add-one}
 use lib.ListN.{length, getD, take, drop}
 use Rattle.session.specs.declared.bytes.Step.{Step}
 use Rattle.session.specs.declared.bytes.Step.the-variants.{Read, Broken}
-use Rattle.session.specs.Offence.{got, bad, each, code, name}
+use Rattle.session.specs.Offence.{each, code, name}
 use Rattle.session.specs.Inner.{stepOf, walk, walkEnd}
 use Rattle.session.specs.Format.{one, nameBytes}
-use Rattle.session.proofs.Spans.{Spans, head, inside}
-use Rattle.session.proofs.Steps.{step-read, step-broken, Loop, start, turn, broken, done}
+use Rattle.session.proofs.Spans.{head, inside}
+use Rattle.session.proofs.Steps.{step-read, step-broken, Loop, start, turn, broken}
 use Rattle.session.proofs.CodeLaws.{new-sound}
 use Rattle.session.proofs.NameLaws.{name-sound, named-at}
 use Rattle.session.proofs.Walks.{run-more, walk-more, end-more}

@@ -2,26 +2,26 @@
 -- Assumes nothing.
 use mathlib.Core.Path.{_≡_, refl, sym, ap, _∙_, subst}
 use mathlib.Core.Bool.{Bool, true, false, cond}
-use mathlib.Core.List.{List, [], _∷_, _++_, append-nil, append-cancel-right}
-use Prim.Native.Nat.{ℕ, _+_, _≤_, _<_}
+use mathlib.Core.List.{List, [], _∷_, _++_, append-nil}
+use Prim.Native.Nat.{ℕ, _+_, _≤_}
 use native.Mathlib.Omega.{arith}
 use borrow.Author.Tests.{eqb-true, eq-eqb}
 use lib.Dec.{eqb}
-use lib.ListN.{length, drop}
+use lib.ListN.{length}
 use lib.Seq.{drop-length}
 use Rattle.session.specs.Numbers.{propositions, sessions}
-use Rattle.session.specs.Format.{Parts, Session, one, section, nameBytes, sessionBytes, fileBytes, Each, GoodName, GoodSession, GoodUnary, GoodBinary, Good, GoodFile}
-use Rattle.session.specs.Offence.{Got, got, bad, andThen, name, session, code, isUnary, isBinary, namesUpTo, allSessions, codes, Settings, settings, atEnd, parts, wholeFile, wholeNames}
+use Rattle.session.specs.Format.{Parts, Session, one, section, nameBytes, sessionBytes, fileBytes, Each, GoodName, Good}
+use Rattle.session.specs.Offence.{Got, got, bad, name, session, code, isUnary, isBinary, namesUpTo, allSessions, codes, Settings, settings, atEnd, parts, wholeFile}
 use Rattle.session.proofs.Spans.{Spans, both, first, second}
 use Rattle.session.proofs.Lists.{within-low, within-high}
 use Rattle.session.proofs.Readers.{got-bad, got-value, got-next, in-turn, Section, section-sound, section-complete}
 use Rattle.session.proofs.Numbers.{Bytes}
 use Rattle.session.proofs.NameLaws.{name-sound, name-complete}
 use Rattle.session.proofs.SessionLaws.{Fit, sessions-sound, sessions-complete}
-use Rattle.session.proofs.CodeLaws.{New, new-sound, new-complete, unary-good, good-unary, binary-good, good-binary, Set, settingsBytes, settings-sound, settings-complete}
+use Rattle.session.proofs.CodeLaws.{New, new-sound, new-complete, unary-good, good-unary, binary-good, good-binary, settingsBytes, settings-sound, settings-complete}
 use Rattle.session.proofs.Few.{few}
 
-each-map : {A : Type 0} {fit more : List A → A → Type 0} → ((before : List A) (a : A) → fit before a → more before a) → (l before : List A) → Each fit before l → Each more before l
+pub each-map : {A : Type 0} {fit more : List A → A → Type 0} → ((before : List A) (a : A) → fit before a → more before a) → (l before : List A) → Each fit before l → Each more before l
 unfolding Each
 each-map f [] before e = tt
 each-map f (a ∷ l) before e = (f before a (e .0), each-map f l (before ++ (a ∷ [])) (e .1))
@@ -137,10 +137,10 @@ module _ (file : List ℕ) where
         settings-complete file (at + length a + length b + length g + length h) s next (record { constants = w .constants; some = w .someBound; low = w .lowBound }) r4,
       )
 
-  whole-run : (run : List ℕ) → run ≡ file → Spans file 0 run (length file)
+  pub whole-run : (run : List ℕ) → run ≡ file → Spans file 0 run (length file)
   whole-run run e = record { is = sym e ∙ sym (append-nil run) ∙ ap (λ (l : List ℕ). run ++ l) (sym (drop-length file)); end = omega (arith, ap length e) }
 
-  run-whole : (run : List ℕ) → Spans file 0 run (length file) → run ≡ file
+  pub run-whole : (run : List ℕ) → Spans file 0 run (length file) → run ≡ file
   run-whole run s = sym (s .is ∙ ap (λ (l : List ℕ). run ++ l) (drop-length file) ∙ append-nil run)
 
   -- ---- the theorems

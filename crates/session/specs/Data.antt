@@ -1,7 +1,6 @@
 -- The tests of session data that search and check share: rows of the refusal table, over the number of sessions r, of propositions m, and the lent
 -- lists. The word of proposition p in session i is at i * m + p. A list longer than asked is good, and the rest of it is not looked at.
 -- Assumes nothing.
-use mathlib.Core.Path.{_≡_}
 use mathlib.Core.Logic.{_⊎_}
 use mathlib.Core.List.{List, [], _∷_}
 use Prim.Native.Nat.{ℕ, _+_, _*_, _<_, _≤_}

@@ -1,11 +1,11 @@
 -- How the reader's private functions speak of what they found. No public contract cites this file, so nothing here has to be believed.
 -- Assumes nothing.
-use mathlib.Core.Path.{_≡_}
 use mathlib.Core.Bool.{Bool, true, false, cond}
 use mathlib.Core.List.{List, [], _∷_, _++_}
-use Prim.Native.Nat.{ℕ, zero, suc, _+_, _*_, _^_, _<_, _≤_}
+use Prim.Native.Nat.{ℕ, zero, suc, _+_, _*_, _<_, _≤_}
 use lib.Dec.{eqb}
 use lib.ListN.{length, getD, take, drop}
+use Rattle.words.specs.Word.{Wf, At}
 use Rattle.session.specs.declared.bytes.Step.{Step}
 use Rattle.session.specs.declared.bytes.Step.the-variants.{Read, Broken}
 use Rattle.session.specs.declared.file.Tail.{Tail}
@@ -88,10 +88,10 @@ abbrev pub AllUpTo : List ℕ → ℕ → ℕ → Bool → Type 0
 AllUpTo list n most true = (i : ℕ) → i < n → getD list i 0 ≤ most
 AllUpTo list n most false = (i : ℕ) × (i < n) × (most < getD list i 0)
 
--- all of the m words from `from` on are below 2 ^ n, or one is not
+-- all of the m words from `from` on are well formed at length n, or one has a bit at or above n
 abbrev pub Clear : List ℕ → ℕ → ℕ → ℕ → Bool → Type 0
-Clear words from m n true = (p : ℕ) → p < m → getD words (from + p) 0 < 2 ^ n
-Clear words from m n false = (p : ℕ) × (p < m) × (2 ^ n ≤ getD words (from + p) 0)
+Clear words from m n true = (p : ℕ) → p < m → Wf n (getD words (from + p) 0)
+Clear words from m n false = (p : ℕ) × (p < m) × (b : ℕ) × (n ≤ b) × At (getD words (from + p) 0) b
 
 abbrev pub AllClear : List ℕ → List ℕ → ℕ → ℕ → Bool → Type 0
 AllClear lengths words r m true = (i : ℕ) → i < r → Clear words (i * m) m (getD lengths i 0) true

@@ -2,18 +2,19 @@
 -- Assumes nothing.
 use mathlib.Core.Logic.{_⊎_}
 use Prim.Native.Nat.{ℕ, _<_}
+use Rattle.sequence.specs.Limits as limits
 
 -- "sessions r 1 to 32"
 abbrev pub sessions : ℕ
-sessions = 32
+sessions = limits.sessions
 
 -- "propositions m 1 to 16"
 abbrev pub propositions : ℕ
-propositions = 16
+propositions = limits.propositions
 
 -- "size bound B 1 to 31"
 abbrev pub bound : ℕ
-bound = 31
+bound = limits.size
 
 -- "names (length byte 1-16 ..)"
 abbrev pub nameLength : ℕ

@@ -1,6 +1,7 @@
 -- The first offending byte of a file, by a rule that goes through the file from its start, item by item in the order of the format: an item that is
--- whole and good is passed, and the first that is not decides. proofs/Whole.antt has the theorem
--- that the files that pass are exactly the good ones of `Format`, with their parts.
+-- whole and good is passed, and the first that is not decides. The format itself is in `Format`, and proofs/Theorems.antt and proofs/Cuts.antt tie
+-- the two together: what passes is exactly a good file, with its parts; a good file cut short offends at the length left, and with more after it at
+-- its own length.
 -- Assumes nothing.
 use mathlib.Core.Bool.{Bool, true, false, cond, not, _&&_, _||_}
 use mathlib.Core.List.{List, [], _∷_, _++_}

@@ -1,6 +1,6 @@
 -- What the reader answers and leaves in the lent slices, for every byte string.
 -- Assumes nothing.
-use mathlib.Core.Bool.{Bool, true, false, cond, _&&_}
+use mathlib.Core.Bool.{Bool, cond, _&&_}
 use mathlib.Core.List.{List, [], _∷_, _++_, map, flatMap}
 use Prim.Native.Nat.{ℕ, _*_}
 use lib.Dec.{leb}
@@ -9,7 +9,7 @@ use Rattle.session.specs.declared.names.NamesAnswer.{NamesAnswer}
 use Rattle.session.specs.declared.names.NamesAnswer.the-variants.{Names, Broken as NamesBroken}
 use Rattle.session.specs.declared.file.ReadAnswer.{ReadAnswer}
 use Rattle.session.specs.declared.file.ReadAnswer.the-variants.{Parts as AllParts, Broken, Room}
-use Rattle.session.specs.Format.{Session, Parts, section, nameBytes}
+use Rattle.session.specs.Format.{Parts, section, nameBytes}
 use Rattle.session.specs.Offence.{Got, got, bad, wholeFile, wholeNames}
 
 -- an answer in document 01's terms: 0 and the values, or a refusal's number (and the offset for 8)

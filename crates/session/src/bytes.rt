@@ -1,6 +1,6 @@
 // What stands at an offset of a file: one byte within its numbers, and a word.
 ghost use mathlib.Core.Path.{_≡_};
-ghost use Prim.Native.Nat.{ℕ, _+_, _-_, _≤_, _<_};
+ghost use Prim.Native.Nat.{_+_, _-_, _≤_, _<_};
 ghost use lib.ListN.{length, take, drop};
 ghost use Rattle.session.specs.Offence.{byte, within, number};
 ghost use Rattle.session.specs.Inner.{stepOf};

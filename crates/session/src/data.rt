@@ -1,10 +1,9 @@
 // The tests of session data that search and check share.
-use crate::sessions::is_clear;
-ghost use mathlib.Core.Path.{_≡_};
+use sequence::CharSeq;
 ghost use mathlib.Core.Bool.{true};
-ghost use Prim.Native.Nat.{ℕ, _+_, _*_, _≤_, _<_};
-ghost use lib.ListN.{length, getD};
-ghost use Rattle.words.specs.Word.{width, At};
+ghost use Prim.Native.Nat.{_+_, _*_, _≤_, _<_};
+ghost use lib.ListN.{length};
+ghost use Rattle.words.specs.Word.{width};
 ghost use Rattle.sequence.specs.Refusals.{Decided};
 ghost use Rattle.session.specs.Data.{dataRows};
 ghost use Rattle.session.specs.Inner.{AllUpTo, Clear, AllClear};
@@ -31,7 +30,11 @@ fn session_clear(words: &[u64], from: usize, m: usize, n: usize) -> bool
 {
     let mut p: usize = 0;
     while p < m {
-        if is_clear(n, words[from + p]) {
+        let word = CharSeq {
+            length: n,
+            values: words[from + p],
+        };
+        if word.is_well_formed() {
             p += 1;
         } else {
             return false;

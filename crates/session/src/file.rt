@@ -7,8 +7,7 @@ use crate::fill::fill_words;
 use crate::names::names_section;
 use crate::sessions::sessions_section;
 ghost use mathlib.Core.Path.{_≡_};
-ghost use Prim.Native.Nat.{ℕ, _+_, _≤_, _<_};
-ghost use lib.ListN.{length};
+ghost use Prim.Native.Nat.{_+_, _<_};
 ghost use Rattle.session.specs.Reading.{said, after, lent, readOf};
 ghost use Rattle.session.specs.Inner.{tailOf, tailAt, answerOf};
 
@@ -28,7 +27,8 @@ pub enum ReadAnswer {
     Room,
 }
 
-pub enum Tail {
+// What the settings are, or the offset that offends.
+enum Tail {
     Read { constants: u8, bound: u8 },
     Broken(usize),
 }

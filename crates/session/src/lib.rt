@@ -1,4 +1,4 @@
-// Session data and the session file: the tests that search and check share, and the reader.
+// Session data and the session file (trace.rs: `Trace` and `Operators`): the tests that search and check share, and the reader.
 mod bytes;
 mod codes;
 pub mod data;

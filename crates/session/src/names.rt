@@ -3,7 +3,7 @@ use crate::bytes::Step;
 use crate::bytes::byte_within;
 ghost use mathlib.Core.Path.{_≡_};
 ghost use mathlib.Core.List.{[]};
-ghost use Prim.Native.Nat.{ℕ, _+_, _≤_, _<_};
+ghost use Prim.Native.Nat.{_+_, _≤_, _<_};
 ghost use lib.ListN.{length, take, drop};
 ghost use Rattle.session.specs.Format.{isLetter, isNameByte};
 ghost use Rattle.session.specs.Offence.{each, byte, letter, name, namesUpTo, sameBytes, isIn};

@@ -1,7 +1,7 @@
 -- The settled examples S2, S3, S4 of document 01 and larger runs, computed by the definition.
 -- The larger runs' figures are those that differential/walk_counts.py prints, which is written from the prose of document 01 alone.
 -- Assumes nothing.
-use mathlib.Core.Path.{_≡_, refl, sym}
+use mathlib.Core.Path.{_≡_, refl, sym, subst}
 use mathlib.Core.Logic.{_⊎_, inl, inr}
 use mathlib.Core.List.{List, [], _∷_, List·Memᴰ·not-nil, List·Memᴰ·eq-of-singleton}
 use Prim.Native.Nat.{ℕ, zero, suc, _≤_, _<_}
@@ -9,13 +9,14 @@ use native.Mathlib.Omega.{arith}
 use lib.ListN.{length}
 use Rattle.words.specs.Word.{width, bit, Wf}
 use Rattle.words.proofs.At.{lt-wf}
-use Rattle.sequence.specs.Operators.{Binary}
+use Rattle.sequence.specs.Operators.{Unary, Binary}
 use Rattle.walk.specs.Nodes.{Node}
 use Rattle.walk.specs.Walk.{Candidate, State, found, full, none, going, ended, each, count, ofSize, leftSizes, finish, orders, unaryCandidates, pairs, layer, known, judge, consider, through, after, walk}
 use Rattle.walk.specs.Rows.{word, someOf, allOf, unaryRow, binaryRow, constantRow}
-use Rattle.walk.specs.Input.{Input, Passes, markOf, lengthOf, wordOf, sameRows, every, separating, search}
-use Rattle.walk.specs.Promises.{Found}
-use Rattle.walk.proofs.Promises.{found-smallest}
+use Rattle.walk.specs.Input.{mostSize, mostRoom, Input, Passes, markOf, lengthOf, wordOf, sameRows, every, separating, search}
+use Rattle.walk.specs.Promises.{NoneBelow, Found, Full, begun, goOn}
+use Rattle.walk.specs.Cut.{more, over, settle, start, step, turn}
+use Rattle.walk.proofs.Promises.{found-smallest, none-means-none, full-needs-room}
 
 abbrev node : ℕ → ℕ → ℕ → ℕ → Node
 node c l r s = record { code = c; left = l; right = r; size = s }
@@ -62,6 +63,51 @@ s2-duplicate : search (s2 3 2) ≡ ended none (at 16 0 0 1 (1 ∷ 1 ∷ []) ∷ 
 unfolding each count ofSize leftSizes finish orders unaryCandidates pairs layer known judge consider through after walk word someOf allOf unaryRow binaryRow constantRow sameRows every separating bit
 s2-duplicate = refl
 
+-- it passes the checks, so the theorems speak of it
+two : (P : ℕ → Type 0) → P 0 → P 1 → (j : ℕ) → j < 2 → P j
+two P a b zero h = a
+two P a b (suc zero) h = b
+two P a b (suc (suc j)) h = absurd (omega arith)
+
+s2-passes : (bound room : ℕ) → (1 ≤ bound) × (bound ≤ mostSize) → (1 ≤ room) × (room ≤ mostRoom) → Passes (s2 bound room)
+s2-passes bound room hb hr = record {
+  sessions-in = (omega arith, omega arith);
+  propositions-in = (omega arith, omega arith);
+  bound-in = hb;
+  room-in = hr;
+  constants-in = inl refl;
+  marks-there = omega arith;
+  lengths-there = omega arith;
+  words-there = omega arith;
+  well-formed = λ j p h l.
+      let e : p ≡ 0 = omega arith in
+      subst (λ (p : ℕ). Wf (lengthOf (s2 bound room) j) (wordOf (s2 bound room) j p)) (sym e)
+      (two (λ (j : ℕ). Wf (lengthOf (s2 bound room) j) (wordOf (s2 bound room) j 0)) (lt-wf (omega arith) (omega arith)) (lt-wf (omega arith) (omega arith)) j h);
+  short = two (λ (j : ℕ). lengthOf (s2 bound room) j ≤ width) (omega arith) (omega arith);
+  marks-in = two (λ (j : ℕ). (markOf (s2 bound room) j ≡ 0) ⊎ (markOf (s2 bound room) j ≡ 1)) (inr refl) (inl refl);
+  unary-in = λ c m. (Unary.not, sym (List·Memᴰ·eq-of-singleton m));
+  unary-once = (List·Memᴰ·not-nil, tt);
+  binary-in = λ c m. absurd (List·Memᴰ·not-nil m);
+  binary-once = tt;
+}
+
+-- no formula of size 1 or 2 tells the two sessions apart
+s2-nothing : NoneBelow (s2 2 4096) 3
+s2-nothing = none-means-none (s2 2 4096) (s2-passes 2 4096 (omega arith, omega arith) (omega arith, omega arith)) _ 2 s2-none
+
+-- there are two formulas of size 1 or 2 that are not alike, so one place is too few
+s2-two : Full (s2 2 1) 2 (at 16 0 0 1 (1 ∷ 1 ∷ []) ∷ [])
+s2-two = full-needs-room (s2 2 1) (s2-passes 2 1 (omega arith, omega arith) (omega arith, omega arith)) 2 _ 2 s2-full
+
+-- cut after its first candidate the walk stands at size 2, before the first of its candidates; one candidate more, and none is left
+s2-cut : goOn (s2 2 4096) 1 (begun (s2 2 4096)) ≡ more 2 0 (at 16 0 0 1 (1 ∷ 1 ∷ []) ∷ []) 1
+unfolding each count ofSize leftSizes finish orders unaryCandidates pairs layer known judge consider through after walk word someOf allOf unaryRow binaryRow constantRow sameRows every separating bit settle start step turn
+s2-cut = refl
+
+s2-over : goOn (s2 2 4096) 1 (more 2 0 (at 16 0 0 1 (1 ∷ 1 ∷ []) ∷ []) 1) ≡ over none (at 16 0 0 1 (1 ∷ 1 ∷ []) ∷ at 0 0 0 2 (0 ∷ 0 ∷ []) ∷ []) 2
+unfolding each count ofSize leftSizes finish orders unaryCandidates pairs layer known judge consider through after walk word someOf allOf unaryRow binaryRow constantRow sameRows every separating bit settle start step turn
+s2-over = refl
+
 -- ---- S3: "only `U`, p = 3, q = 4, mark 1; p = 1, q = 4, mark 0; length 3, B = 3: `(p) U (q)`, tried 5, kept 2"
 
 abbrev s3 : Input
@@ -83,11 +129,6 @@ unfolding each count ofSize leftSizes finish orders unaryCandidates pairs layer 
 s3-found = refl
 
 -- it passes the checks, so the theorem speaks of it: `(p) U (q)` separates, and nothing smaller does
-two : (P : ℕ → Type 0) → P 0 → P 1 → (j : ℕ) → j < 2 → P j
-two P a b zero h = a
-two P a b (suc zero) h = b
-two P a b (suc (suc j)) h = absurd (omega arith)
-
 s3-passes : Passes s3
 s3-passes = record {
   sessions-in = (omega arith, omega arith);
@@ -143,6 +184,48 @@ s4-found : search (s4 0 3) ≡ ended (found (node 16 0 0 1)) [] 1
 unfolding each count ofSize leftSizes finish orders unaryCandidates pairs layer known judge consider through after walk word someOf allOf unaryRow binaryRow constantRow sameRows every separating bit
 s4-found = refl
 
+-- ---- constants: "propositions in order, then, if constants are asked for, false, then true", and after them `X` and `G` in the given order
+
+abbrev asked : Input
+asked = record {
+  sessions = 2;
+  propositions = 1;
+  bound = 2;
+  room = 4096;
+  constants = 1;
+  marks = 1 ∷ 0 ∷ [];
+  lengths = 2 ∷ 2 ∷ [];
+  words = 1 ∷ 1 ∷ [];
+  unary = 4 ∷ 1 ∷ [];
+  binary = [];
+}
+
+asked-none : search asked ≡ ended none
+    (at 16 0 0 1 (1 ∷ 1 ∷ []) ∷ at 17 0 0 1 (0 ∷ 0 ∷ []) ∷ at 18 0 0 1 (3 ∷ 3 ∷ []) ∷ at 1 0 0 2 (2 ∷ 2 ∷ []) ∷ []) 9
+unfolding each count ofSize leftSizes finish orders unaryCandidates pairs layer known judge consider through after walk word someOf allOf unaryRow binaryRow constantRow sameRows every separating bit
+asked-none = refl
+
+-- ---- the order of the loops: with two of them exchanged the answer is another
+
+abbrev nested : Input
+nested = record {
+  sessions = 2;
+  propositions = 2;
+  bound = 4;
+  room = 10;
+  constants = 0;
+  marks = 1 ∷ 0 ∷ [];
+  lengths = 2 ∷ 2 ∷ [];
+  words = 2 ∷ 0 ∷ 3 ∷ 1 ∷ [];
+  unary = 2 ∷ 1 ∷ [];
+  binary = 5 ∷ 9 ∷ [];
+}
+
+nested-found : search nested ≡ ended (found (node 9 0 4 4))
+    (at 16 0 0 1 (2 ∷ 3 ∷ []) ∷ at 16 1 0 1 (0 ∷ 1 ∷ []) ∷ at 2 0 0 2 (1 ∷ 1 ∷ []) ∷ at 1 0 0 2 (3 ∷ 3 ∷ []) ∷ at 2 1 0 2 (0 ∷ 0 ∷ []) ∷ at 1 1 0 2 (2 ∷ 2 ∷ []) ∷ []) 34
+unfolding each count ofSize leftSizes finish orders unaryCandidates pairs layer known judge consider through after walk word someOf allOf unaryRow binaryRow constantRow sameRows every separating bit
+nested-found = refl
+
 -- ---- larger runs
 
 -- one proposition, constants, all operators: no formula tells two equal sessions apart
@@ -151,7 +234,7 @@ equals = record {
   sessions = 2;
   propositions = 1;
   bound = 5;
-  room = 4096;
+  room = 200;
   constants = 1;
   marks = 1 ∷ 0 ∷ [];
   lengths = 2 ∷ 2 ∷ [];
@@ -169,7 +252,7 @@ abbrev four : ℕ → Input
 four room = record {
   sessions = 4;
   propositions = 2;
-  bound = 6;
+  bound = 5;
   room = room;
   constants = 0;
   marks = 1 ∷ 1 ∷ 0 ∷ 0 ∷ [];
@@ -179,7 +262,7 @@ four room = record {
   binary = 5 ∷ 6 ∷ 7 ∷ 8 ∷ 9 ∷ 10 ∷ [];
 }
 
-four-found : brief (search (four 4096)) ≡ 1 ∷ 4 ∷ 82 ∷ 0 ∷ 5 ∷ 633 ∷ 164 ∷ []
+four-found : brief (search (four 200)) ≡ 1 ∷ 4 ∷ 82 ∷ 0 ∷ 5 ∷ 633 ∷ 164 ∷ []
 unfolding each count ofSize leftSizes finish orders unaryCandidates pairs layer known judge consider through after walk word someOf allOf unaryRow binaryRow constantRow sameRows every separating bit
 four-found = refl
 
@@ -192,8 +275,8 @@ abbrev three : Input
 three = record {
   sessions = 3;
   propositions = 1;
-  bound = 9;
-  room = 4096;
+  bound = 5;
+  room = 200;
   constants = 1;
   marks = 1 ∷ 0 ∷ 0 ∷ [];
   lengths = 4 ∷ 4 ∷ 2 ∷ [];

@@ -8,6 +8,7 @@ use Prim.Native.Nat.{ℕ, zero, suc, _+_, _-_, _*_, _≤_, _<_}
 use lib.ListN.{length, getD}
 use lib.Dec.{eqb}
 use Rattle.words.specs.Word.{width, At, Wf}
+use Rattle.sequence.specs.Limits as limits
 use Rattle.sequence.specs.Operators.{Unary, Binary, unaryCode, binaryCode, commutes}
 use Rattle.walk.specs.Formula.{Leaf, proposition, constant, Session, Language, _∈_}
 use Rattle.walk.specs.Nodes.{codes}
@@ -16,16 +17,16 @@ use Rattle.walk.specs.Rows.{unaryRow, binaryRow, constantRow, acceptsRow
 
 -- "sessions r 1 to 32; propositions m 1 to 16; .. size bound B 1 to 31; table room C 1 to 4,096 formulas"; the length's limit is `width`
 abbrev pub mostSessions : ℕ
-mostSessions = 32
+mostSessions = limits.sessions
 
 abbrev pub mostPropositions : ℕ
-mostPropositions = 16
+mostPropositions = limits.propositions
 
 abbrev pub mostSize : ℕ
-mostSize = 31
+mostSize = limits.size
 
 abbrev pub mostRoom : ℕ
-mostRoom = 4096
+mostRoom = limits.room
 
 -- what a search is handed; of marks, lengths and words what is beyond r, r and m x r is not looked at
 pub record Input : Type 0 where

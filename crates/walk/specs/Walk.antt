@@ -164,7 +164,7 @@ module _ {L U B Mat : Type 0} (O : Offer L U B Mat) where
     unfoldable pub walk : ℕ → State Mat
     walk b = finish (after b)
 
-    -- the candidates that the walk comes to up to size b, in its order
+    -- the candidates in the order in which the walk comes to them, up to size b; those behind the one that ends it are not tried
     unfoldable pub trail : ℕ → List (Candidate Mat)
     trail zero = []
     trail (suc b) = trail b ++ layer (suc b) (kept (after b))

@@ -69,13 +69,13 @@ at-below w i h = lt-of-not-le λ g. omega (arith, w .clear i g)
 pub wf-lt : {n x : ℕ} → Wf n x → x < 2 ^ n
 wf-lt {n} {x} w = clear-lt n x (w .clear)
 
-pub lt-wf : {n x : ℕ} → n ≤ 64 → x < 2 ^ n → Wf n x
+pub lt-wf : {n x : ℕ} → n ≤ width → x < 2 ^ n → Wf n x
 lt-wf {n} {x} s h = record { short = s; clear = λ i g. bit-high n x i h g }
 
-pub wf-word : {n x : ℕ} → Wf n x → x < 2 ^ 64
+pub wf-word : {n x : ℕ} → Wf n x → x < 2 ^ width
 wf-word w = lt-of-lt-of-le (wf-lt w) (pow-mono (w .short))
 
-pub means : {n r : ℕ} {f : Reading} → n ≤ 64 → ((i : ℕ) → At r i → (i < n) × f i) → ((i : ℕ) → i < n → f i → At r i) → Means n r f
+pub means : {n r : ℕ} {f : Reading} → n ≤ width → ((i : ℕ) → At r i → (i < n) × f i) → ((i : ℕ) → i < n → f i → At r i) → Means n r f
 means {n} {r} s to from = record {
   wf = record { short = s; clear = λ i h. not-at r i (λ p. let t = to i p in omega arith) };
   holds = λ i h. (λ p. to i p .1, from i h);

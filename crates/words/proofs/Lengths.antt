@@ -8,6 +8,7 @@ use native.Mathlib.Nat.{eq-or-lt-of-le}
 use native.Mathlib.Decide.{decLt}
 use native.Mathlib.Omega.{arith}
 use Rattle.words.specs.Ltlf.{Reading, Or, And, Implies, StrongNext, WeakNext, Finally, Globally, Until, Release}
+use Rattle.words.specs.Masked.{WeakNextOn, GloballyOn, ReleaseOn}
 use Rattle.words.specs.Word.{width, At, Wf, Means}
 use Rattle.words.proofs.At.{at-below, means}
 
@@ -29,7 +30,7 @@ module _ {n m : ℕ} (s : n ≤ width) (k : Mask n m) where
   pub masked-cut : {r : ℕ} (g : Reading) → Means width r (And (At m) g) → Means n r g
   masked-cut g p = cut s p (λ i t. (off i (t .0), t .1)) (λ i h q. (on i h, q))
 
-  pub weak-next-cut : (x : ℕ) {r : ℕ} → Means width r (And (At m) (Implies (StrongNext width (At m)) (StrongNext width (At x)))) → Means n r (WeakNext n (At x))
+  pub weak-next-cut : (x : ℕ) {r : ℕ} → Means width r (WeakNextOn (At m) (At x)) → Means n r (WeakNext n (At x))
   weak-next-cut x p =
       cut s p (λ i t. let h = off i (t .0) in (h, ⊎-elim inl (λ l. inr (t .1 (omega arith, on (i + 1) l) .1)) (last i h)))
       (λ i h t. (on i h, λ q. (q .0, ⊎-elim (λ e. absurd (let l = off (i + 1) (q .1) in omega arith)) (λ p. p) t)))
@@ -37,11 +38,11 @@ module _ {n m : ℕ} (s : n ≤ width) (k : Mask n m) where
       last : (i : ℕ) → i < n → (i + 1 ≡ n) ⊎ (i + 1 < n)
       last i h = eq-or-lt-of-le {n = i + 1} {m = n} (omega arith)
 
-  pub globally-cut : (x : ℕ) {r : ℕ} → Means width r (And (At m) (Globally width (Implies (At m) (At x)))) → Means n r (Globally n (At x))
+  pub globally-cut : (x : ℕ) {r : ℕ} → Means width r (GloballyOn (At m) (At x)) → Means n r (Globally n (At x))
   globally-cut x p =
       cut s p (λ i t. (off i (t .0), λ j l h. t .1 j l (omega arith) (on j h))) (λ i h t. (on i h, λ j l w q. t j l (off j q)))
 
-  pub release-cut : (x y : ℕ) {r : ℕ} → Means width r (And (At m) (Release width (Implies (At m) (At x)) (Implies (At m) (At y)))) → Means n r (Release n (At x) (At y))
+  pub release-cut : (x y : ℕ) {r : ℕ} → Means width r (ReleaseOn (At m) (At x) (At y)) → Means n r (Release n (At x) (At y))
   release-cut x y p =
       cut s p
       (λ i t. (off i (t .0), λ j l h. ⊎-elim (λ q. inl (q (on j h))) (λ q. inr (q .0, q .1, q .2, q .3 (on (q .0) (omega arith)))) (t .1 j l (omega arith))))

@@ -7,6 +7,7 @@ use Prim.Native.Nat.{ℕ, _+_, _-_, _/_, _^_, _≤_, _<_}
 use native.Mathlib.Omega.{arith}
 use lib.Bits.{bitAnd, bitOr, bitXor, xor-lt}
 use Rattle.words.specs.Ltlf.{Reading, Not, Or, And, Implies, Equiv, StrongNext, Finally, Globally, Until, Release}
+use Rattle.words.specs.Masked.{NotOn, ImpliesOn, EquivOn, WeakNextOn, GloballyOn, ReleaseOn}
 use Rattle.words.specs.Word.{width, bit, At, Wf, Means}
 use Rattle.words.proofs.Bits.{bit-lt, bit-shr, bit-xor}
 use Rattle.words.proofs.At.{at-or-not, find, at-or, or-left, or-right, at-and, and-at, at-not, at-below, wf-lt, lt-wf, means}
@@ -38,7 +39,7 @@ inverse x = (2 ^ width - 1) - x
 at-inverse : {x : ℕ} → Wf width x → (i : ℕ) → i < width → At (inverse x) i ↔ Not (At x) i
 at-inverse {x} w i h = at-not width x i h (wf-lt w)
 
-pub not-means : {x m : ℕ} → Wf width x → Wf width m → Means width (bitAnd (inverse x) m) (And (At m) (Not (At x)))
+pub not-means : {x m : ℕ} → Wf width x → Wf width m → Means width (bitAnd (inverse x) m) (NotOn (At m) (At x))
 not-means {x} w v = masked (inverse x) v (at-inverse w)
 
 -- `!v | w`, where v holds where f does and w where g does
@@ -53,11 +54,11 @@ itself : {x : ℕ} → Wf width x → Means width x (At x)
 itself w = record { wf = w; holds = λ i h. (λ p. p, λ p. p) }
 
 pub implies-means : {x y m : ℕ} → Wf width x → Wf width y → Wf width m
-    → Means width (bitAnd (bitOr (inverse x) y) m) (And (At m) (Implies (At x) (At y)))
+    → Means width (bitAnd (bitOr (inverse x) y) m) (ImpliesOn (At m) (At x) (At y))
 implies-means {x} {y} w u v = masked (bitOr (inverse x) y) v (at-implies (itself w) (itself u))
 
 pub equiv-means : {x y m : ℕ} → Wf width x → Wf width y → Wf width m
-    → Means width (bitAnd (inverse (bitXor x y)) m) (And (At m) (Equiv (At x) (At y)))
+    → Means width (bitAnd (inverse (bitXor x y)) m) (EquivOn (At m) (At x) (At y))
 equiv-means {x} {y} w u v = masked (inverse (bitXor x y)) v (λ i h. iff i (at-inverse (wide (xor-lt width x y (wf-lt w) (wf-lt u))) i h))
   where
     iff : (i : ℕ) → At (inverse (bitXor x y)) i ↔ Not (At (bitXor x y)) i → At (inverse (bitXor x y)) i ↔ Equiv (At x) (At y) i
@@ -84,7 +85,7 @@ strong-next-means {x} w =
     (λ i h t. at-next x i .1 (t .1))
 
 pub weak-next-means : {x m : ℕ} → Wf width x → Wf width m
-    → Means width (bitAnd (bitOr (inverse (m / 2 ^ 1)) (x / 2 ^ 1)) m) (And (At m) (Implies (StrongNext width (At m)) (StrongNext width (At x))))
+    → Means width (bitAnd (bitOr (inverse (m / 2 ^ 1)) (x / 2 ^ 1)) m) (WeakNextOn (At m) (At x))
 weak-next-means {x} {m} w v = masked (bitOr (inverse (m / 2 ^ 1)) (x / 2 ^ 1)) v (at-implies (strong-next-means v) (strong-next-means w))
 
 -- ---- the doubling shifts, to 64 places
@@ -148,13 +149,13 @@ until-means {x} {y} w u =
 
 -- ---- the duals: `!F!` and `!(!x U !y)` on the places of a mask
 
-module _ (x m : ℕ) {a : ℕ} (inv : Means width a (And (At m) (Not (At x)))) where
+module _ (x m : ℕ) {a : ℕ} (inv : Means width a (NotOn (At m) (At x))) where
   -- a place of the mask that the negation leaves out is one where x holds
   left-out : (i : ℕ) → i < width → (At a i → ⊥) → At m i → At x i
   left-out i h p q = ⊎-elim (λ t. t) (λ t. absurd (p (inv .holds i h .1 (q, t)))) (at-or-not x i)
 
-  pub globally-means : {b r : ℕ} → Means width b (Finally width (At a)) → Means width r (And (At m) (Not (At b)))
-      → Means width r (And (At m) (Globally width (Implies (At m) (At x))))
+  pub globally-means : {b r : ℕ} → Means width b (Finally width (At a)) → Means width r (NotOn (At m) (At b))
+      → Means width r (GloballyOn (At m) (At x))
   globally-means f g = record {
     wf = g .wf;
     holds = λ i h. (
@@ -164,9 +165,9 @@ module _ (x m : ℕ) {a : ℕ} (inv : Means width a (And (At m) (Not (At x)))) w
   }
 
 -- from i on, within the places of a mask, and up to a j at which y fails, x held at some place: or else the negations would run up to j
-pub release-means : (x y m : ℕ) {a b u r : ℕ} → Means width a (And (At m) (Not (At x))) → Means width b (And (At m) (Not (At y)))
-    → Means width u (Until width (At a) (At b)) → Means width r (And (At m) (Not (At u)))
-    → Means width r (And (At m) (Release width (Implies (At m) (At x)) (Implies (At m) (At y))))
+pub release-means : (x y m : ℕ) {a b u r : ℕ} → Means width a (NotOn (At m) (At x)) → Means width b (NotOn (At m) (At y))
+    → Means width u (Until width (At a) (At b)) → Means width r (NotOn (At m) (At u))
+    → Means width r (ReleaseOn (At m) (At x) (At y))
 release-means x y m {a} {b} {u} {r} na nb f g = record { wf = g .wf; holds = λ i h. (to i h, from i h) }
   where
     to : (i : ℕ) → i < width → At r i → At m i × Release width (Implies (At m) (At x)) (Implies (At m) (At y)) i

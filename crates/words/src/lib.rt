@@ -1,6 +1,7 @@
 // The operators of cs.rs on bare words. A word has no length to get wrong, so nothing here refuses: the operators that have to know where a
 // session ends are handed the mask of its snapshots. Each contract is a reading at all 64 positions, for any words and any mask.
-ghost use Rattle.words.specs.Ltlf.{Not, Or, And, Implies, Equiv, StrongNext, Finally, Globally, Until, Release};
+ghost use Rattle.words.specs.Ltlf.{Or, And, StrongNext, Finally, Until};
+ghost use Rattle.words.specs.Masked.{NotOn, ImpliesOn, EquivOn, WeakNextOn, GloballyOn, ReleaseOn};
 ghost use Rattle.words.specs.Word.{width, At, Means};
 
 pub fn or(x: u64, y: u64) -> u64
@@ -16,19 +17,19 @@ pub fn and(x: u64, y: u64) -> u64
 }
 
 pub fn not(x: u64, mask: u64) -> u64
-    ensures { λ r. ⌜ Means width r (And (At mask) (Not (At x))) ⌝ }
+    ensures { λ r. ⌜ Means width r (NotOn (At mask) (At x)) ⌝ }
 {
     !x & mask
 }
 
 pub fn implies(x: u64, y: u64, mask: u64) -> u64
-    ensures { λ r. ⌜ Means width r (And (At mask) (Implies (At x) (At y))) ⌝ }
+    ensures { λ r. ⌜ Means width r (ImpliesOn (At mask) (At x) (At y)) ⌝ }
 {
     (!x | y) & mask
 }
 
 pub fn equiv(x: u64, y: u64, mask: u64) -> u64
-    ensures { λ r. ⌜ Means width r (And (At mask) (Equiv (At x) (At y))) ⌝ }
+    ensures { λ r. ⌜ Means width r (EquivOn (At mask) (At x) (At y)) ⌝ }
 {
     !(x ^ y) & mask
 }
@@ -41,7 +42,7 @@ pub fn strong_next(x: u64) -> u64
 
 // Where the mask goes on at the next place, x has to hold there. So no bit is built by a shift of the length less one.
 pub fn weak_next(x: u64, mask: u64) -> u64
-    ensures { λ r. ⌜ Means width r (And (At mask) (Implies (StrongNext width (At mask)) (StrongNext width (At x)))) ⌝ }
+    ensures { λ r. ⌜ Means width r (WeakNextOn (At mask) (At x)) ⌝ }
 {
     (!(mask >> 1) | (x >> 1)) & mask
 }
@@ -60,7 +61,7 @@ pub fn finally(x: u64) -> u64
 }
 
 pub fn globally(x: u64, mask: u64) -> u64
-    ensures { λ r. ⌜ Means width r (And (At mask) (Globally width (Implies (At mask) (At x)))) ⌝ }
+    ensures { λ r. ⌜ Means width r (GloballyOn (At mask) (At x)) ⌝ }
 {
     not(finally(not(x, mask)), mask)
 }
@@ -85,7 +86,7 @@ pub fn until(x: u64, y: u64) -> u64
 }
 
 pub fn release(x: u64, y: u64, mask: u64) -> u64
-    ensures { λ r. ⌜ Means width r (And (At mask) (Release width (Implies (At mask) (At x)) (Implies (At mask) (At y)))) ⌝ }
+    ensures { λ r. ⌜ Means width r (ReleaseOn (At mask) (At x) (At y)) ⌝ }
 {
     not(until(not(x, mask), not(y, mask)), mask)
 }

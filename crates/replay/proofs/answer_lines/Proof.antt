@@ -1,4 +1,5 @@
 -- `replay::answer_lines` is safe and ends: of the 256 lines fewer are left each turn, and each has its place in `out`.
+-- Assumes nothing.
 use borrow.Author.Needs.{needs}
 use Prim.Native.Nat.{_≤_, _-_}
 use mathlib.Core.Path.{_≡_}

@@ -1,4 +1,5 @@
 -- `replay::answer_some` is safe: the bytes to write are within `out`, 37 for each of at most 256 lines.
+-- Assumes nothing.
 use borrow.Author.Needs.{needs}
 use native.Mathlib.Omega.{arith}
 use lib.ListN.{length-take}

@@ -1,4 +1,5 @@
 -- `replay::main` ends: the turns are counted down. Nothing has to hold from turn to turn.
+-- Assumes nothing.
 use borrow.Author.Needs.{needs}
 use Rattle.replay.proofs.main.Statement.{statement}
 use Rattle.replay.proofs.main.Tie as tie

@@ -1,4 +1,5 @@
 -- `replay::read_hex` is safe and ends: the digits that are left fall, and none lies past the text.
+-- Assumes nothing.
 use borrow.Author.Needs.{needs}
 use Prim.Native.Nat.{_≤_, _-_}
 use Rattle.replay.proofs.read_hex.Statement.{statement}

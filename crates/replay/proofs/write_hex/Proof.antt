@@ -1,4 +1,5 @@
 -- `replay::write_hex` is safe and ends: the digits that are left fall, and the text keeps its length.
+-- Assumes nothing.
 use borrow.Author.Needs.{needs}
 use Prim.Native.Nat.{_≤_, _-_}
 use mathlib.Core.Path.{_≡_}

@@ -3,12 +3,13 @@
 use native.Mathlib.Omega.{arith}
 use lib.Count.{leading-le}
 use borrow.Author.Tests.{leb-true, le-leb}
+use Rattle.words.specs.Word.{width}
 use Rattle.sequence.proofs.Leading.{leading-wf}
 use Rattle.sequence.proofs.CharSeq.is_well_formed.Statement.{statement}
 use Rattle.sequence.proofs.CharSeq.is_well_formed.Tie as tie
 
 cast-result : tie.Need-cast-result
-cast-result c = omega (arith, leading-le 64 (c .before .before .before .args .self .values))
+cast-result c = omega (arith, leading-le width (c .before .before .before .args .self .values))
 
 returns : tie.Need-returns
 returns c =

@@ -6,37 +6,28 @@ use Rattle.session.specs.Offence.{byte}
 use borrow.Author.Needs.{needs}
 use Rattle.session.proofs.bytes.byte_within.Statement.{statement}
 use Rattle.session.proofs.bytes.byte_within.Tie as tie
-use Rattle.session.proofs.bytes.byte_within.Reads as reads
-use Rattle.session.proofs.bytes.byte_within.Lts as lts
 
--- src/bytes.rt:19:9
 returns : tie.Need-returns
 unfolding byte
 returns c = simp (le-ltb _ _ (c .if1 .taken))
 
--- src/bytes.rt:21:13
 shared-slice-read-b : tie.Need-shared-slice-read-b
 shared-slice-read-b c = search needs
 
--- src/bytes.rt:21:13
 cast-b : tie.Need-cast-b
 cast-b c = omega (arith, c .shared-slice-known .given (c .before .before .args .at))
 
--- src/bytes.rt:23:9
 returns-2 : tie.Need-returns-2
 unfolding byte
 returns-2 c = simp (lt-ltb _ _ (c .before .before .if1 .left), lt-leb _ _ (c .if2 .taken))
 
--- src/bytes.rt:26:9
 returns-3 : tie.Need-returns-3
 unfolding byte
 returns-3 c = simp (lt-ltb _ _ (c .before .before .before .if1 .left), le-leb _ _ (c .before .if2 .left), lt-leb _ _ (c .if3 .taken))
 
--- src/bytes.rt:30:15
 add-t6 : tie.Need-add-t6
 add-t6 c = search needs
 
--- src/bytes.rt:15:1
 returns-4 : tie.Need-returns-4
 unfolding byte
 returns-4 c = simp (lt-ltb _ _ (c .before .before .before .if1 .left), le-leb _ _ (c .before .if2 .left), le-leb _ _ (c .if3 .left))

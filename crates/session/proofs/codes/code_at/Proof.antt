@@ -8,51 +8,37 @@ use Rattle.session.specs.Offence.{byte}
 use borrow.Author.Needs.{needs}
 use Rattle.session.proofs.codes.code_at.Statement.{statement}
 use Rattle.session.proofs.codes.code_at.Tie as tie
-use Rattle.session.proofs.codes.code_at.Reads as reads
-use Rattle.session.proofs.codes.code_at.Lts as lts
-use Rattle.session.proofs.codes.in_group.Reads as in-group-reads
-use Rattle.session.proofs.codes.seen_code.Reads as seen-code-reads
 
--- src/codes.rt:45:14
 add-at : tie.Need-add-at
 add-at c = search needs
 
--- src/codes.rt:47:9
 returns : tie.Need-returns
 unfolding byte
 returns c = simp (le-ltb _ _ (c .if1 .taken))
 
--- src/codes.rt:49:13
 shared-slice-read-c : tie.Need-shared-slice-read-c
 shared-slice-read-c c = search needs
 
--- src/codes.rt:50:8
 in-group-requires : tie.Need-in-group-requires
 in-group-requires c κs = search needs
 
--- src/codes.rt:51:12
 seen-code-requires : tie.Need-seen-code-requires
 seen-code-requires c κs = search needs
 
--- src/codes.rt:52:13
 returns-2 : tie.Need-returns-2
 unfolding byte
 returns-2 c = simp (lt-ltb _ _ (c .before .before .before .before .before .if1 .left), sym (c .before .before .before .in-group .ensures) ∙ c .before .before .if2 .taken, sym (c .before .seen-code .ensures) ∙ c .if3 .taken)
 
--- src/codes.rt:55:20
 cast-t14 : tie.Need-cast-t14
 cast-t14 c = omega (arith, c .before .before .before .before .shared-slice-known2 .given (c .before .before .before .before .before .before .before .args .from + c .before .before .before .before .before .before .before .args .count))
 
--- src/codes.rt:56:19
 add-t15 : tie.Need-add-t15
 add-t15 c = search needs
 
--- src/codes.rt:54:9
 returns-3 : tie.Need-returns-3
 unfolding byte
 returns-3 c = simp (lt-ltb _ _ (c .before .before .before .before .before .if1 .left), sym (c .before .before .before .in-group .ensures) ∙ c .before .before .if2 .taken, sym (c .before .seen-code .ensures) ∙ c .if3 .left)
 
--- src/codes.rt:41:1
 returns-4 : tie.Need-returns-4
 unfolding byte
 returns-4 c = simp (lt-ltb _ _ (c .before .before .before .if1 .left), sym (c .before .in-group .ensures) ∙ c .if2 .left)

@@ -1,6 +1,6 @@
 -- `codes_from` meets its contract: a loop over codes that remembers those before.
 -- Assumes nothing.
-use Prim.Native.Nat.{ℕ, _+_, _-_}
+use Prim.Native.Nat.{_-_}
 use native.Mathlib.Omega.{arith}
 use Rattle.session.specs.Inner.{groupOf}
 use Rattle.session.proofs.Steps.{done}
@@ -8,9 +8,6 @@ use Rattle.session.proofs.Turns.{Codes, codes-start, codes-turn, codes-
 use borrow.Author.Needs.{needs}
 use Rattle.session.proofs.codes.codes_from.Statement.{statement}
 use Rattle.session.proofs.codes.codes_from.Tie as tie
-use Rattle.session.proofs.codes.codes_from.Reads as reads
-use Rattle.session.proofs.codes.codes_from.Lts as lts
-use Rattle.session.proofs.codes.code_at.Reads as code-at-reads
 
 abbrev Inv-loop : tie.InvT-loop
 Inv-loop file from count unary i₀ p₀ i p = Codes (groupOf unary) file from count i p

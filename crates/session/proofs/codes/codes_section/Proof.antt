@@ -5,32 +5,22 @@ use Rattle.session.proofs.Steps.{section-read, section-broken, byte-rea
 use borrow.Author.Needs.{needs}
 use Rattle.session.proofs.codes.codes_section.Statement.{statement}
 use Rattle.session.proofs.codes.codes_section.Tie as tie
-use Rattle.session.proofs.codes.codes_section.Reads as reads
-use Rattle.session.proofs.codes.codes_section.Lts as lts
-use Rattle.session.proofs.bytes.byte_within.Reads as byte-within-reads
-use Rattle.session.proofs.codes.codes_from.Reads as codes-from-reads
 
--- src/codes.rt:88:9
 byte-within-requires : tie.Need-byte-within-requires
 byte-within-requires c κs = search needs
 
--- src/codes.rt:90:29
 enum-known-c : tie.Need-enum-known-c
 enum-known-c c = search needs
 
--- src/codes.rt:90:42
 codes-from-requires : tie.Need-codes-from-requires
 codes-from-requires c κs = let n = byte-next _ _ _ (byte-read _ _ (c .before .before .before .byte-within .ensures) (c .before .c .given .1)) in omega (arith, n .0, n .1)
 
--- src/codes.rt:91:22
 enum-known-c-2 : tie.Need-enum-known-c-2
 enum-known-c-2 c = search needs
 
--- src/codes.rt:85:1
 returns : tie.Need-returns
 returns c = section-read _ _ 0 255 _ _ (c .before .before .before .before .byte-within .ensures) _ (c .before .before .c .given .1) (c .codes-from .ensures)
 
--- src/codes.rt:85:1
 returns-2 : tie.Need-returns-2
 returns-2 c = section-broken _ _ 0 255 _ _ (c .before .before .before .byte-within .ensures) (c .before .c2 .given .1)
 

@@ -8,41 +8,31 @@ use Rattle.session.proofs.CodeLaws.{group-unary, group-binary, group-ne
 use borrow.Author.Needs.{needs}
 use Rattle.session.proofs.codes.in_group.Statement.{statement}
 use Rattle.session.proofs.codes.in_group.Tie as tie
-use Rattle.session.proofs.codes.in_group.Reads as reads
-use Rattle.session.proofs.codes.in_group.Lts as lts
-use Rattle.sequence.proofs.operators.operator_of.Reads as operator-of-reads
 
--- src/codes.rt:18:17
 operator-of-requires : tie.Need-operator-of-requires
 operator-of-requires c κs = search needs
 
--- src/codes.rt:20:25
 enum-told : tie.Need-enum-told
 enum-told c = search needs
 
--- src/codes.rt:21:26
 enum-told-2 : tie.Need-enum-told-2
 enum-told-2 c = search needs
 
--- src/codes.rt:22:27
 enum-told-3 : tie.Need-enum-told-3
 enum-told-3 c = search needs
 
--- src/codes.rt:15:1
 returns : tie.Need-returns
 returns c =
     let f = c .before .before .operator-of in
     let op = in-unary _ (f .result) (f .ensures) (c .enum-told .given .1) in
     group-unary _ _ (op .0) (op .1)
 
--- src/codes.rt:15:1
 returns-2 : tie.Need-returns-2
 returns-2 c =
     let f = c .before .before .operator-of in
     let op = in-binary _ (f .result) (f .ensures) (c .enum-told2 .given .1) in
     group-binary _ (c .before .before .before .args .unary) (op .0) (op .1)
 
--- src/codes.rt:15:1
 returns-3 : tie.Need-returns-3
 returns-3 c =
     let f = c .before .before .operator-of in

@@ -1,13 +1,10 @@
 -- `seen_code` meets its contract: a code is among those from i on just where it is among all.
 -- Assumes nothing.
-use Prim.Native.Nat.{ℕ, _+_, _-_}
-use native.Mathlib.Omega.{arith}
+use Prim.Native.Nat.{_-_}
 use Rattle.session.proofs.Walks.{Among, among-start, among-turn, among-here, among-end}
 use borrow.Author.Needs.{needs}
 use Rattle.session.proofs.codes.seen_code.Statement.{statement}
 use Rattle.session.proofs.codes.seen_code.Tie as tie
-use Rattle.session.proofs.codes.seen_code.Reads as reads
-use Rattle.session.proofs.codes.seen_code.Lts as lts
 
 abbrev Inv-loop : tie.InvT-loop
 Inv-loop file from count c i₀ i = Among file from count c i
@@ -15,35 +12,27 @@ Inv-loop file from count c i₀ i = Among file from count c i
 abbrev μ-loop : tie.MeasureT-loop
 μ-loop file from count c i₀ i = count - i
 
--- src/codes.rt:31:5
 loop-holds : tie.Need-loop-holds Inv-loop μ-loop
 loop-holds c = among-start _ _ _ _
 
--- src/codes.rt:32:17
 add-if1 : tie.Need-add-if1 Inv-loop μ-loop
 add-if1 c = search needs
 
--- src/codes.rt:32:12
 shared-slice-read-if1 : tie.Need-shared-slice-read-if1 Inv-loop μ-loop
 shared-slice-read-if1 c = search needs
 
--- src/codes.rt:33:13
 returns : tie.Need-returns Inv-loop μ-loop
 returns c = among-here _ _ _ _ (c .before .before .before .loop .inv) (c .before .before .loop-test .taken) (c .before .before .before .before .pre) (c .if1 .taken)
 
--- src/codes.rt:35:9
 add-i : tie.Need-add-i Inv-loop μ-loop
 add-i c = search needs
 
--- src/codes.rt:31:5
 loop-less : tie.Need-loop-less Inv-loop μ-loop
 loop-less c = search needs
 
--- src/codes.rt:31:5
 loop-again : tie.Need-loop-again Inv-loop μ-loop
 loop-again c = among-turn _ _ _ _ (c .before .before .before .loop .inv) (c .before .before .loop-test .taken) (c .before .before .before .before .pre) (c .if1 .left)
 
--- src/codes.rt:26:1
 returns-2 : tie.Need-returns-2 Inv-loop μ-loop
 returns-2 c = among-end _ _ _ _ (c .before .loop .inv) (c .loop-test .left)
 

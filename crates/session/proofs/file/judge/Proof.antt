@@ -4,94 +4,110 @@ use Rattle.session.proofs.Sections.{judge-names, judge-sessions, judge-
 use borrow.Author.Needs.{needs}
 use Rattle.session.proofs.file.judge.Statement.{statement}
 use Rattle.session.proofs.file.judge.Tie as tie
-use Rattle.session.proofs.file.judge.Reads as reads
-use Rattle.session.proofs.file.judge.Lts as lts
-use Rattle.session.proofs.codes.codes_section.Reads as codes-section-reads
-use Rattle.session.proofs.file.tail_at.Reads as tail-at-reads
-use Rattle.session.proofs.names.names_section.Reads as names-section-reads
-use Rattle.session.proofs.sessions.sessions_section.Reads as sessions-section-reads
 
--- src/file.rt:72:9
 names-section-requires : tie.Need-names-section-requires
 names-section-requires c κs = search needs
 
--- src/file.rt:74:29
 enum-known-names : tie.Need-enum-known-names
 enum-known-names c = search needs
 
--- src/file.rt:75:17
 sessions-section-requires : tie.Need-sessions-section-requires
 sessions-section-requires c κs = search needs
 
--- src/file.rt:77:37
 enum-known-sessions : tie.Need-enum-known-sessions
 enum-known-sessions c = search needs
 
--- src/file.rt:78:25
 codes-section-requires : tie.Need-codes-section-requires
 codes-section-requires c κs = search needs
 
--- src/file.rt:80:45
 enum-known-unary : tie.Need-enum-known-unary
 enum-known-unary c = search needs
 
--- src/file.rt:81:33
 codes-section-requires-2 : tie.Need-codes-section-requires-2
 codes-section-requires-2 c κs = search needs
 
--- src/file.rt:83:53
 enum-known-binary : tie.Need-enum-known-binary
 enum-known-binary c = search needs
 
--- src/file.rt:84:41
 tail-at-requires : tie.Need-tail-at-requires
 tail-at-requires c κs = search needs
 
--- src/file.rt:86:54
 enum-known-tail : tie.Need-enum-known-tail
 enum-known-tail c = search needs
 
--- src/file.rt:95:54
 enum-known-tail-2 : tie.Need-enum-known-tail-2
 enum-known-tail-2 c = search needs
 
--- src/file.rt:98:46
 enum-known-binary-2 : tie.Need-enum-known-binary-2
 enum-known-binary-2 c = search needs
 
--- src/file.rt:101:38
 enum-known-unary-2 : tie.Need-enum-known-unary-2
 enum-known-unary-2 c = search needs
 
--- src/file.rt:104:30
 enum-known-sessions-2 : tie.Need-enum-known-sessions-2
 enum-known-sessions-2 c = search needs
 
--- src/file.rt:107:22
 enum-known-names-2 : tie.Need-enum-known-names-2
 enum-known-names-2 c = search needs
 
--- src/file.rt:69:1
 returns : tie.Need-returns
-returns c = judge-whole _ _ (c .before .before .before .before .before .before .before .before .before .before .before .before .before .before .before .before .before .before .before .names-section .ensures) (c .before .before .before .before .before .before .before .before .before .before .before .before .before .before .before .before .before .names .given .1) _ (c .before .before .before .before .before .before .before .before .before .before .before .before .before .before .before .sessions-section .ensures) (c .before .before .before .before .before .before .before .before .before .before .before .before .before .sessions .given .1) _ (c .before .before .before .before .before .before .before .before .before .before .before .codes-section .ensures) (c .before .before .before .before .before .before .before .before .before .unary .given .1) _ (c .before .before .before .before .before .before .before .codes-section2 .ensures) (c .before .before .before .before .before .binary .given .1) _ (c .before .before .before .tail-at .ensures) (c .before .tail .given .1)
+returns c =
+    let at-tail = c .before in
+    let at-tail-at = at-tail .before .before in
+    let at-binary = at-tail-at .before .before in
+    let at-codes-section2 = at-binary .before .before in
+    let at-unary = at-codes-section2 .before .before in
+    let at-codes-section = at-unary .before .before in
+    let at-sessions = at-codes-section .before .before in
+    let at-sessions-section = at-sessions .before .before in
+    let at-names = at-sessions-section .before .before in
+    let at-names-section = at-names .before .before in
+    judge-whole _ _ (at-names-section .names-section .ensures) (at-names .names .given .1) _ (at-sessions-section .sessions-section .ensures) (at-sessions .sessions .given .1) _ (at-codes-section .codes-section .ensures) (at-unary .unary .given .1) _ (at-codes-section2 .codes-section2 .ensures) (at-binary .binary .given .1) _ (at-tail-at .tail-at .ensures) (at-tail .tail .given .1)
 
--- src/file.rt:69:1
 returns-2 : tie.Need-returns-2
-returns-2 c = judge-tail _ _ (c .before .before .before .before .before .before .before .before .before .before .before .before .before .before .before .before .before .before .before .names-section .ensures) (c .before .before .before .before .before .before .before .before .before .before .before .before .before .before .before .before .before .names .given .1) _ (c .before .before .before .before .before .before .before .before .before .before .before .before .before .before .before .sessions-section .ensures) (c .before .before .before .before .before .before .before .before .before .before .before .before .before .sessions .given .1) _ (c .before .before .before .before .before .before .before .before .before .before .before .codes-section .ensures) (c .before .before .before .before .before .before .before .before .before .unary .given .1) _ (c .before .before .before .before .before .before .before .codes-section2 .ensures) (c .before .before .before .before .before .binary .given .1) _ (c .before .before .before .tail-at .ensures) (c .before .tail2 .given .1)
+returns-2 c =
+    let at-tail2 = c .before in
+    let at-tail-at = at-tail2 .before .before in
+    let at-binary = at-tail-at .before .before in
+    let at-codes-section2 = at-binary .before .before in
+    let at-unary = at-codes-section2 .before .before in
+    let at-codes-section = at-unary .before .before in
+    let at-sessions = at-codes-section .before .before in
+    let at-sessions-section = at-sessions .before .before in
+    let at-names = at-sessions-section .before .before in
+    let at-names-section = at-names .before .before in
+    judge-tail _ _ (at-names-section .names-section .ensures) (at-names .names .given .1) _ (at-sessions-section .sessions-section .ensures) (at-sessions .sessions .given .1) _ (at-codes-section .codes-section .ensures) (at-unary .unary .given .1) _ (at-codes-section2 .codes-section2 .ensures) (at-binary .binary .given .1) _ (at-tail-at .tail-at .ensures) (at-tail2 .tail2 .given .1)
 
--- src/file.rt:69:1
 returns-3 : tie.Need-returns-3
-returns-3 c = judge-binary _ _ (c .before .before .before .before .before .before .before .before .before .before .before .before .before .before .before .names-section .ensures) (c .before .before .before .before .before .before .before .before .before .before .before .before .before .names .given .1) _ (c .before .before .before .before .before .before .before .before .before .before .before .sessions-section .ensures) (c .before .before .before .before .before .before .before .before .before .sessions .given .1) _ (c .before .before .before .before .before .before .before .codes-section .ensures) (c .before .before .before .before .before .unary .given .1) _ (c .before .before .before .codes-section2 .ensures) (c .before .binary2 .given .1)
+returns-3 c =
+    let at-binary2 = c .before in
+    let at-codes-section2 = at-binary2 .before .before in
+    let at-unary = at-codes-section2 .before .before in
+    let at-codes-section = at-unary .before .before in
+    let at-sessions = at-codes-section .before .before in
+    let at-sessions-section = at-sessions .before .before in
+    let at-names = at-sessions-section .before .before in
+    let at-names-section = at-names .before .before in
+    judge-binary _ _ (at-names-section .names-section .ensures) (at-names .names .given .1) _ (at-sessions-section .sessions-section .ensures) (at-sessions .sessions .given .1) _ (at-codes-section .codes-section .ensures) (at-unary .unary .given .1) _ (at-codes-section2 .codes-section2 .ensures) (at-binary2 .binary2 .given .1)
 
--- src/file.rt:69:1
 returns-4 : tie.Need-returns-4
-returns-4 c = judge-unary _ _ (c .before .before .before .before .before .before .before .before .before .before .before .names-section .ensures) (c .before .before .before .before .before .before .before .before .before .names .given .1) _ (c .before .before .before .before .before .before .before .sessions-section .ensures) (c .before .before .before .before .before .sessions .given .1) _ (c .before .before .before .codes-section .ensures) (c .before .unary2 .given .1)
+returns-4 c =
+    let at-unary2 = c .before in
+    let at-codes-section = at-unary2 .before .before in
+    let at-sessions = at-codes-section .before .before in
+    let at-sessions-section = at-sessions .before .before in
+    let at-names = at-sessions-section .before .before in
+    let at-names-section = at-names .before .before in
+    judge-unary _ _ (at-names-section .names-section .ensures) (at-names .names .given .1) _ (at-sessions-section .sessions-section .ensures) (at-sessions .sessions .given .1) _ (at-codes-section .codes-section .ensures) (at-unary2 .unary2 .given .1)
 
--- src/file.rt:69:1
 returns-5 : tie.Need-returns-5
-returns-5 c = judge-sessions _ _ (c .before .before .before .before .before .before .before .names-section .ensures) (c .before .before .before .before .before .names .given .1) _ (c .before .before .before .sessions-section .ensures) (c .before .sessions2 .given .1)
+returns-5 c =
+    let at-sessions2 = c .before in
+    let at-sessions-section = at-sessions2 .before .before in
+    let at-names = at-sessions-section .before .before in
+    let at-names-section = at-names .before .before in
+    judge-sessions _ _ (at-names-section .names-section .ensures) (at-names .names .given .1) _ (at-sessions-section .sessions-section .ensures) (at-sessions2 .sessions2 .given .1)
 
--- src/file.rt:69:1
 returns-6 : tie.Need-returns-6
 returns-6 c = judge-names _ _ (c .before .before .before .names-section .ensures) (c .before .names2 .given .1)
 

@@ -1,37 +1,27 @@
 -- `is_name_byte` meets its contract: each of its tests decides one part of the rule.
 -- Assumes nothing.
-use native.Mathlib.Omega.{arith}
 use borrow.Author.Tests.{le-leb, lt-leb, eq-eqb, ne-eqb}
 use mathlib.Core.Path.{sym, _∙_}
 use mathlib.Core.Bool.{or-true}
 use borrow.Author.Needs.{needs}
 use Rattle.session.proofs.names.is_name_byte.Statement.{statement}
 use Rattle.session.proofs.names.is_name_byte.Tie as tie
-use Rattle.session.proofs.names.is_name_byte.Reads as reads
-use Rattle.session.proofs.names.is_name_byte.Lts as lts
-use Rattle.session.proofs.names.is_letter.Reads as is-letter-reads
 
--- src/names.rt:40:8
 is-letter-requires : tie.Need-is-letter-requires
 is-letter-requires c κs = search needs
 
--- src/names.rt:41:9
 returns : tie.Need-returns
 returns c = simp (sym (c .before .is-letter .ensures) ∙ c .if1 .taken)
 
--- src/names.rt:44:9
 returns-2 : tie.Need-returns-2
 returns-2 c = simp (eq-eqb _ _ (c .if2 .taken), or-true)
 
--- src/names.rt:47:9
 returns-3 : tie.Need-returns-3
 returns-3 c = simp (sym (c .before .before .before .is-letter .ensures) ∙ c .before .before .if1 .left, ne-eqb _ _ (c .before .if2 .left), lt-leb 48 _ (c .if3 .taken))
 
--- src/names.rt:50:9
 returns-4 : tie.Need-returns-4
 returns-4 c = simp (sym (c .before .before .before .before .is-letter .ensures) ∙ c .before .before .before .if1 .left, le-leb 48 _ (c .before .if3 .left), le-leb _ 57 (c .if4 .taken))
 
--- src/names.rt:37:1
 returns-5 : tie.Need-returns-5
 returns-5 c = simp (sym (c .before .before .before .before .is-letter .ensures) ∙ c .before .before .before .if1 .left, ne-eqb _ _ (c .before .before .if2 .left), le-leb 48 _ (c .before .if3 .left), lt-leb _ 57 (c .if4 .left))
 

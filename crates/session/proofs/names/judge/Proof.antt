@@ -4,31 +4,22 @@ use Rattle.session.proofs.Sections.{section-bad, section-extra, section
 use borrow.Author.Needs.{needs}
 use Rattle.session.proofs.names.judge.Statement.{statement}
 use Rattle.session.proofs.names.judge.Tie as tie
-use Rattle.session.proofs.names.judge.Reads as reads
-use Rattle.session.proofs.names.judge.Lts as lts
-use Rattle.session.proofs.names.names_section.Reads as names-section-reads
 
--- src/names.rt:208:9
 names-section-requires : tie.Need-names-section-requires
 names-section-requires c κs = search needs
 
--- src/names.rt:210:22
 enum-known-s : tie.Need-enum-known-s
 enum-known-s c = search needs
 
--- src/names.rt:217:22
 enum-known-s-2 : tie.Need-enum-known-s-2
 enum-known-s-2 c = search needs
 
--- src/names.rt:205:1
 returns : tie.Need-returns
 returns c = section-whole _ _ (c .before .before .before .before .names-section .ensures) (c .before .before .s .given .1) (c .if1 .taken)
 
--- src/names.rt:205:1
 returns-2 : tie.Need-returns-2
 returns-2 c = section-extra _ _ (c .before .before .before .before .names-section .ensures) (c .before .before .s .given .1) (c .if1 .left)
 
--- src/names.rt:205:1
 returns-3 : tie.Need-returns-3
 returns-3 c = section-bad _ _ (c .before .before .before .names-section .ensures) (c .before .s2 .given .1)
 

@@ -7,37 +7,27 @@ use Rattle.session.specs.Offence.{byte}
 use borrow.Author.Needs.{needs}
 use Rattle.session.proofs.names.letter_at.Statement.{statement}
 use Rattle.session.proofs.names.letter_at.Tie as tie
-use Rattle.session.proofs.names.letter_at.Reads as reads
-use Rattle.session.proofs.names.letter_at.Lts as lts
-use Rattle.session.proofs.names.fits_name.Reads as fits-name-reads
 
--- src/names.rt:70:9
 returns : tie.Need-returns
 unfolding byte
 returns c = simp (le-ltb _ _ (c .if1 .taken))
 
--- src/names.rt:72:13
 shared-slice-read-b : tie.Need-shared-slice-read-b
 shared-slice-read-b c = search needs
 
--- src/names.rt:73:8
 fits-name-requires : tie.Need-fits-name-requires
 fits-name-requires c κs = search needs
 
--- src/names.rt:75:20
 cast-t12 : tie.Need-cast-t12
 cast-t12 c = omega (arith, c .before .before .shared-slice-known2 .given (c .before .before .before .before .before .args .at))
 
--- src/names.rt:76:19
 add-t13 : tie.Need-add-t13
 add-t13 c = search needs
 
--- src/names.rt:66:1
 returns-2 : tie.Need-returns-2
 unfolding byte
 returns-2 c = simp (lt-ltb _ _ (c .before .before .before .if1 .left), sym (c .before .fits-name .ensures) ∙ c .if2 .taken)
 
--- src/names.rt:66:1
 returns-3 : tie.Need-returns-3
 unfolding byte
 returns-3 c = simp (lt-ltb _ _ (c .before .before .before .if1 .left), sym (c .before .fits-name .ensures) ∙ c .if2 .left)

@@ -2,8 +2,6 @@
 -- Assumes nothing.
 use Prim.Native.Nat.{ℕ, _-_}
 use mathlib.Core.Path.{_≡_, sym, ap, _∙_}
-use lib.ListN.{length}
-use denote.Ref.{now}
 use Rattle.session.specs.Offence.{letter, byte}
 use Rattle.session.specs.Inner.{stepOf, fitsAt}
 use mathlib.Core.List.{List}
@@ -12,9 +10,6 @@ use Rattle.session.proofs.Steps.{step-read, step-broken, Loop, start, t
 use borrow.Author.Needs.{needs}
 use Rattle.session.proofs.names.letters_from.Statement.{statement}
 use Rattle.session.proofs.names.letters_from.Tie as tie
-use Rattle.session.proofs.names.letters_from.Reads as reads
-use Rattle.session.proofs.names.letters_from.Lts as lts
-use Rattle.session.proofs.names.letter_at.Reads as letter-at-reads
 
 -- what the callee says of the byte number i, said with the letters before it
 step : {file : List ℕ} {at n i p : ℕ} {r : Step} (l : Loop letter file at n i p) → r ≡ stepOf (λ b. b) (byte (fitsAt i) file p) → r ≡ stepOf (λ b. b) (letter (l .seen) file p)
@@ -26,43 +21,34 @@ Inv-loop file at n i₀ p₀ i p = Loop letter file at n i p
 abbrev μ-loop : tie.MeasureT-loop
 μ-loop file at n i₀ p₀ i p = n - i
 
--- src/names.rt:89:5
 loop-holds : tie.Need-loop-holds Inv-loop μ-loop
 loop-holds c = start letter _ _ _
 
--- src/names.rt:90:13
 letter-at-requires : tie.Need-letter-at-requires Inv-loop μ-loop
 letter-at-requires c κs = search needs
 
--- src/names.rt:92:36
 enum-known-s : tie.Need-enum-known-s Inv-loop μ-loop
 enum-known-s c = search needs
 
--- src/names.rt:95:26
 enum-known-s-2 : tie.Need-enum-known-s-2 Inv-loop μ-loop
 enum-known-s-2 c = search needs
 
--- src/names.rt:96:17
 returns : tie.Need-returns Inv-loop μ-loop
 returns c =
     let l = c .before .before .before .before .before .loop .inv in
     broken letter _ l (c .before .before .before .before .loop-test .taken) (step-broken (λ b. b) _ _ (step l (c .before .before .before .letter-at .ensures)) (c .before .s2 .given .1))
 
--- src/names.rt:99:9
 add-i : tie.Need-add-i Inv-loop μ-loop
 add-i c = search needs
 
--- src/names.rt:89:5
 loop-less : tie.Need-loop-less Inv-loop μ-loop
 loop-less c = search needs
 
--- src/names.rt:89:5
 loop-again : tie.Need-loop-again Inv-loop μ-loop
 loop-again c =
     let l = c .before .before .before .before .before .loop .inv in
     turn letter _ l (c .before .before .before .before .loop-test .taken) (step-read (λ b. b) _ _ (step l (c .before .before .before .letter-at .ensures)) (c .before .s .given .1) .1)
 
--- src/names.rt:84:1
 returns-2 : tie.Need-returns-2 Inv-loop μ-loop
 returns-2 c = done letter _ (c .before .loop .inv) (c .loop-test .left)
 

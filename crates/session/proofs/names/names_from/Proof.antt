@@ -1,15 +1,12 @@
 -- `names_from` meets its contract: a loop over names that remembers those before.
 -- Assumes nothing.
-use Prim.Native.Nat.{ℕ, _+_, _-_}
+use Prim.Native.Nat.{_-_}
 use native.Mathlib.Omega.{arith}
 use Rattle.session.proofs.Steps.{done}
 use Rattle.session.proofs.Turns.{Names, names-start, names-turn, names-broken}
 use borrow.Author.Needs.{needs}
 use Rattle.session.proofs.names.names_from.Statement.{statement}
 use Rattle.session.proofs.names.names_from.Tie as tie
-use Rattle.session.proofs.names.names_from.Reads as reads
-use Rattle.session.proofs.names.names_from.Lts as lts
-use Rattle.session.proofs.names.name_at.Reads as name-at-reads
 
 abbrev Inv-loop : tie.InvT-loop
 Inv-loop file count i₀ p₀ i p = Names file count i p
@@ -17,39 +14,30 @@ Inv-loop file count i₀ p₀ i p = Names file count i p
 abbrev μ-loop : tie.MeasureT-loop
 μ-loop file count i₀ p₀ i p = count - i
 
--- src/names.rt:175:5
 loop-holds : tie.Need-loop-holds Inv-loop μ-loop
 loop-holds c = names-start _ _ (c .before .pre)
 
--- src/names.rt:176:13
 name-at-requires : tie.Need-name-at-requires Inv-loop μ-loop
 name-at-requires c κs = omega (arith, c .before .loop .inv .at, c .before .loop .inv .room)
 
--- src/names.rt:178:36
 enum-known-s : tie.Need-enum-known-s Inv-loop μ-loop
 enum-known-s c = search needs
 
--- src/names.rt:181:26
 enum-known-s-2 : tie.Need-enum-known-s-2 Inv-loop μ-loop
 enum-known-s-2 c = search needs
 
--- src/names.rt:182:17
 returns : tie.Need-returns Inv-loop μ-loop
 returns c = names-broken _ _ (c .before .before .before .before .before .loop .inv) _ (c .before .before .before .before .loop-test .taken) (c .before .before .before .name-at .ensures) (c .before .s2 .given .1)
 
--- src/names.rt:185:9
 add-i : tie.Need-add-i Inv-loop μ-loop
 add-i c = search needs
 
--- src/names.rt:175:5
 loop-less : tie.Need-loop-less Inv-loop μ-loop
 loop-less c = search needs
 
--- src/names.rt:175:5
 loop-again : tie.Need-loop-again Inv-loop μ-loop
 loop-again c = names-turn _ _ (c .before .before .before .before .before .loop .inv) _ (c .before .before .before .before .loop-test .taken) (c .before .before .before .name-at .ensures) (c .before .s .given .1)
 
--- src/names.rt:169:1
 returns-2 : tie.Need-returns-2 Inv-loop μ-loop
 returns-2 c = done _ _ (c .before .loop .inv .loop) (c .loop-test .left)
 

@@ -1,7 +1,7 @@
 -- `names_section` meets its contract: a section after its count, which is the first byte of the file.
 -- Assumes nothing.
-use mathlib.Core.Path.{_≡_, refl, sym, ap, _∙_}
-use Prim.Native.Nat.{ℕ, _+_, _≤_, _<_}
+use mathlib.Core.Path.{_≡_, ap, _∙_}
+use Prim.Native.Nat.{ℕ}
 use native.Mathlib.Omega.{arith}
 use mathlib.Core.List.{[]}
 use lib.ListN.{length}
@@ -11,28 +11,19 @@ use Rattle.session.proofs.Steps.{section-read, section-broken, byte-rea
 use borrow.Author.Needs.{needs}
 use Rattle.session.proofs.names.names_section.Statement.{statement}
 use Rattle.session.proofs.names.names_section.Tie as tie
-use Rattle.session.proofs.names.names_section.Reads as reads
-use Rattle.session.proofs.names.names_section.Lts as lts
-use Rattle.session.proofs.bytes.byte_within.Reads as byte-within-reads
-use Rattle.session.proofs.names.names_from.Reads as names-from-reads
 
--- src/names.rt:197:9
 byte-within-requires : tie.Need-byte-within-requires
 byte-within-requires c κs = search needs
 
--- src/names.rt:199:29
 enum-known-c : tie.Need-enum-known-c
 enum-known-c c = search needs
 
--- src/names.rt:199:45
 names-from-requires : tie.Need-names-from-requires
 names-from-requires c κs = let n = byte-next _ _ _ (byte-read _ _ (c .before .before .before .byte-within .ensures) (c .before .c .given .1)) in omega (arith, n .0)
 
--- src/names.rt:200:22
 enum-known-c-2 : tie.Need-enum-known-c-2
 enum-known-c-2 c = search needs
 
--- src/names.rt:194:1
 returns : tie.Need-returns
 returns c =
     let n = byte-next _ _ _ (byte-read _ _ (c .before .before .before .before .byte-within .ensures) (c .before .before .c .given .1)) in
@@ -40,7 +31,6 @@ returns c =
     section-read _ _ 1 _ 0 _ (c .before .before .before .before .byte-within .ensures) _ (c .before .before .c .given .1)
     (c .names-from .ensures ∙ ap (λ (p : ℕ). stepOf length (each name (c .before .before .c .given .0 .0) [] (c .before .before .before .before .before .before .args .file .now) p)) at)
 
--- src/names.rt:194:1
 returns-2 : tie.Need-returns-2
 returns-2 c = section-broken _ _ 1 _ 0 _ (c .before .before .before .byte-within .ensures) (c .before .c2 .given .1)
 

@@ -1,13 +1,10 @@
 -- `same_bytes` meets its contract: the runs from i on are the same just where the whole runs are.
 -- Assumes nothing.
-use Prim.Native.Nat.{ℕ, _+_, _-_}
-use native.Mathlib.Omega.{arith}
+use Prim.Native.Nat.{_-_}
 use Rattle.session.proofs.Walks.{Runs, runs-start, runs-turn, runs-differ, runs-end}
 use borrow.Author.Needs.{needs}
 use Rattle.session.proofs.names.same_bytes.Statement.{statement}
 use Rattle.session.proofs.names.same_bytes.Tie as tie
-use Rattle.session.proofs.names.same_bytes.Reads as reads
-use Rattle.session.proofs.names.same_bytes.Lts as lts
 
 abbrev Inv-loop : tie.InvT-loop
 Inv-loop file a b n i₀ i = Runs file a b n i
@@ -15,43 +12,33 @@ Inv-loop file a b n i₀ i = Runs file a b n i
 abbrev μ-loop : tie.MeasureT-loop
 μ-loop file a b n i₀ i = n - i
 
--- src/names.rt:110:5
 loop-holds : tie.Need-loop-holds Inv-loop μ-loop
 loop-holds c = runs-start _ _ _ _
 
--- src/names.rt:111:17
 add-if1 : tie.Need-add-if1 Inv-loop μ-loop
 add-if1 c = search needs
 
--- src/names.rt:111:12
 shared-slice-read-if1 : tie.Need-shared-slice-read-if1 Inv-loop μ-loop
 shared-slice-read-if1 c = search needs
 
--- src/names.rt:111:32
 add-if1-2 : tie.Need-add-if1-2 Inv-loop μ-loop
 add-if1-2 c = search needs
 
--- src/names.rt:111:27
 shared-slice-read-if1-2 : tie.Need-shared-slice-read-if1-2 Inv-loop μ-loop
 shared-slice-read-if1-2 c = search needs
 
--- src/names.rt:112:13
 returns : tie.Need-returns Inv-loop μ-loop
 returns c = runs-differ _ _ _ _ (c .before .before .before .before .loop .inv) (c .before .before .before .loop-test .taken) (c .before .before .before .before .before .pre .0) (c .before .before .before .before .before .pre .1) (c .if1 .taken)
 
--- src/names.rt:114:9
 add-i : tie.Need-add-i Inv-loop μ-loop
 add-i c = search needs
 
--- src/names.rt:110:5
 loop-less : tie.Need-loop-less Inv-loop μ-loop
 loop-less c = search needs
 
--- src/names.rt:110:5
 loop-again : tie.Need-loop-again Inv-loop μ-loop
 loop-again c = runs-turn _ _ _ _ (c .before .before .before .before .loop .inv) (c .before .before .before .loop-test .taken) (c .before .before .before .before .before .pre .0) (c .before .before .before .before .before .pre .1) (c .if1 .left)
 
--- src/names.rt:105:1
 returns-2 : tie.Need-returns-2 Inv-loop μ-loop
 returns-2 c = runs-end _ _ _ _ (c .before .loop .inv) (c .loop-test .left)
 

@@ -1,15 +1,12 @@
 -- `sessions_from` meets its contract: a loop over the sessions.
 -- Assumes nothing.
-use Prim.Native.Nat.{ℕ, _-_}
+use Prim.Native.Nat.{_-_}
 use Rattle.session.specs.Offence.{session}
 use Rattle.session.specs.Inner.{wordCount}
 use Rattle.session.proofs.Steps.{step-read, step-broken, Loop, start, turn, broken, done}
 use borrow.Author.Needs.{needs}
 use Rattle.session.proofs.sessions.sessions_from.Statement.{statement}
 use Rattle.session.proofs.sessions.sessions_from.Tie as tie
-use Rattle.session.proofs.sessions.sessions_from.Reads as reads
-use Rattle.session.proofs.sessions.sessions_from.Lts as lts
-use Rattle.session.proofs.sessions.session_at.Reads as session-at-reads
 
 abbrev Inv-loop : tie.InvT-loop
 Inv-loop file at m count i₀ p₀ i p = Loop (λ _. session m) file at count i p
@@ -17,39 +14,30 @@ Inv-loop file at m count i₀ p₀ i p = Loop (λ _. session m) file at count i 
 abbrev μ-loop : tie.MeasureT-loop
 μ-loop file at m count i₀ p₀ i p = count - i
 
--- src/sessions.rt:87:5
 loop-holds : tie.Need-loop-holds Inv-loop μ-loop
 loop-holds c = start _ _ _ _
 
--- src/sessions.rt:88:13
 session-at-requires : tie.Need-session-at-requires Inv-loop μ-loop
 session-at-requires c κs = search needs
 
--- src/sessions.rt:90:36
 enum-known-s : tie.Need-enum-known-s Inv-loop μ-loop
 enum-known-s c = search needs
 
--- src/sessions.rt:93:26
 enum-known-s-2 : tie.Need-enum-known-s-2 Inv-loop μ-loop
 enum-known-s-2 c = search needs
 
--- src/sessions.rt:94:17
 returns : tie.Need-returns Inv-loop μ-loop
 returns c = broken _ _ (c .before .before .before .before .before .loop .inv) (c .before .before .before .before .loop-test .taken) (step-broken wordCount _ _ (c .before .before .before .session-at .ensures) (c .before .s2 .given .1))
 
--- src/sessions.rt:97:9
 add-i : tie.Need-add-i Inv-loop μ-loop
 add-i c = search needs
 
--- src/sessions.rt:87:5
 loop-less : tie.Need-loop-less Inv-loop μ-loop
 loop-less c = search needs
 
--- src/sessions.rt:87:5
 loop-again : tie.Need-loop-again Inv-loop μ-loop
 loop-again c = turn _ _ (c .before .before .before .before .before .loop .inv) (c .before .before .before .before .loop-test .taken) (step-read wordCount _ _ (c .before .before .before .session-at .ensures) (c .before .s .given .1) .1)
 
--- src/sessions.rt:82:1
 returns-2 : tie.Need-returns-2 Inv-loop μ-loop
 returns-2 c = done _ _ (c .before .loop .inv) (c .loop-test .left)
 

@@ -4,32 +4,22 @@ use Rattle.session.proofs.Steps.{section-read, section-broken}
 use borrow.Author.Needs.{needs}
 use Rattle.session.proofs.sessions.sessions_section.Statement.{statement}
 use Rattle.session.proofs.sessions.sessions_section.Tie as tie
-use Rattle.session.proofs.sessions.sessions_section.Reads as reads
-use Rattle.session.proofs.sessions.sessions_section.Lts as lts
-use Rattle.session.proofs.bytes.byte_within.Reads as byte-within-reads
-use Rattle.session.proofs.sessions.sessions_from.Reads as sessions-from-reads
 
--- src/sessions.rt:108:9
 byte-within-requires : tie.Need-byte-within-requires
 byte-within-requires c κs = search needs
 
--- src/sessions.rt:110:29
 enum-known-c : tie.Need-enum-known-c
 enum-known-c c = search needs
 
--- src/sessions.rt:110:42
 sessions-from-requires : tie.Need-sessions-from-requires
 sessions-from-requires c κs = search needs
 
--- src/sessions.rt:111:22
 enum-known-c-2 : tie.Need-enum-known-c-2
 enum-known-c-2 c = search needs
 
--- src/sessions.rt:105:1
 returns : tie.Need-returns
 returns c = section-read _ _ 1 32 _ _ (c .before .before .before .before .byte-within .ensures) _ (c .before .before .c .given .1) (c .sessions-from .ensures)
 
--- src/sessions.rt:105:1
 returns-2 : tie.Need-returns-2
 returns-2 c = section-broken _ _ 1 32 _ _ (c .before .before .before .byte-within .ensures) (c .before .c2 .given .1)
 

@@ -9,17 +9,10 @@ use Rattle.session.specs.Offence.{word}
 use borrow.Author.Needs.{needs}
 use Rattle.session.proofs.sessions.word_step.Statement.{statement}
 use Rattle.session.proofs.sessions.word_step.Tie as tie
-use Rattle.session.proofs.sessions.word_step.Reads as reads
-use Rattle.session.proofs.sessions.word_step.Lts as lts
-use Rattle.session.proofs.bytes.bytes_left.Reads as bytes-left-reads
-use Rattle.session.proofs.bytes.word_at.Reads as word-at-reads
-use Rattle.session.proofs.sessions.is_clear.Reads as is-clear-reads
 
--- src/sessions.rt:28:9
 bytes-left-requires : tie.Need-bytes-left-requires
 bytes-left-requires c κs = search needs
 
--- src/sessions.rt:30:9
 returns : tie.Need-returns
 unfolding word
 returns c =
@@ -27,19 +20,15 @@ returns c =
     let short : length (a .file .now) < a .at + 8 = omega (arith, c .before .bytes-left .ensures) in
     simp (lt-leb _ _ short)
 
--- src/sessions.rt:32:9
 word-at-requires : tie.Need-word-at-requires
 word-at-requires c κs = search needs
 
--- src/sessions.rt:33:8
 is-clear-requires : tie.Need-is-clear-requires
 is-clear-requires c κs = search needs
 
--- src/sessions.rt:36:19
 add-t10 : tie.Need-add-t10
 add-t10 c = search needs
 
--- src/sessions.rt:24:1
 returns-2 : tie.Need-returns-2
 unfolding word
 returns-2 c =
@@ -47,7 +36,6 @@ returns-2 c =
     let long : a .at + 8 ≤ length (a .file .now) = omega (arith, c .before .before .before .before .bytes-left .ensures) in
     simp (le-leb _ _ long, sym (c .before .before .word-at .ensures), sym (c .before .is-clear .ensures) ∙ c .if2 .taken)
 
--- src/sessions.rt:24:1
 returns-3 : tie.Need-returns-3
 unfolding word
 returns-3 c =

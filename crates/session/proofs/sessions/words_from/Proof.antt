@@ -1,15 +1,12 @@
 -- `words_from` meets its contract: a loop over the words of a session.
 -- Assumes nothing.
-use Prim.Native.Nat.{ℕ, _-_}
+use Prim.Native.Nat.{_-_}
 use Rattle.session.specs.Offence.{word}
 use Rattle.session.specs.Inner.{nothing}
 use Rattle.session.proofs.Steps.{step-read, step-broken, Loop, start, turn, broken, done}
 use borrow.Author.Needs.{needs}
 use Rattle.session.proofs.sessions.words_from.Statement.{statement}
 use Rattle.session.proofs.sessions.words_from.Tie as tie
-use Rattle.session.proofs.sessions.words_from.Reads as reads
-use Rattle.session.proofs.sessions.words_from.Lts as lts
-use Rattle.session.proofs.sessions.word_step.Reads as word-step-reads
 
 abbrev Inv-loop : tie.InvT-loop
 Inv-loop file at n m i₀ p₀ i p = Loop (λ _. word n) file at m i p
@@ -17,39 +14,30 @@ Inv-loop file at n m i₀ p₀ i p = Loop (λ _. word n) file at m i p
 abbrev μ-loop : tie.MeasureT-loop
 μ-loop file at n m i₀ p₀ i p = m - i
 
--- src/sessions.rt:50:5
 loop-holds : tie.Need-loop-holds Inv-loop μ-loop
 loop-holds c = start _ _ _ _
 
--- src/sessions.rt:51:13
 word-step-requires : tie.Need-word-step-requires Inv-loop μ-loop
 word-step-requires c κs = search needs
 
--- src/sessions.rt:53:36
 enum-known-s : tie.Need-enum-known-s Inv-loop μ-loop
 enum-known-s c = search needs
 
--- src/sessions.rt:56:26
 enum-known-s-2 : tie.Need-enum-known-s-2 Inv-loop μ-loop
 enum-known-s-2 c = search needs
 
--- src/sessions.rt:57:17
 returns : tie.Need-returns Inv-loop μ-loop
 returns c = broken _ _ (c .before .before .before .before .before .loop .inv) (c .before .before .before .before .loop-test .taken) (step-broken nothing _ _ (c .before .before .before .word-step .ensures) (c .before .s2 .given .1))
 
--- src/sessions.rt:60:9
 add-i : tie.Need-add-i Inv-loop μ-loop
 add-i c = search needs
 
--- src/sessions.rt:50:5
 loop-less : tie.Need-loop-less Inv-loop μ-loop
 loop-less c = search needs
 
--- src/sessions.rt:50:5
 loop-again : tie.Need-loop-again Inv-loop μ-loop
 loop-again c = turn _ _ (c .before .before .before .before .before .loop .inv) (c .before .before .before .before .loop-test .taken) (step-read nothing _ _ (c .before .before .before .word-step .ensures) (c .before .s .given .1) .1)
 
--- src/sessions.rt:44:1
 returns-2 : tie.Need-returns-2 Inv-loop μ-loop
 returns-2 c = done _ _ (c .before .loop .inv) (c .loop-test .left)
 

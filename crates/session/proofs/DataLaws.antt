@@ -1,0 +1,71 @@
+-- The decision over session data, row by row.
+-- Assumes nothing.
+use mathlib.Core.Path.{refl}
+use mathlib.Core.Logic.{_⊎_, inl, inr}
+use mathlib.Core.Bool.{true, false}
+use mathlib.Core.List.{List}
+use Prim.Native.Nat.{ℕ, _+_, _*_, _≤_, _<_}
+use native.Mathlib.Nat.{mul-comm, mul-le-mul-right, suc-mul}
+use native.Mathlib.Omega.{arith}
+use lib.ListN.{length}
+use Rattle.words.specs.Word.{width}
+use Rattle.sequence.specs.Refusals.{Decided}
+use Rattle.session.specs.Numbers.{sessions, propositions, Outside}
+use Rattle.session.specs.Data.{tooLong, bitAbove, dataRows}
+use Rattle.session.specs.Inner.{AllUpTo, AllClear}
+
+module _ (r m : ℕ) (marks lengths words : List ℕ) where
+  abbrev D : ℕ → Type 0
+  D k = Decided (dataRows r m marks lengths words) k
+
+  pub is-1 : Outside 1 sessions r ⊎ Outside 1 propositions m → D 1
+  unfolding Decided
+  is-1 h = inl (h, refl)
+
+  module _ (n1 : Outside 1 sessions r ⊎ Outside 1 propositions m → ⊥) where
+    pub is-3 : (length marks < r) ⊎ (length lengths < r) ⊎ (length words < m * r) → D 3
+    unfolding Decided
+    is-3 h = inr (n1, inl (h, refl))
+
+    module _ (n3 : (length marks < r) ⊎ (length lengths < r) ⊎ (length words < m * r) → ⊥) where
+      pub is-4 : AllUpTo lengths r width false → D 4
+      unfolding Decided
+      is-4 h = inr (n1, inr (n3, inl (h, refl)))
+
+      module _ (a4 : AllUpTo lengths r width true) where
+        n4 : tooLong r m marks lengths words .given → ⊥
+        n4 t = omega (arith, a4 (t .0) (t .1), t .2)
+
+        pub is-5 : AllClear lengths words r m false → D 5
+        unfolding Decided
+        is-5 h = inr (n1, inr (n3, inr (n4, inl ((h .0, h .1, h .2 .0, h .2 .1, h .2 .2, h .2 .3, h .2 .4), refl))))
+
+        module _ (a5 : AllClear lengths words r m true) where
+          n5 : bitAbove r m marks lengths words .given → ⊥
+          n5 t = omega (arith, a5 (t .0) (t .1) (t .2) (t .3) .clear (t .4) (t .5), t .6)
+
+          pub is-6 : AllUpTo marks r 1 false → D 6
+          unfolding Decided
+          is-6 h = inr (n1, inr (n3, inr (n4, inr (n5, inl (h, refl)))))
+
+          pub is-0 : AllUpTo marks r 1 true → D 0
+          unfolding Decided
+          is-0 h = inr (n1, inr (n3, inr (n4, inr (n5, inr ((λ t. omega (arith, h (t .0) (t .1), t .2)), refl)))))
+
+-- the numbers are right
+pub inside : (r m : ℕ) → 1 ≤ r → r ≤ sessions → 1 ≤ m → m ≤ propositions → Outside 1 sessions r ⊎ Outside 1 propositions m → ⊥
+inside r m a b c d (inl (inl h)) = omega arith
+inside r m a b c d (inl (inr h)) = omega arith
+inside r m a b c d (inr (inl h)) = omega arith
+inside r m a b c d (inr (inr h)) = omega arith
+
+-- and so is the room
+pub roomy : (r m : ℕ) (marks lengths words : List ℕ) → r ≤ length marks → r ≤ length lengths → m * r ≤ length words
+    → (length marks < r) ⊎ (length lengths < r) ⊎ (length words < m * r) → ⊥
+roomy r m marks lengths words a b c (inl h) = omega arith
+roomy r m marks lengths words a b c (inr (inl h)) = omega arith
+roomy r m marks lengths words a b c (inr (inr h)) = omega arith
+
+-- the words of session i lie within those of r sessions
+pub block : (i r m : ℕ) → i < r → i * m + m ≤ m * r
+block i r m h = omega (arith, suc-mul i m, mul-le-mul-right m h, mul-comm m r)
