@@ -17,12 +17,23 @@ fn main() {
     });
     let stand_ins = project.join("src/stand_ins");
 
+    // tree.rs up to its parser, which needs pest; the lines before it are compiled as they stand.
+    let out_dir = PathBuf::from(env::var("OUT_DIR").unwrap());
+    let tree_file = rust.join("formula/tree.rs");
+    println!("cargo:rerun-if-changed={}", tree_file.display());
+    let whole = fs::read_to_string(&tree_file).unwrap();
+    let parser = whole.find("\nuse pest::").expect("tree.rs has no parser to cut");
+    let tree_cut = out_dir.join("tree.rs");
+    fs::write(&tree_cut, &whole[..parser + 1]).unwrap();
+
     // One row a module: the folder of the tree, the module, where its file is.
-    let modules: [(&str, &str, PathBuf); 8] = [
+    let modules: [(&str, &str, PathBuf); 10] = [
         ("bool", "cv", stand_ins.join("cv.rs")),
+        ("formula", "tree", tree_cut),
         ("ltl", "cm", rust.join("ltl/cm.rs")),
         ("ltl", "cs", rust.join("ltl/cs.rs")),
         ("ltl", "hash", stand_ins.join("hash.rs")),
+        ("ltl", "leaves", stand_ins.join("leaves.rs")),
         ("ltl", "trace", stand_ins.join("trace.rs")),
         ("ops", "binary", rust.join("ops/binary.rs")),
         ("ops", "traits", rust.join("ops/traits.rs")),
@@ -30,17 +41,19 @@ fn main() {
     ];
 
     let mut tree = String::new();
-    for folder in ["bool", "ltl", "ops"] {
+    for folder in ["bool", "formula", "ltl", "ops"] {
         // The Rust has more than the comparison calls.
         tree += &format!("#[allow(dead_code)]\npub(crate) mod {folder} {{\n");
         for (_, name, file) in modules.iter().filter(|row| row.0 == folder) {
             tree += &module(name, file);
         }
+        if folder == "ltl" {
+            tree += "    pub(crate) use leaves::{AtomicProposition, Constant};\n";
+        }
         tree += "}\n";
     }
 
-    let out = PathBuf::from(env::var("OUT_DIR").unwrap()).join("the_rust.rs");
-    fs::write(out, tree).unwrap();
+    fs::write(out_dir.join("the_rust.rs"), tree).unwrap();
     println!("cargo:rerun-if-env-changed=SCARFPYLON_RUST");
 }
 

@@ -8,6 +8,7 @@ type HashType = u64;
 
 mod compare;
 mod findings;
+mod formulas;
 mod oracle;
 mod program;
 mod query;
@@ -19,6 +20,7 @@ mod words;
 const USAGE: &str = "differential: one of
   compare [RANDOM_WORDS]   the Rust's answers against our program's (default: 1000 random words a length)
   compare --short          the same with fewer edge pairs and 10 random words a length
+  formulas [ROUNDS]        random formulas of each size 1 to 31: check and print against the Rust's eval and Display (default: 20 rounds)
   sample                   writes the stored answers anew: crates/replay/stdin and stdout, crates/settled/stdout
   findings                 what the Rust does outside document 01's domain";
 
@@ -30,6 +32,11 @@ fn main() {
         ["compare", "--short"] => compare::run(compare::Extent::short()),
         ["compare", count] => match count.parse() {
             Ok(count) => compare::run(compare::Extent::full(count)),
+            Err(_) => usage(),
+        },
+        ["formulas"] => formulas::run(20),
+        ["formulas", count] => match count.parse() {
+            Ok(count) => formulas::run(count),
             Err(_) => usage(),
         },
         ["sample"] => sample::run(),

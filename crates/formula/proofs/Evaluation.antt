@@ -1,7 +1,7 @@
 -- The word of a node is its formula's, if the children's words are theirs: one law for each kind of node.
 -- Assumes nothing.
 use mathlib.Core.Path.{_≡_, refl, sym, ap, _∙_, subst}
-use mathlib.Core.Logic.{_↔_, _⊎_, inl, inr}
+use mathlib.Core.Logic.{_↔_}
 use mathlib.Core.Bool.{Bool, true, false, true≢false}
 use mathlib.Core.List.{List}
 use Prim.Native.Nat.{ℕ, _+_, _≤_, _<_, min}
@@ -25,38 +25,20 @@ use Rattle.walk.proofs.Rows.{means-agree, unary-agree, binary-agree}
 use Rattle.formula.specs.Rule.{IsUnary, IsBinary, propositionCode}
 use Rattle.formula.specs.Inner.{LeafIn, Fits, traceAt, Ready, Evaluated}
 use Rattle.formula.specs.Inner.Fits.{leaf as a-leaf, unary as a-unary, binary as a-binary}
-use Rattle.formula.proofs.Faults.{leaf-between, leaf-is, not-both, not-unary-leaf, not-binary-leaf}
+use Rattle.formula.proofs.Faults.{not-both, not-unary-leaf, not-binary-leaf, proposition-under}
 
 module _ (n : ℕ) (words : List ℕ) (from : ℕ) (k : List Node) (nd : Node) where
   -- ---- leaves
 
-  pub in-range : (b : ℕ) (r : Ready n words from k b nd) → nd .code ≡ propositionCode → nd .left < r .propositions
-  in-range b r e = by (r .fits)
-    where
-      by : Fits (r .propositions) k b nd → nd .left < r .propositions
-      by (a-leaf c f l i t z) = let q = leaf-is c (sym f ∙ e) in let v = subst (LeafIn (r .propositions)) (q .1) i in omega (arith, l ∙ ap leafNumber (q .1))
-      by (a-unary op f l t z v) = absurd (omega (arith, unary-below op))
-      by (a-binary op f l t z v) = let x = binary-between op in absurd (omega arith)
-
   pub word-of-proposition : (b : ℕ) → Ready n words from k b nd → nd .code ≡ propositionCode → Evaluated n words from k nd (getD words (from + nd .left) 0)
   word-of-proposition b r e (leaf (proposition p)) s =
       let here = getD words (from + nd .left) 0 in
-      let w : Means n here (At here) = record { wf = r .clear (nd .left) (in-range b r e); holds = λ i h. (λ z. z, λ z. z) } in
+      let w : Means n here (At here) = record { wf = r .clear (nd .left) (proposition-under (r .propositions) k b nd (r .fits) e); holds = λ i h. (λ z. z, λ z. z) } in
       subst (λ (q : ℕ). Means n here (At (getD words (from + q) 0))) (s .1) w
   word-of-proposition b r e (leaf (constant false)) s = absurd (omega (arith, s .0))
   word-of-proposition b r e (leaf (constant true)) s = absurd (omega (arith, s .0))
   word-of-proposition b r e (unary op t) s = absurd (omega (arith, unary-below op, s .0))
   word-of-proposition b r e (binary op l t) s = let x = binary-between op in absurd (omega (arith, s .0))
-
-  -- a leaf that is neither a proposition nor false
-  pub constant-code : (b : ℕ) → Ready n words from k b nd → (IsUnary (nd .code) → ⊥) → (IsBinary (nd .code) → ⊥)
-      → (nd .code ≡ propositionCode → ⊥) → (nd .code ≡ 17 → ⊥) → nd .code ≡ 18
-  constant-code b r u v e f = by (r .fits)
-    where
-      by : Fits (r .propositions) k b nd → nd .code ≡ 18
-      by (a-leaf c q l i t z) = let x = leaf-between c in omega arith
-      by (a-unary op q l t z w) = absurd (u (op, sym q))
-      by (a-binary op q l t z w) = absurd (v (op, sym q))
 
   pub word-of-false : n ≤ width → nd .code ≡ 17 → Evaluated n words from k nd 0
   word-of-false h e (leaf (proposition p)) s = absurd (omega (arith, s .0))
@@ -71,25 +53,6 @@ module _ (n : ℕ) (words : List ℕ) (from : ℕ) (k : List Node) (nd : Node) w
   word-of-true {r} h e m (leaf (constant true)) s = means h (λ i a. (m .holds i (at-below (m .wf) i a) .0 a, refl)) (λ i l a. m .holds i (omega arith) .1 l)
   word-of-true h e m (unary op t) s = absurd (omega (arith, unary-below op, s .0))
   word-of-true h e m (binary op l t) s = let x = binary-between op in absurd (omega (arith, s .0))
-
-  -- ---- the children
-
-  pub left-below : {b : ℕ} → Ready n words from k b nd → IsUnary (nd .code) ⊎ IsBinary (nd .code) → nd .left < b
-  left-below {b} r u = by (r .fits) u
-    where
-      by : Fits (r .propositions) k b nd → IsUnary (nd .code) ⊎ IsBinary (nd .code) → nd .left < b
-      by (a-leaf c e l i t z) (inl v) = absurd (not-unary-leaf (nd .code) v (c, sym e))
-      by (a-leaf c e l i t z) (inr v) = absurd (not-binary-leaf (nd .code) v (c, sym e))
-      by (a-unary op e l t z v) w = l
-      by (a-binary op e l t z v) w = l
-
-  pub right-below : {b : ℕ} → Ready n words from k b nd → IsBinary (nd .code) → nd .right < b
-  right-below {b} r u = by (r .fits)
-    where
-      by : Fits (r .propositions) k b nd → nd .right < b
-      by (a-leaf c e l i t z) = absurd (not-binary-leaf (nd .code) u (c, sym e))
-      by (a-unary op e l t z v) = absurd (not-both (nd .code) (op, sym e) u)
-      by (a-binary op e l t z v) = t
 
   -- a child is evaluated over the places below its own
   pub ready-at : {b : ℕ} → Ready n words from k b nd → (p : ℕ) → p < b → {child : Node} → child ≡ nodeAt k p → Ready n words from k p child

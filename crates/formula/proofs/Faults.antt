@@ -171,6 +171,35 @@ module _ (m : ℕ) (k : List Node) (b : ℕ) (n : Node) where
   fits-no-fault (binary op e l r s q) (binarySize u h) = h s
   fits-no-fault (binary op e l r s q) (tooLarge h) = omega arith
 
+  pub fits-small : Fits m k b n → n .size ≤ mostSize
+  fits-small (leaf c e l i r s) = omega arith
+  fits-small (unary op e l r s q) = q
+  fits-small (binary op e l r s q) = q
+
+  -- the children of a node that fits stand below it
+  pub left-under : Fits m k b n → IsUnary (n .code) ⊎ IsBinary (n .code) → n .left < b
+  left-under (leaf c e l i t z) (inl v) = absurd (not-unary-leaf (n .code) v (c, sym e))
+  left-under (leaf c e l i t z) (inr v) = absurd (not-binary-leaf (n .code) v (c, sym e))
+  left-under (unary op e l t z v) w = l
+  left-under (binary op e l t z v) w = l
+
+  pub right-under : Fits m k b n → IsBinary (n .code) → n .right < b
+  right-under (leaf c e l i t z) u = absurd (not-binary-leaf (n .code) u (c, sym e))
+  right-under (unary op e l t z v) u = absurd (not-both (n .code) (op, sym e) u)
+  right-under (binary op e l t z v) u = t
+
+  -- the number of a proposition that fits
+  pub proposition-under : Fits m k b n → n .code ≡ propositionCode → n .left < m
+  proposition-under (leaf c f l i t z) e = let q = leaf-is c (sym f ∙ e) in let v = subst (LeafIn m) (q .1) i in omega (arith, l ∙ ap leafNumber (q .1))
+  proposition-under (unary op f l t z v) e = absurd (omega (arith, unary-below op))
+  proposition-under (binary op f l t z v) e = let x = binary-between op in absurd (omega arith)
+
+  -- a leaf that is neither a proposition nor false
+  pub true-code : Fits m k b n → (IsUnary (n .code) → ⊥) → (IsBinary (n .code) → ⊥) → (n .code ≡ propositionCode → ⊥) → (n .code ≡ 17 → ⊥) → n .code ≡ 18
+  true-code (leaf c q l i t z) u v e f = let x = leaf-between c in omega arith
+  true-code (unary op q l t z w) u v e f = absurd (u (op, sym q))
+  true-code (binary op q l t z w) u v e f = absurd (v (op, sym q))
+
 -- a leaf that is no proposition
 pub constant-fits : (m : ℕ) (k : List Node) (b : ℕ) (n : Node) → 17 ≤ n .code → n .code ≤ 18 → n .left ≡ 0 → n .right ≡ 0 → n .size ≡ 1 → Fits m k b n
 constant-fits m k b n l h e r s =

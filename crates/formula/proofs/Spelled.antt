@@ -18,7 +18,7 @@ use Rattle.walk.proofs.Trees.{spells-size}
 use Rattle.formula.specs.Rule.{Broken}
 use Rattle.formula.specs.Inner.{LeafIn, Fits, AllFit}
 use Rattle.formula.specs.Inner.Fits.{leaf as a-leaf, unary as a-unary, binary as a-binary}
-use Rattle.formula.proofs.Faults.{leaf-between, whole-fits}
+use Rattle.formula.proofs.Faults.{leaf-between, fits-small, whole-fits}
 
 -- ---- one formula at most
 
@@ -70,11 +70,6 @@ module _ (m : ℕ) (k : List Node) (all : AllFit m k (length k)) where
 
   pub spelled : (b : ℕ) → b ≤ length k → (n : Node) → Fits m k b n → (t : Formula) × Spells codes k n t
   spelled b h n f = spelled-below b b (omega arith) h n f
-
-fits-small : (m : ℕ) (k : List Node) (b : ℕ) (n : Node) → Fits m k b n → n .size ≤ mostSize
-fits-small m k b n (a-leaf c e l i r s) = omega arith
-fits-small m k b n (a-unary op e l r s q) = q
-fits-small m k b n (a-binary op e l r s q) = q
 
 -- exactly one formula, and a small one
 pub record SpellsOne (k : List Node) (n : Node) : Type 0 where

@@ -2,16 +2,23 @@
 -- Assumes nothing.
 use mathlib.Core.Path.{_≡_}
 use mathlib.Core.Bool.{Bool, true, false}
-use mathlib.Core.List.{List}
-use Prim.Native.Nat.{ℕ, _+_, _≤_, _<_}
-use lib.ListN.{length, getD}
+use mathlib.Core.Logic.{_↔_}
+use mathlib.Core.List.{List, [], _∷_, _++_, flatMap}
+use Prim.Native.Nat.{ℕ, _+_, _*_, _≤_, _<_}
+use lib.ListN.{length, getD, take}
+use lib.Seq.{sets}
 use Rattle.words.specs.Word.{width, At, Wf, Means}
+use Rattle.sequence.specs.declared.operators.Operator.{Operator}
 use Rattle.sequence.specs.Operators.{Unary, Binary, unaryCode, binaryCode}
 use Rattle.walk.specs.Formula.{Leaf, proposition, constant, Formula, Trace, Holds}
 use Rattle.walk.specs.Nodes.{Node, nodeAt, Spells, codes, leafCode, leafNumber}
-use Rattle.walk.specs.Input.{mostSize}
+use Rattle.walk.specs.Input.{Input, mostSize, lengthOf, wordOf, session}
 use Rattle.formula.specs.Kinds.{mostNumber}
+use Rattle.session.specs.Format.{nameBytes}
+use Rattle.session.specs.Offence.{Got, got, bad, wholeNames}
 use Rattle.formula.specs.Rule.{Fault}
+use Rattle.formula.specs.Check.{Agrees}
+use Rattle.formula.specs.Text.{text}
 
 abbrev pub LeafIn : ℕ → Leaf → Type 0
 LeafIn m (proposition p) = p < m
@@ -60,3 +67,71 @@ pub record Ready (n : ℕ) (words : List ℕ) (from : ℕ) (k : List Node) (belo
 -- what it answers: the word of whatever formula the node spells
 abbrev pub Evaluated : ℕ → List ℕ → ℕ → List Node → Node → ℕ → Type 0
 Evaluated n words from k node r = (t : Formula) → Spells codes k node t → Means n r (Holds (traceAt n words from) t)
+
+-- ---- the check
+
+-- what a session's word says, where `word` is the formula's
+abbrev pub AgreesWord : ℕ → ℕ → ℕ → Bool → Type 0
+AgreesWord mark n word r = (r ≡ true) ↔ ((mark ≡ 1) ↔ ((0 < n) × At word 0))
+
+-- the session data and the list have passed
+pub record Checkable (i : Input) (k : List Node) (root : Node) : Type 0 where
+  pub marks-there : i .sessions ≤ length (i .marks)
+  pub lengths-there : i .sessions ≤ length (i .lengths)
+  pub words-there : i .propositions * i .sessions ≤ length (i .words)
+  pub few : i .propositions ≤ mostNumber
+  pub short : (j : ℕ) → j < i .sessions → lengthOf i j ≤ width
+  pub clear : (j p : ℕ) → j < i .sessions → p < i .propositions → Wf (lengthOf i j) (wordOf i j p)
+  pub all : AllFit (i .propositions) k (length k)
+  pub fits : Fits (i .propositions) k (length k) root
+
+-- the sessions before j agree with whatever formula the root spells, and j does not or is their number
+pub record Found (i : Input) (k : List Node) (root : Node) (j : ℕ) : Type 0 where
+  pub upto : j ≤ i .sessions
+  pub before : (t : Formula) → Spells codes k root t → (h : ℕ) → h < j → Agrees (session i h) t
+  pub here : (t : Formula) → Spells codes k root t → j < i .sessions → Agrees (session i j) t → ⊥
+
+-- ---- printing
+
+abbrev pub listed : Got (List (List ℕ)) → List (List ℕ)
+listed (got names next) = names
+listed (bad o) = []
+
+-- the names of a section
+abbrev pub namesIn : List ℕ → List (List ℕ)
+namesIn file = listed (wholeNames file)
+
+abbrev pub GoodNames : List ℕ → Type 0
+GoodNames file = (next : ℕ) × (wholeNames file ≡ got (namesIn file) next)
+
+-- where name p starts: after the count and the names before it
+abbrev pub startOf : List (List ℕ) → ℕ → ℕ
+startOf names p = 1 + length (flatMap nameBytes (take p names))
+
+-- the names and the list have passed
+pub record Printable (file : List ℕ) (k : List Node) (below : ℕ) (node : Node) : Type 0 where
+  pub good : GoodNames file
+  pub all : AllFit (length (namesIn file)) k (length k)
+  pub within : below ≤ length k
+  pub fits : Fits (length (namesIn file)) k below node
+
+-- the length of the text of whatever formula the node spells
+abbrev pub Long : List ℕ → List Node → Node → ℕ → Type 0
+Long file k node r = (t : Formula) → Spells codes k node t → r ≡ length (text (namesIn file) t)
+
+-- the text fits from a place on
+abbrev pub Fitting : List ℕ → List Node → Node → List ℕ → ℕ → Type 0
+Fitting file k node room at = (t : Formula) → Spells codes k node t → at + length (text (namesIn file) t) ≤ length room
+
+-- bytes written from a place on: what the room holds then, and the place after them
+pub record Wrote (old : List ℕ) (at : ℕ) (bytes : List ℕ) (new : List ℕ) (r : ℕ) : Type 0 where
+  pub next : r ≡ at + length bytes
+  pub holds : new ≡ sets old at bytes
+
+-- an operator's token, a space and a bracket
+abbrev pub beforeLast : Operator → List ℕ
+beforeLast o = take (o .bytes) (o .token) ++ (32 ∷ 40 ∷ [])
+
+-- the text of whatever formula the node spells is written
+abbrev pub Written : List ℕ → List Node → Node → List ℕ → ℕ → List ℕ → ℕ → Type 0
+Written file k node old at new r = (t : Formula) → Spells codes k node t → Wrote old at (text (namesIn file) t) new r

@@ -2,4 +2,7 @@
 -- `Inner` is only for private functions: no public contract cites it.
 pub mod Kinds
 pub mod Rule
+pub mod Check
+pub mod Text
+pub mod Print
 pub mod Inner

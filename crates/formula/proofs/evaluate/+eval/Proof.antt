@@ -6,7 +6,8 @@ use native.Mathlib.Omega.{arith}
 use Rattle.sequence.proofs.Groups.{in-unary, in-binary, off-unary, off-binary}
 use Rattle.formula.specs.Kinds.{nodeOf, nodes}
 use Rattle.formula.proofs.Listed.{length-nodes}
-use Rattle.formula.proofs.Evaluation.{left-below, right-below, ready-at, word-of-unary, word-of-binary}
+use Rattle.formula.proofs.Faults.{left-under, right-under}
+use Rattle.formula.proofs.Evaluation.{ready-at, word-of-unary, word-of-binary}
 use borrow.Author.Needs.{needs}
 use Prim.Native.Nat.{ℕ, _<_}
 use borrow.Fn.Kinds.{In}
@@ -106,7 +107,7 @@ eval-node-at-requires t c κs = let s = c .before .before .before .before .befor
     let a = s .args in
     let f = c .before .before .before .operator-of in
     let u = in-unary _ (f .result) (f .ensures) (c .before .enum-told .given .1) in
-    omega (arith, left-below (a .length) (a .words .now) (a .from) (nodes (a .codes .now) (a .lefts .now) (a .rights .now) (a .sizes .now)) (nodeOf (a .node)) (s .pre .1) (inl u), s .pre .1 .within, length-nodes (a .codes .now) (a .lefts .now) (a .rights .now) (a .sizes .now))
+    omega (arith, left-under _ _ _ (nodeOf (a .node)) (s .pre .1 .fits) (inl u), s .pre .1 .within, length-nodes (a .codes .now) (a .lefts .now) (a .rights .now) (a .sizes .now))
 
 eval-eval-requires : (t : ℕ) → eval-lts.Need-eval-requires (
   operator-of-reads.Asked,
@@ -128,7 +129,7 @@ eval-eval-requires t c κs = let s = c .before .before .before .before .before .
     let a = s .args in
     let f = c .before .before .before .before .operator-of in
     let u = in-unary _ (f .result) (f .ensures) (c .before .before .enum-told .given .1) in
-    let h = left-below (a .length) (a .words .now) (a .from) (nodes (a .codes .now) (a .lefts .now) (a .rights .now) (a .sizes .now)) (nodeOf (a .node)) (s .pre .1) (inl u) in
+    let h = left-under _ _ _ (nodeOf (a .node)) (s .pre .1 .fits) (inl u) in
     (omega arith, ready-at (a .length) (a .words .now) (a .from) (nodes (a .codes .now) (a .lefts .now) (a .rights .now) (a .sizes .now)) (nodeOf (a .node)) (s .pre .1) (a .node .left .0) h (c .node-at .ensures))
 
 eval-mask-requires : (t : ℕ) → eval-lts.Need-mask-requires (
@@ -223,7 +224,7 @@ eval-node-at-requires-2 t c κs = let s = c .before .before .before .before .bef
     let a = s .args in
     let f = c .before .before .before .operator-of in
     let u = in-binary _ (f .result) (f .ensures) (c .before .enum-told2 .given .1) in
-    omega (arith, left-below (a .length) (a .words .now) (a .from) (nodes (a .codes .now) (a .lefts .now) (a .rights .now) (a .sizes .now)) (nodeOf (a .node)) (s .pre .1) (inr u), s .pre .1 .within, length-nodes (a .codes .now) (a .lefts .now) (a .rights .now) (a .sizes .now))
+    omega (arith, left-under _ _ _ (nodeOf (a .node)) (s .pre .1 .fits) (inr u), s .pre .1 .within, length-nodes (a .codes .now) (a .lefts .now) (a .rights .now) (a .sizes .now))
 
 eval-eval-requires-2 : (t : ℕ) → eval-lts.Need-eval-requires-2 (
   operator-of-reads.Asked,
@@ -245,7 +246,7 @@ eval-eval-requires-2 t c κs = let s = c .before .before .before .before .before
     let a = s .args in
     let f = c .before .before .before .before .operator-of in
     let u = in-binary _ (f .result) (f .ensures) (c .before .before .enum-told2 .given .1) in
-    let h = left-below (a .length) (a .words .now) (a .from) (nodes (a .codes .now) (a .lefts .now) (a .rights .now) (a .sizes .now)) (nodeOf (a .node)) (s .pre .1) (inr u) in
+    let h = left-under _ _ _ (nodeOf (a .node)) (s .pre .1 .fits) (inr u) in
     (omega arith, ready-at (a .length) (a .words .now) (a .from) (nodes (a .codes .now) (a .lefts .now) (a .rights .now) (a .sizes .now)) (nodeOf (a .node)) (s .pre .1) (a .node .left .0) h (c .node-at2 .ensures))
 
 eval-cast-right : (t : ℕ) → eval-lts.Need-cast-right (
@@ -286,7 +287,7 @@ eval-node-at-requires-3 t c κs = let s = c .before .before .before .before .bef
     let a = s .args in
     let f = c .before .before .before .before .before .before .operator-of in
     let u = in-binary _ (f .result) (f .ensures) (c .before .before .before .before .enum-told2 .given .1) in
-    omega (arith, right-below (a .length) (a .words .now) (a .from) (nodes (a .codes .now) (a .lefts .now) (a .rights .now) (a .sizes .now)) (nodeOf (a .node)) (s .pre .1) u, s .pre .1 .within, length-nodes (a .codes .now) (a .lefts .now) (a .rights .now) (a .sizes .now))
+    omega (arith, right-under _ _ _ (nodeOf (a .node)) (s .pre .1 .fits) u, s .pre .1 .within, length-nodes (a .codes .now) (a .lefts .now) (a .rights .now) (a .sizes .now))
 
 eval-eval-requires-3 : (t : ℕ) → eval-lts.Need-eval-requires-3 (
   operator-of-reads.Asked,
@@ -308,7 +309,7 @@ eval-eval-requires-3 t c κs = let s = c .before .before .before .before .before
     let a = s .args in
     let f = c .before .before .before .before .before .before .before .operator-of in
     let u = in-binary _ (f .result) (f .ensures) (c .before .before .before .before .before .enum-told2 .given .1) in
-    let h = right-below (a .length) (a .words .now) (a .from) (nodes (a .codes .now) (a .lefts .now) (a .rights .now) (a .sizes .now)) (nodeOf (a .node)) (s .pre .1) u in
+    let h = right-under _ _ _ (nodeOf (a .node)) (s .pre .1 .fits) u in
     (omega arith, ready-at (a .length) (a .words .now) (a .from) (nodes (a .codes .now) (a .lefts .now) (a .rights .now) (a .sizes .now)) (nodeOf (a .node)) (s .pre .1) (a .node .right .0) h (c .node-at3 .ensures))
 
 eval-mask-requires-2 : (t : ℕ) → eval-lts.Need-mask-requires-2 (

@@ -6,7 +6,8 @@ use lib.ListN.{getD}
 use native.Mathlib.Omega.{arith}
 use Rattle.formula.specs.Kinds.{nodeOf, nodes}
 use Rattle.formula.specs.Inner.{Evaluated}
-use Rattle.formula.proofs.Evaluation.{in-range, word-of-proposition, word-of-false, word-of-true, constant-code}
+use Rattle.formula.proofs.Faults.{proposition-under, true-code}
+use Rattle.formula.proofs.Evaluation.{word-of-proposition, word-of-false, word-of-true}
 use borrow.Author.Needs.{needs}
 use Rattle.formula.proofs.evaluate.leaf_word.Statement.{statement}
 use Rattle.formula.proofs.evaluate.leaf_word.Tie as tie
@@ -27,13 +28,13 @@ shared-slice-read-result : tie.Need-shared-slice-read-result
 shared-slice-read-result c = let s = c .before .before .before .before .before .before .before .before .before .before in
     let a = s .args in
     let r = s .pre .0 in
-    omega (arith, r .there, r .few, in-range (a .length) (a .words .now) (a .from) (nodes (a .codes .now) (a .lefts .now) (a .rights .now) (a .sizes .now)) (nodeOf (a .node)) (a .below) r (c .before .before .before .if1 .taken))
+    omega (arith, r .there, r .few, proposition-under (r .propositions) _ (a .below) (nodeOf (a .node)) (r .fits) (c .before .before .before .if1 .taken))
 
 returns : tie.Need-returns
 returns c = let s = c .before .before .before .before .before .before .before .before .before .before in
     let a = s .args in
     let r = s .pre .0 in
-    let h = in-range (a .length) (a .words .now) (a .from) (nodes (a .codes .now) (a .lefts .now) (a .rights .now) (a .sizes .now)) (nodeOf (a .node)) (a .below) r (c .before .before .before .if1 .taken) in
+    let h = proposition-under (r .propositions) _ (a .below) (nodeOf (a .node)) (r .fits) (c .before .before .before .if1 .taken) in
     let e : c .before .before .from-left .result .0 ≡ a .node .left .0 = omega (arith, r .few) in
     subst (λ (p : ℕ). Evaluated (a .length) (a .words .now) (a .from) (nodes (a .codes .now) (a .lefts .now) (a .rights .now) (a .sizes .now)) (nodeOf (a .node)) (getD (a .words .now) (a .from + p) 0)) (sym e)
     (word-of-proposition (a .length) (a .words .now) (a .from) (nodes (a .codes .now) (a .lefts .now) (a .rights .now) (a .sizes .now)) (nodeOf (a .node)) (a .below) r (c .before .before .before .if1 .taken))
@@ -47,7 +48,7 @@ mask-requires c κs = search needs
 returns-3 : tie.Need-returns-3
 returns-3 c = let s = c .before .before .before .before .before .before .before .before .before .before in
     let a = s .args in
-    word-of-true (a .length) (a .words .now) (a .from) (nodes (a .codes .now) (a .lefts .now) (a .rights .now) (a .sizes .now)) (nodeOf (a .node)) (s .pre .0 .short) (constant-code (a .length) (a .words .now) (a .from) (nodes (a .codes .now) (a .lefts .now) (a .rights .now) (a .sizes .now)) (nodeOf (a .node)) (a .below) (s .pre .0) (s .pre .1) (s .pre .2) (c .before .before .before .if1 .left) (c .before .if2 .left)) (c .mask .ensures)
+    word-of-true (a .length) (a .words .now) (a .from) (nodes (a .codes .now) (a .lefts .now) (a .rights .now) (a .sizes .now)) (nodeOf (a .node)) (s .pre .0 .short) (true-code _ _ (a .below) (nodeOf (a .node)) (s .pre .0 .fits) (s .pre .1) (s .pre .2) (c .before .before .before .if1 .left) (c .before .if2 .left)) (c .mask .ensures)
 
 pub leaf-word-spec : {M : Type 1} → statement M
 leaf-word-spec =

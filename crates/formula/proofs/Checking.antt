@@ -1,0 +1,174 @@
+-- The analyst's check: what the tests of session data give, a session's agreement by its word, and the sessions one after the other.
+-- Assumes nothing.
+use mathlib.Core.Path.{_≡_, refl, sym, ap, _∙_, subst}
+use mathlib.Core.Logic.{_↔_, _⊎_, inl, inr, ⊎-elim, Iff·trans}
+use mathlib.Core.Bool.{Bool, true, false, true≢false}
+use mathlib.Core.List.{List, [], _∷_, _++_, map}
+use Prim.Native.Nat.{ℕ, zero, suc, _+_, _*_, _≤_, _<_}
+use native.Mathlib.Nat.{eq-or-lt-of-le, mul-le-mul-right, suc-mul, mul-comm}
+use native.Mathlib.Numerals.{add-one}
+use native.Mathlib.Omega.{arith}
+use lib.Dec.{lit<}
+use lib.ListN.{length, getD}
+use Rattle.words.specs.Word.{width, At, Wf, Means}
+use Rattle.words.proofs.At.{not-at}
+use Rattle.sequence.specs.Refusals.{Row, Decided, firstOf}
+use Rattle.sequence.proofs.Refusals.{Numbered, decided-none, decided-both}
+use Rattle.session.specs.Data.{dataRows}
+use Rattle.session.specs.Numbers.{sessions as mostSessions, propositions as mostPropositions}
+use Rattle.walk.specs.Formula.{Formula, Session, Holds, Accepts, Separates}
+use Rattle.walk.specs.Nodes.{Node, Spells, codes}
+use Rattle.walk.specs.Walk.{count}
+use Rattle.walk.specs.Input.{Input, markOf, lengthOf, wordOf, session, sessions}
+use Rattle.formula.specs.Kinds.{mostNumber}
+use Rattle.formula.specs.Rule.{Broken, brokenList}
+use Rattle.formula.specs.Check.{checkRows, Agrees, FirstDisagrees, Outcome}
+use Rattle.formula.specs.Inner.{AllFit, Fits, traceAt, Ready, Evaluated, AgreesWord, Checkable, Found}
+use Rattle.formula.proofs.Faults.{whole-fits}
+use Rattle.formula.proofs.Spelled.{spelled}
+
+-- ---- a session's word
+
+module _ {mark : ℕ} {P : Type 0} where
+  pub marked-good : (a : Bool) → (a ≡ true) ↔ P → mark ≡ 1 → (a ≡ true) ↔ ((mark ≡ 1) ↔ P)
+  marked-good a e m = (λ h. (λ n. e .0 h, λ p. m), λ q. e .1 (q .0 m))
+
+  pub bad-accepts : P → (mark ≡ 1 → ⊥) → (false ≡ true) ↔ ((mark ≡ 1) ↔ P)
+  bad-accepts p n = (λ h. absurd (true≢false (sym h)), λ q. absurd (n (q .1 p)))
+
+  pub bad-rejects : (P → ⊥) → (mark ≡ 1 → ⊥) → (true ≡ true) ↔ ((mark ≡ 1) ↔ P)
+  bad-rejects p n = (λ h. (λ m. absurd (n m), λ q. absurd (p q)), λ q. refl)
+
+module _ (i : Input) (k : List Node) (root : Node) where
+  -- the word of session j says whether the session agrees
+  pub agrees-word : (j from w : ℕ) (b : Bool) → from ≡ j * i .propositions → Evaluated (lengthOf i j) (i .words) from k root w
+      → AgreesWord (markOf i j) (lengthOf i j) w b → (t : Formula) → Spells codes k root t → (b ≡ true) ↔ Agrees (session i j) t
+  agrees-word j from w b e ev a t s =
+      let m : Means (lengthOf i j) w (Holds (session i j .trace) t) =
+      subst (λ (f : ℕ). Means (lengthOf i j) w (Holds (traceAt (lengthOf i j) (i .words) f) t)) e (ev t s) in
+      Iff·trans a (
+        λ q. (λ n. let p = q .0 n in (p .0, m .holds 0 (p .0) .0 (p .1)), λ p. q .1 (p .0, m .holds 0 (p .0) .1 (p .1))),
+        λ q. (λ n. let p = q .0 n in (p .0, m .holds 0 (p .0) .1 (p .1)), λ p. q .1 (p .0, m .holds 0 (p .0) .0 (p .1))),
+      )
+
+  pub words-room : Checkable i k root → (j from : ℕ) → j < i .sessions → from ≡ j * i .propositions → from + i .propositions ≤ length (i .words)
+  words-room c j from h e =
+      let room : suc j * i .propositions ≤ i .sessions * i .propositions = mul-le-mul-right (i .propositions) h in
+      let w = c .words-there in
+      omega (arith, suc-mul j (i .propositions), mul-comm (i .sessions) (i .propositions))
+
+  pub ready-for : Checkable i k root → (j from : ℕ) → j < i .sessions → from ≡ j * i .propositions → (below : ℕ) → below ≡ length k
+      → Ready (lengthOf i j) (i .words) from k below root
+  ready-for c j from h e below l =
+      record {
+        short = c .short j h;
+        propositions = i .propositions;
+        few = c .few;
+        there = words-room c j from h e;
+        clear = λ p q. subst (λ (f : ℕ). Wf (lengthOf i j) (getD (i .words) (f + p) 0)) (sym e) (c .clear j p h q);
+        all = c .all;
+        within = omega arith;
+        fits = subst (λ (b : ℕ). Fits (i .propositions) k b root) (sym l) (c .fits);
+      }
+
+  -- ---- the sessions one after the other
+
+  abbrev pub Before : ℕ → Type 0
+  Before j = (t : Formula) → Spells codes k root t → (h : ℕ) → h < j → Agrees (session i h) t
+
+  pub one-more : (j : ℕ) → Before j → ((t : Formula) → Spells codes k root t → Agrees (session i j) t) → Before (j + 1)
+  one-more j b a t s h l =
+      ⊎-elim (λ e. subst (λ (x : ℕ). Agrees (session i x) t) (sym e) (a t s)) (λ g. b t s h g) (eq-or-lt-of-le {n = h} {m = j} (omega arith))
+
+  -- ---- what the tests give
+
+  pub passed : Decided (dataRows (i .sessions) (i .propositions) (i .marks) (i .lengths) (i .words)) 0 → (Broken (i .propositions) k root → ⊥)
+      → Checkable i k root × (i .sessions ≤ mostSessions)
+  passed d u =
+      let a = decided-none _ _ (lit< tt, (lit< tt, (lit< tt, (lit< tt, (lit< tt, tt))))) d in
+      let b = decided-none _ _ (lit< tt, (lit< tt, (lit< tt, (lit< tt, tt)))) (a .1) in
+      let e = decided-none _ _ (lit< tt, (lit< tt, (lit< tt, tt))) (b .1) in
+      let f = decided-none _ _ (lit< tt, (lit< tt, tt)) (e .1) in
+      let w = whole-fits (i .propositions) k root u in (
+        record {
+          marks-there = (let x : length (i .marks) < i .sessions → ⊥ = λ h. b .0 (inl h) in omega arith);
+          lengths-there = (let x : length (i .lengths) < i .sessions → ⊥ = λ h. b .0 (inr (inl h)) in omega arith);
+          words-there = (let x : length (i .words) < i .propositions * i .sessions → ⊥ = λ h. b .0 (inr (inr h)) in omega arith);
+          few = (let x : mostPropositions < i .propositions → ⊥ = λ h. a .0 (inr (inr h)) in omega arith);
+          short = λ j h. (let x : width < lengthOf i j → ⊥ = λ g. e .0 (j, h, g) in omega arith);
+          clear = λ j p h q. record {
+            short = (let x : width < lengthOf i j → ⊥ = λ g. e .0 (j, h, g) in omega arith);
+            clear = λ c l. not-at (wordOf i j p) c (λ g. f .0 (j, h, p, q, c, l, g));
+          };
+          all = w .0;
+          fits = w .1;
+        },
+        (let x : mostSessions < i .sessions → ⊥ = λ h. a .0 (inl (inr h)) in omega arith),
+      )
+
+pub next-from : {from : ℕ} (j m : ℕ) → from ≡ j * m → from + m ≡ (j + 1) * m
+next-from {from} j m e = subst (λ (x : ℕ). from + m ≡ x * m) (sym (add-one j)) (omega (arith, suc-mul j m))
+
+-- a number that is decided stays, whatever comes after
+pub decided-early : (rows more : List Row) (a : ℕ) → Decided rows a → (a ≡ 0 → ⊥) → Decided (rows ++ more) a
+unfolding Decided
+decided-early [] more a d n = absurd (n d)
+decided-early (row ∷ rows) more a (inl p) n = inl p
+decided-early (row ∷ rows) more a (inr p) n = inr (p .0, decided-early rows more a (p .1) n)
+
+module _ (i : Input) (k : List Node) (root : Node) where
+  pub data-numbered : Numbered (dataRows (i .sessions) (i .propositions) (i .marks) (i .lengths) (i .words))
+  data-numbered = (lit< tt, (lit< tt, (lit< tt, (lit< tt, (lit< tt, tt)))))
+
+  pub decided-list : (a b : ℕ) → Decided (dataRows (i .sessions) (i .propositions) (i .marks) (i .lengths) (i .words)) a → a ≡ 0
+      → Decided (brokenList (i .propositions) k root ∷ []) b → Decided (checkRows i k root) b
+  decided-list a b p e q =
+      subst (λ (x : ℕ). Decided (checkRows i k root) (firstOf x b)) e
+      (decided-both (dataRows (i .sessions) (i .propositions) (i .marks) (i .lengths) (i .words)) (brokenList (i .propositions) k root ∷ []) a b data-numbered p q)
+
+  -- both tests passed
+  pub checkable : (a b : ℕ) → Decided (dataRows (i .sessions) (i .propositions) (i .marks) (i .lengths) (i .words)) a → a ≡ 0
+      → Decided (brokenList (i .propositions) k root ∷ []) b → b ≡ 0 → Checkable i k root × (i .sessions ≤ mostSessions)
+  checkable a b p e q f =
+      passed i k root (subst (Decided (dataRows (i .sessions) (i .propositions) (i .marks) (i .lengths) (i .words))) e p)
+      (decided-none (brokenList (i .propositions) k root) [] (lit< tt, tt) (subst (Decided (brokenList (i .propositions) k root ∷ [])) f q) .0)
+
+  pub few-propositions : (a : ℕ) → Decided (dataRows (i .sessions) (i .propositions) (i .marks) (i .lengths) (i .words)) a → a ≡ 0 → i .propositions ≤ mostNumber
+  few-propositions a p e =
+      let d = decided-none _ _ data-numbered (subst (Decided (dataRows (i .sessions) (i .propositions) (i .marks) (i .lengths) (i .words))) e p) in
+      let x : mostPropositions < i .propositions → ⊥ = λ h. d .0 (inr (inr h)) in
+      omega arith
+
+-- ---- separation, session by session
+
+module _ (i : Input) (t : Formula) where
+  separates-from : (a n : ℕ) → ((h : ℕ) → h < a + n → Agrees (session i h) t) → Separates (map (session i) (count a n)) t
+  unfolding count
+  separates-from a zero f = tt
+  separates-from a (suc n) f = (f a (omega arith), separates-from (suc a) n (λ h l. f h (omega arith)))
+
+  from-separates : (a n : ℕ) → Separates (map (session i) (count a n)) t → (h : ℕ) → a ≤ h → h < a + n → Agrees (session i h) t
+  unfolding count
+  from-separates a zero s h l g = absurd (omega arith)
+  from-separates a (suc n) s h l g =
+      ⊎-elim (λ e. subst (λ (x : ℕ). Agrees (session i x) t) e (s .0)) (λ q. from-separates (suc a) n (s .1) h (omega arith) (omega arith)) (eq-or-lt-of-le {n = a} {m = h} l)
+
+  pub all-agree : ((h : ℕ) → h < i .sessions → Agrees (session i h) t) → Separates (sessions i) t
+  all-agree f = separates-from 0 (i .sessions) (λ h l. f h (omega arith))
+
+  pub each-agrees : Separates (sessions i) t → (h : ℕ) → h < i .sessions → Agrees (session i h) t
+  each-agrees s h l = from-separates 0 (i .sessions) s h (omega arith) (omega arith)
+
+-- ---- the answers
+
+module _ (i : Input) (k : List Node) (root : Node) (c : Checkable i k root) {j : ℕ} (f : Found i k root j) where
+  formula : (t : Formula) × Spells codes k root t
+  formula = spelled (i .propositions) k (c .all) (length k) (omega arith) root (c .fits)
+
+  pub names-session : j < i .sessions → (t : Formula) × Spells codes k root t × Outcome i t (0 ∷ j ∷ [])
+  names-session h =
+      let t = formula in
+      (t .0, t .1, inr (j, record { there = h; disagrees = f .here (t .0) (t .1) h; before = f .before (t .0) (t .1) }, refl))
+
+  pub accepts-formula : i .sessions ≤ j → (t : Formula) × Spells codes k root t × Outcome i t (1 ∷ [])
+  accepts-formula h = let t = formula in (t .0, t .1, inl (all-agree i (t .0) (λ g l. f .before (t .0) (t .1) g (omega arith)), refl))

@@ -1,0 +1,72 @@
+// Whether each session's mark is what the session says of the formula.
+use crate::evaluate::eval;
+use crate::kinds::Node;
+use crate::nodes::count;
+use sequence::CharSeq;
+ghost use mathlib.Core.Path.{_≡_};
+ghost use mathlib.Core.Logic.{_↔_};
+ghost use mathlib.Core.Bool.{true};
+ghost use Prim.Native.Nat.{_≤_, _<_};
+ghost use Rattle.words.specs.Word.{At};
+ghost use Rattle.formula.specs.Kinds.{nodeOf, nodes};
+ghost use Rattle.formula.specs.Check.{recorded};
+ghost use Rattle.formula.specs.Inner.{Checkable, Found, AgreesWord};
+
+// A session of that mark and length, and a formula's word there.
+fn agrees(mark: u8, length: usize, word: u64) -> bool
+    ensures { λ r. ⌜ AgreesWord mark length word r ⌝ }
+{
+    let accepts = CharSeq {
+        length,
+        values: word,
+    }.accepts();
+    if mark == 1 {
+        return accepts;
+    }
+    if accepts {
+        return false;
+    }
+    true
+}
+
+// The first session that disagrees with the root's formula, or r.
+pub(crate) fn first_disagreeing(
+    r: usize,
+    m: usize,
+    marks: &[u8],
+    lengths: &[u8],
+    words: &[u64],
+    codes: &[u8],
+    lefts: &[u16],
+    rights: &[u16],
+    sizes: &[u8],
+    root: Node,
+) -> usize
+    requires { ⌜ Checkable (recorded r m (now marks) (now lengths) (now words)) (nodes (now codes) (now lefts) (now rights) (now sizes)) (nodeOf root) ⌝ }
+    ensures { λ j. ⌜ Found (recorded r m (now (marks .entry)) (now (lengths .entry)) (now (words .entry))) (nodes (now (codes .entry)) (now (lefts .entry)) (now (rights .entry)) (now (sizes .entry))) (nodeOf root) j ⌝ }
+{
+    let below = count(codes, lefts, rights, sizes);
+    let mut j: usize = 0;
+    let mut from: usize = 0;
+    while j < r {
+        let length = lengths[j] as usize;
+        let word = eval(
+            length,
+            words,
+            from,
+            codes,
+            lefts,
+            rights,
+            sizes,
+            below,
+            root,
+        );
+        if agrees(marks[j], length, word) {
+            from += m;
+            j += 1;
+        } else {
+            return j;
+        }
+    }
+    r
+}
