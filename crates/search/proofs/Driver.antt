@@ -24,7 +24,8 @@ use Rattle.search.specs.declared.layers.Stand.{Stand}
 use Rattle.search.specs.declared.layers.Stand.the-variants.{Going, Found, Full}
 use Rattle.search.specs.Matrix.{nothing, input, made, Makes, Fine, Readable, RowsAsk, RowsOf}
 use Rattle.search.specs.Scan.{nodeOf, candidate, leafCount, Onward, Fresh, Scanned, Safe, Stands, Asks, Starts, layerRest, ScanAsks, ScanDoes}
-use Rattle.search.specs.Layers.{Cols, cols, Holds, Room, Sound, stateOf, Stood, NodeAsks, begin, LayerAsks, LayerDoes}
+use Rattle.search.specs.Table.{Cols, cols}
+use Rattle.search.specs.Layers.{Holds, Room, Sound, stateOf, Stood, NodeAsks, begin, LayerAsks, LayerDoes}
 use Rattle.search.proofs.Matrices.{made-fine}
 use Rattle.search.proofs.Products.{place-end, at-most}
 use Rattle.search.proofs.Table.{pushed, holds-stored, holds-push, snoc-old, length-snoc}

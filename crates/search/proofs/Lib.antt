@@ -13,3 +13,4 @@ pub mod Table
 pub mod Driver
 pub mod Listing
 pub mod Sizes
+pub mod Checks

@@ -28,7 +28,8 @@ use Rattle.search.specs.declared.layers.Stand.{Stand}
 use Rattle.search.specs.declared.layers.Stand.the-variants.{Going, Found, Full}
 use Rattle.search.specs.Matrix.{nothing, input}
 use Rattle.search.specs.Scan.{leafCount, Starts, layerRest, UnaryCodes, BinaryCodes}
-use Rattle.search.specs.Layers.{Cols, cols, tableOver, Holds, Room, Sound, stateOf, keptOf, Stood, begin, LayerAsks, LayerDoes, LayersAsks, LayersDoes}
+use Rattle.search.specs.Table.{Cols, cols, tableOver}
+use Rattle.search.specs.Layers.{Holds, Room, Sound, stateOf, keptOf, Stood, begin, LayerAsks, LayerDoes, LayersAsks, LayersDoes}
 use Rattle.search.proofs.Driver.{SameLengths}
 use Rattle.search.proofs.Listing.{Begins, layer-list}
 

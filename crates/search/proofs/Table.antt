@@ -15,7 +15,9 @@ use Rattle.walk.specs.Promises.{Table}
 use Rattle.search.specs.declared.given.Given.{Given}
 use Rattle.search.specs.Matrix.{nothing, matrixAt, Fine, Stored}
 use Rattle.search.specs.Scan.{Stands}
-use Rattle.search.specs.Layers.{Cols, cols, over, tableOver, Holds}
+use Rattle.session.specs.Reading.{over}
+use Rattle.search.specs.Table.{Cols, cols, tableOver}
+use Rattle.search.specs.Layers.{Holds}
 use Rattle.search.proofs.Matrices.{length-map}
 use Rattle.search.proofs.Products.{place-end}
 

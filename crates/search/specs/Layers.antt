@@ -1,10 +1,10 @@
 -- What the functions that write the table promise each other. No public contract cites this.
 -- Assumes nothing.
 use mathlib.Core.Path.{_≡_}
-use mathlib.Core.Bool.{Bool, true, false}
-use mathlib.Core.List.{List, [], _∷_, _++_, map, flatMap, foldl}
+use mathlib.Core.Bool.{false}
+use mathlib.Core.List.{List, foldl}
 use Prim.Native.Nat.{ℕ, _+_, _-_, _*_, _^_, _≤_, _<_}
-use lib.ListN.{length, getD, drop}
+use lib.ListN.{length, getD}
 use Rattle.walk.specs.Walk.{Candidate, Ending, found, full, State, going, ended, consider, after}
 use Rattle.walk.specs.Input.{Input, Passes, offer}
 use Rattle.walk.specs.Promises.{Table}
@@ -12,33 +12,9 @@ use Rattle.search.specs.declared.given.Given.{Given}
 use Rattle.search.specs.declared.scan.Cursor.{Cursor}
 use Rattle.search.specs.declared.layers.Stand.{Stand}
 use Rattle.search.specs.declared.layers.Stand.the-variants.{Going, Found, Full}
+use Rattle.search.specs.Table.{Cols, cols, tableOver}
 use Rattle.search.specs.Matrix.{matrixAt, input, Fine}
 use Rattle.search.specs.Scan.{nodeOf, leafCount, UnaryCodes, BinaryCodes, Starts, layerRest}
-
--- the five lent slices
-pub record Cols : Type 0 where
-  pub codes : List ℕ
-  pub lefts : List ℕ
-  pub rights : List ℕ
-  pub sizes : List ℕ
-  pub matrices : List ℕ
-
-abbrev pub cols : List ℕ → List ℕ → List ℕ → List ℕ → List ℕ → Cols
-cols codes lefts rights sizes matrices = record { codes = codes; lefts = lefts; rights = rights; sizes = sizes; matrices = matrices }
-
--- new contents at the front; "in any lent slice what no rule writes stays"
-abbrev pub over : List ℕ → List ℕ → List ℕ
-over new old = new ++ drop (length new) old
-
--- the kept formulas in the slices' order, over what was there before
-abbrev pub tableOver : Table → Cols → Cols
-tableOver k t = record {
-  codes = over (map (λ c. c .node .code) k) (t .codes);
-  lefts = over (map (λ c. c .node .left) k) (t .lefts);
-  rights = over (map (λ c. c .node .right) k) (t .rights);
-  sizes = over (map (λ c. c .node .size) k) (t .sizes);
-  matrices = over (flatMap (λ c. c .matrix) k) (t .matrices);
-}
 
 -- the slices hold the table k
 pub record Holds (i : Input) (k : Table) (t₀ t : Cols) (kept : ℕ) : Type 0 where

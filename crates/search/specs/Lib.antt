@@ -1,5 +1,9 @@
--- What a reader must believe of the search.
--- `Matrix` is only for private functions: no public contract cites it.
+-- What a reader must believe of the search: Table, Refusals and Search.
+-- `Matrix`, `Scan`, `Layers` and `Checks` are only for private functions: no public contract cites them.
+pub mod Table
+pub mod Refusals
+pub mod Search
 pub mod Matrix
 pub mod Scan
 pub mod Layers
+pub mod Checks

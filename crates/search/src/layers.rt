@@ -7,7 +7,8 @@ use crate::scan::Event;
 use crate::scan::scan;
 ghost use mathlib.Core.Path.{_≡_};
 ghost use lib.ListN.{set};
-ghost use Rattle.search.specs.Layers.{cols, NodeAsks, LayerAsks, LayerDoes, LayersAsks, LayersDoes};
+ghost use Rattle.search.specs.Table.{cols};
+ghost use Rattle.search.specs.Layers.{NodeAsks, LayerAsks, LayerDoes, LayersAsks, LayersDoes};
 
 // Where the walk stands after some sizes.
 pub enum Stand {

@@ -1,6 +1,6 @@
 use Prim.Native.Nat.{_-_}
 use lib.ListN.{length}
-use Rattle.search.specs.Layers.{cols}
+use Rattle.search.specs.Table.{cols}
 use Rattle.search.proofs.Driver.{LayerLoop, layer-start, layer-scan, layer-small, layer-through, layer-found, layer-full, layer-rows, layer-node, layer-words, layer-product, layer-turn}
 use native.Mathlib.Omega.{arith}
 use borrow.Author.Needs.{needs}

@@ -1,7 +1,7 @@
 use mathlib.Core.Path.{_≡_, sym, _∙_}
 use Prim.Native.Nat.{_+_, _-_}
 use lib.ListN.{length, length-set}
-use Rattle.search.specs.Layers.{cols}
+use Rattle.search.specs.Table.{cols}
 use Rattle.search.proofs.Sizes.{SizesLoop, sizes-start, sizes-layer, sizes-turn, sizes-stops, sizes-ends, over-now}
 use native.Mathlib.Omega.{arith}
 use borrow.Author.Needs.{needs}
