@@ -14,3 +14,4 @@ pub mod Driver
 pub mod Listing
 pub mod Sizes
 pub mod Checks
+pub mod Decide
