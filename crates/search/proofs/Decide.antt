@@ -21,7 +21,7 @@ use Rattle.search.specs.Refusals.{Repeated, settingWrong, noRoom, codeWr
 use Rattle.search.specs.Checks.{GroupIs, GoodCodes, BadCodes, SettingsTold, RoomTold}
 use Rattle.search.proofs.Checks.{at-position, good-once}
 
-le-of-not-lt : {a b : ℕ} → (b < a → ⊥) → a ≤ b
+pub le-of-not-lt : {a b : ℕ} → (b < a → ⊥) → a ≤ b
 le-of-not-lt {a} {b} f = elim (decLe a b) [
   | yes h ↦ h
   | no h ↦ absurd (f (omega arith))
@@ -57,7 +57,7 @@ more (row ∷ rows) others n (inl d) h = inl d
 more (row ∷ rows) others n (inr d) h = inr (d .0, more rows others n (d .1) h)
 
 -- none of the rows is given
-abbrev NoneOf : List Row → Type 0
+abbrev pub NoneOf : List Row → Type 0
 NoneOf [] = Unit {0}
 NoneOf (row ∷ rows) = (row .given → ⊥) × NoneOf rows
 
@@ -185,3 +185,9 @@ numbers-in r m f = (
 
 pub not-one-in : (r m : ℕ) (marks lengths words : List ℕ) (k : ℕ) → Decided (dataRows r m marks lengths words) k → (k ≡ 1 → ⊥) → r ≤ limits.sessions
 not-one-in r m marks lengths words k d one = numbers-in r m (later (outsideNumbers r m) _ k d one .0) .1
+
+-- where the whole list decides 0, no row is given
+pub none-given : (i : Input) (t : Cols) → Decided (searchRows i t) 0 → NoneOf (searchRows i t)
+none-given i t d =
+    none-of (searchRows i t)
+    (λ q. omega arith, (λ q. omega arith, (λ q. omega arith, (λ q. omega arith, (λ q. omega arith, (λ q. omega arith, (λ q. omega arith, (λ q. omega arith, tt)))))))) d

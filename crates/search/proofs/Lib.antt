@@ -15,3 +15,4 @@ pub mod Listing
 pub mod Sizes
 pub mod Checks
 pub mod Decide
+pub mod Whole
