@@ -16,3 +16,4 @@ pub mod Sizes
 pub mod Checks
 pub mod Decide
 pub mod Whole
+pub mod Promises
