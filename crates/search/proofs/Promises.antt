@@ -11,9 +11,8 @@ use Rattle.sequence.proofs.Refusals.{decided-unique}
 use Rattle.session.specs.Reading.{Said}
 use Rattle.walk.specs.Walk.{Ending, found, full, none, State, going, ended, kept}
 use Rattle.walk.specs.Input.{Input, Passes, search}
-use Rattle.walk.specs.Promises.{Table, NoneBelow, Kept, again}
-use Rattle.walk.specs.Promises as walk
-use Rattle.walk.proofs.Promises.{found-smallest, none-means-none, full-needs-room, kept-distinct, walk-ends}
+use Rattle.walk.specs.Promises.{Table, again}
+use Rattle.walk.proofs.Promises as walk
 use Rattle.walk.proofs.Steady.{found-stays}
 use Rattle.formula.specs.declared.kinds.Node.{Node}
 use Rattle.formula.specs.Kinds.{nodeOf}
@@ -22,6 +21,7 @@ use Rattle.search.specs.declared.SearchAnswer.the-variants.{Found, None,
 use Rattle.search.specs.Table.{Cols, tableOver}
 use Rattle.search.specs.Refusals.{searchRows}
 use Rattle.search.specs.Search.{said, walkSaid, endSaid, foundSaid, noneSaid, fullSaid, Outcome, Searched}
+use Rattle.search.specs.Promises.{Unique, PassesWhole, Holding, FoundSmallest, NoneMeansNone, FullNeedsRoom, LargerSame}
 use Rattle.search.proofs.Whole.{search-passes}
 
 -- ---- any two results for the same input are equal
@@ -83,11 +83,99 @@ module _ {i : Input} {t : Cols} where
       (said-same a b (x .0 ∙ sym (y .0)), x .1 ∙ sym (y .1))
 
   -- (a) of document 01's "How tight the statements have to be"
-  pub search-unique : (a b : SearchAnswer) (u v : Cols) → Searched i t a u → Searched i t b v → (a ≡ b) × (u ≡ v)
-  search-unique (Refused k) (Refused l) u v p q = (ap Refused (one-number p q), p .outcome .1 ∙ sym (q .outcome .1))
-  search-unique (Refused k) (Found n x y) u v p q = absurd (omega (arith, p .outcome .0, one-number p q))
-  search-unique (Refused k) (None x y) u v p q = absurd (omega (arith, p .outcome .0, one-number p q))
-  search-unique (Refused k) (Full s x y) u v p q = absurd (omega (arith, p .outcome .0, one-number p q))
-  search-unique (Found n x y) b u v p q = same (Found n x y) b u v refl p q
-  search-unique (None x y) b u v p q = same (None x y) b u v refl p q
-  search-unique (Full s x y) b u v p q = same (Full s x y) b u v refl p q
+  unique : (a b : SearchAnswer) (u v : Cols) → Searched i t a u → Searched i t b v → (a ≡ b) × (u ≡ v)
+  unique (Refused k) (Refused l) u v p q = (ap Refused (one-number p q), p .outcome .1 ∙ sym (q .outcome .1))
+  unique (Refused k) (Found n x y) u v p q = absurd (omega (arith, p .outcome .0, one-number p q))
+  unique (Refused k) (None x y) u v p q = absurd (omega (arith, p .outcome .0, one-number p q))
+  unique (Refused k) (Full s x y) u v p q = absurd (omega (arith, p .outcome .0, one-number p q))
+  unique (Found n x y) b u v p q = same (Found n x y) b u v refl p q
+  unique (None x y) b u v p q = same (None x y) b u v refl p q
+  unique (Full s x y) b u v p q = same (Full s x y) b u v refl p q
+
+-- (a) of document 01's "How tight the statements have to be"
+pub search-unique : Unique
+search-unique i t a b u v p q = unique a b u v p q
+
+pub passes-whole : PassesWhole
+passes-whole i t d = search-passes i t d
+
+-- ---- demand 3: the walk's end is the answer's
+
+found-end : (i : Input) (n : Node) (x y : ℕ) (e : Ending) (k : Table) (m : ℕ) → search i ≡ ended e k m → foundSaid (nodeOf n) x y ≡ endSaid e m (length k)
+    → (search i ≡ ended (found (nodeOf n)) k x) × (length k ≡ y)
+found-end i n x y (found root) k m w q =
+    let v = values q in
+    let a : nodeOf n .code ≡ root .code = cc v in
+    let b : nodeOf n .left ≡ root .left = cc v in
+    let c : nodeOf n .right ≡ root .right = cc v in
+    let d : nodeOf n .size ≡ root .size = cc v in
+    let f : x ≡ m = cc v in
+    let g : y ≡ length k = cc v in
+    (w ∙ sym (ap (λ (z : ℕ). ended (found (record { code = z; left = n .left .0; right = n .right .0; size = n .size })) k x) a
+    ∙ ap (λ (z : ℕ). ended (found (record { code = root .code; left = z; right = n .right .0; size = n .size })) k x) b
+    ∙ ap (λ (z : ℕ). ended (found (record { code = root .code; left = root .left; right = z; size = n .size })) k x) c
+    ∙ ap (λ (z : ℕ). ended (found (record { code = root .code; left = root .left; right = root .right; size = z })) k x) d
+    ∙ ap (ended (found root) k) f), sym g)
+found-end i n x y (full s) k m w q = let v = values q in let z : _≡_ {A = ℕ} 0 1 = cc v in absurd (omega arith)
+found-end i n x y none k m w q = let v = values q in let z : _≡_ {A = ℕ} 0 1 = cc v in absurd (omega arith)
+
+none-end : (i : Input) (x y : ℕ) (e : Ending) (k : Table) (m : ℕ) → search i ≡ ended e k m → noneSaid x y ≡ endSaid e m (length k)
+    → (search i ≡ ended none k x) × (length k ≡ y)
+none-end i x y (found root) k m w q = let v = values q in let z : _≡_ {A = ℕ} 0 1 = cc v in absurd (omega arith)
+none-end i x y (full s) k m w q = let v = values q in let z : _≡_ {A = ℕ} 0 1 = cc v in absurd (omega arith)
+none-end i x y none k m w q =
+    let v = values q in
+    let f : x ≡ m = cc v in
+    let g : y ≡ length k = cc v in
+    (w ∙ ap (ended none k) (sym f), sym g)
+
+full-end : (i : Input) (s x y : ℕ) (e : Ending) (k : Table) (m : ℕ) → search i ≡ ended e k m → fullSaid s x y ≡ endSaid e m (length k)
+    → (search i ≡ ended (full s) k x) × (length k ≡ y)
+full-end i s x y (found root) k m w q = let v = values q in let z : _≡_ {A = ℕ} 0 1 = cc v in absurd (omega arith)
+full-end i s x y (full s′) k m w q =
+    let v = values q in
+    let d : s ≡ s′ = cc v in
+    let f : x ≡ m = cc v in
+    let g : y ≡ length k = cc v in
+    (w ∙ ap (λ (z : ℕ). ended (full z) k m) (sym d) ∙ ap (ended (full s) k) (sym f), sym g)
+full-end i s x y none k m w q = let v = values q in let z : _≡_ {A = ℕ} 0 1 = cc v in absurd (omega arith)
+
+holding : (i : Input) (t u : Cols) (n : ℕ) (e : Ending) (k : Table) (m : ℕ) → Passes i → search i ≡ ended e k m → length k ≡ n → u ≡ tableOver (kept (search i)) t
+    → Holding i t u n k
+holding i t u n e k m ok w l h = record {
+  as-many = l;
+  holds = h ∙ ap (λ (st : State (List ℕ)). tableOver (kept st) t) w;
+  formulas = walk.kept-distinct i ok e k m w;
+}
+
+pub found-smallest : FoundSmallest
+found-smallest i t u root x y w =
+    let (e, k, m, q) = walk.walk-ends i in
+    let ok = search-passes i t (w .decided) in
+    let (p, l) = found-end i root x y e k m q (w .outcome .0 ∙ ap walkSaid q) in
+    (k, holding i t u y (found (nodeOf root)) k x ok p l (w .outcome .1), walk.found-smallest i ok (nodeOf root) k x p)
+
+pub none-means-none : NoneMeansNone
+none-means-none i t u x y w =
+    let (e, k, m, q) = walk.walk-ends i in
+    let ok = search-passes i t (w .decided) in
+    let (p, l) = none-end i x y e k m q (w .outcome .0 ∙ ap walkSaid q) in
+    (k, holding i t u y none k x ok p l (w .outcome .1), walk.none-means-none i ok k x p)
+
+pub full-needs-room : FullNeedsRoom
+full-needs-room i t u s x y w =
+    let (e, k, m, q) = walk.walk-ends i in
+    let ok = search-passes i t (w .decided) in
+    let (p, l) = full-end i s x y e k m q (w .outcome .0 ∙ ap walkSaid q) in
+    (k, holding i t u y (full s) k x ok p l (w .outcome .1), walk.full-needs-room i ok s k x p)
+
+pub larger-same : LargerSame
+larger-same i t u root x y w b c hb hc t′ a v z e =
+    let (d, k, m, q) = walk.walk-ends i in
+    let (p, l) = found-end i root x y d k m q (w .outcome .0 ∙ ap walkSaid q) in
+    let later = found-stays i b c hb hc (nodeOf root) k x p in
+    let r = answered {i = again i b c} {t = t′} a v e z in
+    (
+      said-same a (Found root x y) (r .0 ∙ ap walkSaid later ∙ ap (foundSaid (nodeOf root) x) l),
+      (k, w .outcome .1 ∙ ap (λ (st : State (List ℕ)). tableOver (kept st) t) p, r .1 ∙ ap (λ (st : State (List ℕ)). tableOver (kept st) t′) later),
+    )
