@@ -44,11 +44,19 @@ fn say_answer(answer: SearchAnswer) {
     }
 }
 
+fn wide_byte(x: u8) -> u64 {
+    x as u64
+}
+
+fn wide_place(x: u16) -> u64 {
+    x as u64
+}
+
 fn say_bytes(list: &[u8]) {
     say(b" |");
     let mut i: usize = 0;
     while i < list.len() {
-        say_number(b" ", list[i] as u64);
+        say_number(b" ", wide_byte(list[i]));
         i += 1;
     }
 }
@@ -57,7 +65,7 @@ fn say_places(list: &[u16]) {
     say(b" |");
     let mut i: usize = 0;
     while i < list.len() {
-        say_number(b" ", list[i] as u64);
+        say_number(b" ", wide_place(list[i]));
         i += 1;
     }
 }

@@ -1,3 +1,6 @@
+use Prim.Native.Nat.{_-_, _≤_}
+use lib.ListN.{length}
+use mathlib.Core.Path.{_≡_}
 use native.Mathlib.Omega.{arith}
 use borrow.Author.Needs.{needs}
 use Rattle.searches.proofs.say_places.Statement.{statement}
@@ -6,12 +9,13 @@ use Rattle.searches.proofs.say_places.Reads as reads
 use Rattle.searches.proofs.say_places.Lts as lts
 use Rattle.searches.proofs.say.Reads as say-reads
 use Rattle.searches.proofs.say_number.Reads as say-number-reads
+use Rattle.searches.proofs.wide_place.Reads as wide-place-reads
 
 abbrev Inv-loop : tie.InvT-loop
-Inv-loop list i₀ t4 i = ?
+Inv-loop list i₀ t4 i = (i ≤ length list) × (length t4 ≡ 1)
 
 abbrev μ-loop : tie.MeasureT-loop
-μ-loop list i₀ t4 i = ?
+μ-loop list i₀ t4 i = length list - i
 
 slice-aggregate-say : tie.Need-slice-aggregate-say Inv-loop μ-loop
 slice-aggregate-say c = search needs
@@ -25,14 +29,14 @@ loop-holds c = search needs
 slice-aggregate-say-number : tie.Need-slice-aggregate-say-number Inv-loop μ-loop
 slice-aggregate-say-number c = search needs
 
-mul-say-number : tie.Need-mul-say-number Inv-loop μ-loop
-mul-say-number c = search needs
+mul-wide-place : tie.Need-mul-wide-place Inv-loop μ-loop
+mul-wide-place c = search needs
 
-shared-slice-read-say-number : tie.Need-shared-slice-read-say-number Inv-loop μ-loop
-shared-slice-read-say-number c = search needs
+shared-slice-read-wide-place : tie.Need-shared-slice-read-wide-place Inv-loop μ-loop
+shared-slice-read-wide-place c = search needs
 
-cast-say-number : tie.Need-cast-say-number Inv-loop μ-loop
-cast-say-number c = search needs
+wide-place-requires : tie.Need-wide-place-requires Inv-loop μ-loop
+wide-place-requires c κs = search needs
 
 say-number-requires : tie.Need-say-number-requires Inv-loop μ-loop
 say-number-requires c κs = search needs
@@ -59,9 +63,9 @@ say-places-spec =
     say-requires
     loop-holds
     slice-aggregate-say-number
-    mul-say-number
-    shared-slice-read-say-number
-    cast-say-number
+    mul-wide-place
+    shared-slice-read-wide-place
+    wide-place-requires
     say-number-requires
     add-i
     loop-less

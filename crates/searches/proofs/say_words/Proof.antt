@@ -1,3 +1,6 @@
+use Prim.Native.Nat.{_-_, _≤_}
+use lib.ListN.{length}
+use mathlib.Core.Path.{_≡_}
 use native.Mathlib.Omega.{arith}
 use borrow.Author.Needs.{needs}
 use Rattle.searches.proofs.say_words.Statement.{statement}
@@ -8,10 +11,10 @@ use Rattle.searches.proofs.say.Reads as say-reads
 use Rattle.searches.proofs.say_number.Reads as say-number-reads
 
 abbrev Inv-loop : tie.InvT-loop
-Inv-loop list i₀ t4 i = ?
+Inv-loop list i₀ t4 i = (i ≤ length list) × (length t4 ≡ 1)
 
 abbrev μ-loop : tie.MeasureT-loop
-μ-loop list i₀ t4 i = ?
+μ-loop list i₀ t4 i = length list - i
 
 slice-aggregate-say : tie.Need-slice-aggregate-say Inv-loop μ-loop
 slice-aggregate-say c = search needs
