@@ -1,0 +1,227 @@
+-- A size: what is to be kept is written at the next place, and the scan goes on after it.
+-- Assumes nothing.
+use mathlib.Core.Path.{_≡_, refl, sym, ap, ap₂, _∙_, subst}
+use mathlib.Core.Bool.{Bool, true, false}
+use mathlib.Core.List.{List, [], _∷_, _++_, foldl}
+use Prim.Native.Nat.{ℕ, suc, _+_, _-_, _*_, _^_, _≤_, _<_}
+use native.Mathlib.Omega.{arith}
+use native.Mathlib.Numerals.{add-one}
+use lib.ListN.{length, getD, set, take, length-set}
+use lib.Seq.{paste, length-paste}
+use lib.Dec.{leb}
+use borrow.Author.Tests.{le-leb, lt-leb}
+use Rattle.walk.specs.Walk.{Candidate, Ending, found, full, State, going, ended, judge, consider}
+use Rattle.walk.specs.Walk as walk
+use Rattle.walk.specs.Input.{Input, Passes, separating, offer}
+use Rattle.walk.specs.Promises.{Table}
+use Rattle.walk.proofs.Pass.{stays}
+use Rattle.search.specs.declared.given.Given.{Given}
+use Rattle.search.specs.declared.scan.Cursor.{Cursor}
+use Rattle.search.specs.declared.scan.Event.{Event}
+use Rattle.search.specs.declared.scan.Event.the-variants.{Through, New}
+use Rattle.search.specs.declared.scan.Event.the-variants as event
+use Rattle.search.specs.declared.layers.Stand.{Stand}
+use Rattle.search.specs.declared.layers.Stand.the-variants.{Going, Found, Full}
+use Rattle.search.specs.Matrix.{nothing, input, made, Makes, Fine, Readable, RowsAsk, RowsOf}
+use Rattle.search.specs.Scan.{nodeOf, candidate, leafCount, Onward, Fresh, Scanned, Safe, Stands, Asks, Starts, layerRest, ScanAsks, ScanDoes}
+use Rattle.search.specs.Table.{Cols, cols}
+use Rattle.search.specs.Layers.{Holds, Room, Sound, stateOf, Stood, NodeAsks, begin, LayerAsks, LayerDoes}
+use Rattle.search.proofs.Matrices.{made-fine}
+use Rattle.search.proofs.Products.{place-end, at-most}
+use Rattle.search.proofs.Table.{pushed, holds-stored, holds-push, snoc-old, length-snoc}
+
+-- ---- the walk's rule for a candidate that is not known
+
+module _ (i : Input) (k : Table) (n : ℕ) (x : Candidate (List ℕ)) (f : Fresh i k x) where
+  con-full : i .room ≤ length k → consider (offer i) (i .room) (going k n) x ≡ ended (full (x .node .size)) k (n + 1)
+  unfolding consider judge
+  con-full h = rw (f .rejected, f .unknown, le-leb (i .room) (length k) h, add-one)
+
+  con-kept : length k < i .room → consider (offer i) (i .room) (going k n) x ≡ going (k ++ (x ∷ [])) (n + 1)
+  unfolding consider judge
+  con-kept h = rw (f .rejected, f .unknown, lt-leb (i .room) (length k) h, add-one)
+
+-- ---- the loop's head
+
+pub record SameLengths (t t′ : Cols) : Type 0 where
+  pub codes : length (t′ .codes) ≡ length (t .codes)
+  pub lefts : length (t′ .lefts) ≡ length (t .lefts)
+  pub rights : length (t′ .rights) ≡ length (t .rights)
+  pub sizes : length (t′ .sizes) ≡ length (t .sizes)
+  pub matrices : length (t′ .matrices) ≡ length (t .matrices)
+
+-- where the size has come to
+pub record Reached (i : Input) (t₀ : Cols) (k₀ : Table) (st : State (List ℕ)) (t : Cols) (kept n : ℕ) (rest : List (Candidate (List ℕ))) : Type 0 where
+  pub table : Table
+  pub holds : Holds i table t₀ t kept
+  pub less : length k₀ ≤ length table
+  pub same : (p : ℕ) → p < length k₀ → getD table p nothing ≡ getD k₀ p nothing
+  pub is : st ≡ foldl (consider (offer i) (i .room)) (going table n) rest
+
+pub record LayerLoop (g : Given) (marks lengths words unary binary starts : List ℕ) (s : ℕ) (t : Cols) (kept tried : ℕ) (t′ : Cols) (at : Cursor) (k n : ℕ) : Type 0 where
+  pub within : n + 4294967297 * (4097 - k) ≤ tried + 35184372088832
+  pub up : kept ≤ k
+  pub kept-in : k ≤ g .room
+  pub long : SameLengths t t′
+  pub runs : (t₀ : Cols) (k₀ : Table) → Passes (input g marks lengths words unary binary) → Room g t₀ → Holds (input g marks lengths words unary binary) k₀ t₀ t kept
+      → Starts starts s (length k₀)
+      → Reached (input g marks lengths words unary binary) t₀ k₀
+      (foldl (consider (offer (input g marks lengths words unary binary)) (g .room)) (going k₀ tried)
+      (layerRest (input g marks lengths words unary binary) k₀ s starts (leafCount g) (begin starts s))) t′ k n
+      (layerRest (input g marks lengths words unary binary) k₀ s starts (leafCount g) at)
+
+pub layer-start : {g : Given} {marks lengths words unary binary starts : List ℕ} {s : ℕ} {t : Cols} {kept tried : ℕ}
+    → LayerAsks g marks lengths words unary binary starts s t kept tried
+    → LayerLoop g marks lengths words unary binary starts s t kept tried t (begin starts s) kept tried
+layer-start a = record {
+  within = omega arith;
+  up = omega arith;
+  kept-in = a .kept-in;
+  long = record { codes = refl; lefts = refl; rights = refl; sizes = refl; matrices = refl };
+  runs = λ t₀ k₀ ok room h z. record { table = k₀; holds = h; less = omega arith; same = λ p l. refl; is = refl };
+}
+
+module _ {g : Given} {marks lengths words unary binary starts : List ℕ} {s : ℕ} {t : Cols} {kept tried : ℕ} {t′ : Cols} {at : Cursor} {k n : ℕ}
+    (a : LayerAsks g marks lengths words unary binary starts s t kept tried)
+    (v : LayerLoop g marks lengths words unary binary starts s t kept tried t′ at k n) where
+  -- the words of the kept formulas, and of one more, are in the slice
+  kept-words : k * g .sessions ≤ length (t′ .matrices)
+  kept-words = omega (arith, at-most k (g .room) (g .sessions) (g .sessions) (v .kept-in) (omega arith), a .room .matrices, v .long .matrices)
+
+  layer-readable : Readable g lengths words (t′ .matrices) k
+  layer-readable = record {
+    sessions-in = a .sound .sessions-in;
+    propositions-in = a .sound .propositions-in;
+    lengths-there = a .sound .lengths-there;
+    words-there = a .sound .words-there;
+    matrices-there = kept-words;
+  }
+
+  pub layer-scan : ScanAsks g marks lengths words unary binary (t′ .matrices) k starts s at n
+  layer-scan = record {
+    asks = record {
+      readable = layer-readable;
+      marks-there = a .sound .marks-there;
+      few = omega (arith, v .kept-in, a .sound .room-in);
+      counts = omega (arith, v .within, v .kept-in, a .sound .room-in, a .counts);
+    };
+    some = a .sound .some;
+    unary-codes = a .sound .unary-codes;
+    binary-codes = a .sound .binary-codes;
+    starts-in = record { long = a .starts-in .long; below = λ p l. omega (arith, a .starts-in .below p l, v .up) };
+    size-in = a .size-in;
+  }
+
+  stands : {i : Input} {t₀ : Cols} {k₀ : Table} {st : State (List ℕ)} {rest : List (Candidate (List ℕ))} → Passes i → (r : Reached i t₀ k₀ st t′ k n rest)
+      → Stands i k₀ (r .table) (t′ .matrices) k
+  stands ok r = record { passes = ok; counted = r .holds .counted; stored = holds-stored (r .holds); less = r .less; same = r .same }
+
+  -- the fields fit their types
+  pub layer-small : {code left right : ℕ} → Makes (g .propositions) k code left right → (left < 2 ^ 16) × (right < 2 ^ 16)
+  layer-small (Makes.leaf p q x y) = (omega (arith, a .sound .propositions-in), omega arith)
+  layer-small (Makes.unary p q y) = (omega (arith, v .kept-in, a .sound .room-in), omega arith)
+  layer-small (Makes.binary p q x y) = (omega (arith, v .kept-in, a .sound .room-in), omega (arith, v .kept-in, a .sound .room-in))
+
+  -- all dropped
+  pub layer-through : {n′ : ℕ} → ScanDoes g marks lengths words unary binary (t′ .matrices) k starts s at n (Through n′)
+      → LayerDoes g marks lengths words unary binary starts s t kept tried t′ (Going n′ k)
+  layer-through w = record {
+    tried-in = omega (arith, w .safe .says, v .within, v .kept-in, a .sound .room-in);
+    up = v .up;
+    kept-in = v .kept-in;
+    runs = λ t₀ k₀ ok room h z.
+        let r = v .runs t₀ k₀ ok room h z in
+        record { table = r .table; is = r .is ∙ w .runs k₀ (r .table) (stands ok r) z .says .is; holds = r .holds };
+  }
+
+  pub layer-found : {n′ code left right : ℕ} → ScanDoes g marks lengths words unary binary (t′ .matrices) k starts s at n (event.Found n′ code left right)
+      → LayerDoes g marks lengths words unary binary starts s t kept tried t′ (Found code left right s n′ k)
+  layer-found w = record {
+    tried-in = omega (arith, w .safe .says .0, v .within, v .kept-in, a .sound .room-in);
+    up = v .up;
+    kept-in = v .kept-in;
+    runs = λ t₀ k₀ ok room h z.
+        let r = v .runs t₀ k₀ ok room h z in
+        record { table = r .table; is = r .is ∙ w .runs k₀ (r .table) (stands ok r) z .says; holds = r .holds };
+  }
+
+  pub layer-full : {n′ code left right : ℕ} {next : Cursor} → ScanDoes g marks lengths words unary binary (t′ .matrices) k starts s at n (New n′ code left right next)
+      → g .room ≤ k → LayerDoes g marks lengths words unary binary starts s t kept tried t′ (Full s (n′ + 1) k)
+  layer-full {n′} {code} {left} {right} {next} w full-up = record {
+    tried-in = omega (arith, w .safe .says .0, v .within, v .kept-in, a .sound .room-in);
+    up = v .up;
+    kept-in = v .kept-in;
+    runs = λ t₀ k₀ ok room h z.
+        let i = input g marks lengths words unary binary in
+        let r = v .runs t₀ k₀ ok room h z in
+        let p = w .runs k₀ (r .table) (stands ok r) z .says in
+        let rest = layerRest i k₀ s starts (leafCount g) next in
+        record {
+          table = r .table;
+          is = r .is ∙ p .0 .is
+              ∙ ap (λ (st : State (List ℕ)). foldl (consider (offer i) (g .room)) st rest) (con-full i (r .table) n′ _ (p .1) (omega (arith, r .holds .counted)))
+              ∙ stays (offer i) (g .room) _ (r .table) (n′ + 1) rest;
+          holds = r .holds;
+        };
+  }
+
+  -- ---- one more is kept
+
+  module _ {n′ code left right : ℕ} {next : Cursor} (w : ScanDoes g marks lengths words unary binary (t′ .matrices) k starts s at n (New n′ code left right next)) (free : k < g .room) where
+    pub layer-rows : RowsAsk g lengths words (t′ .matrices) code left right
+    layer-rows = record { kept = k; readable = layer-readable; makes = w .safe .says .1 }
+
+    pub layer-node : NodeAsks t′ k left right s
+    layer-node =
+        let (l, r) = layer-small (w .safe .says .1) in
+        record {
+          codes-in = omega (arith, a .room .codes, v .long .codes);
+          lefts-in = omega (arith, a .room .lefts, v .long .lefts);
+          rights-in = omega (arith, a .room .rights, v .long .rights);
+          sizes-in = omega (arith, a .room .sizes, v .long .sizes);
+          left-in = l;
+          right-in = r;
+          size-in = omega (arith, a .size-in);
+        }
+
+    pub layer-words : k * g .sessions + g .sessions ≤ length (t′ .matrices)
+    layer-words = omega (arith, place-end k (g .room) (g .sessions) free, a .room .matrices, v .long .matrices)
+
+    pub layer-product : k * g .sessions ≤ 131072
+    layer-product = at-most k 4096 (g .sessions) 32 (omega (arith, v .kept-in, a .sound .room-in)) (a .sound .sessions-in)
+
+    pub layer-turn : {xs : List ℕ} → RowsOf g lengths words (t′ .matrices) code left right xs
+        → LayerLoop g marks lengths words unary binary starts s t kept tried
+        (cols (set (t′ .codes) k code) (set (t′ .lefts) k left) (set (t′ .rights) k right) (set (t′ .sizes) k s) (paste (t′ .matrices) (k * g .sessions) xs (g .sessions))) next (k + 1) (n′ + 1)
+    layer-turn {xs} y = record {
+      within = omega (arith, w .safe .says .0, v .within, v .kept-in, a .sound .room-in);
+      up = omega (arith, v .up);
+      kept-in = free-in;
+      long = record {
+        codes = length-set (t′ .codes) k code ∙ v .long .codes;
+        lefts = length-set (t′ .lefts) k left ∙ v .long .lefts;
+        rights = length-set (t′ .rights) k right ∙ v .long .rights;
+        sizes = length-set (t′ .sizes) k s ∙ v .long .sizes;
+        matrices = length-paste (t′ .matrices) (k * g .sessions) xs (g .sessions) layer-words (y .long) ∙ v .long .matrices;
+      };
+      runs = λ t₀ k₀ ok room h z.
+          let i = input g marks lengths words unary binary in
+          let r = v .runs t₀ k₀ ok room h z in
+          let st = stands ok r in
+          let p = w .runs k₀ (r .table) st z .says in
+          let x = candidate i k₀ s code left right in
+          let mk : Makes (g .propositions) (length (r .table)) code left right = subst (λ (c : ℕ). Makes (g .propositions) c code left right) (r .holds .counted) (w .safe .says .1) in
+          let rest = layerRest i k₀ s starts (leafCount g) next in
+          record {
+            table = r .table ++ (x ∷ []);
+            holds = holds-push x xs (r .holds) (sym (p .1 .rows) ∙ sym (y .are marks unary binary (r .table) ok (st .stored) mk)) (y .long)
+                (made-fine i ok k₀ code left right k (w .safe .says .1)) (omega (arith, room .codes)) (omega (arith, room .lefts)) (omega (arith, room .rights)) (omega (arith, room .sizes));
+            less = omega (arith, r .less, length-snoc (r .table) x);
+            same = λ q l. snoc-old (r .table) x q (omega (arith, r .less)) ∙ r .same q l;
+            is = r .is ∙ p .0 .is
+                ∙ ap (λ (st : State (List ℕ)). foldl (consider (offer i) (g .room)) st rest) (con-kept i (r .table) n′ x (p .1) (omega (arith, r .holds .counted)));
+          };
+    }
+      where
+        free-in : k + 1 ≤ g .room
+        free-in = omega arith

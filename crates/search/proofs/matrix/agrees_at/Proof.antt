@@ -1,0 +1,25 @@
+-- `search::matrix::agrees_at` meets its contract.
+-- Assumes nothing.
+use native.Mathlib.Omega.{arith}
+use mathlib.Core.Path.{_≡_, sym, ap, _∙_}
+use mathlib.Core.Bool.{Bool, Bool·beq}
+use lib.Dec.{eqb}
+use Rattle.search.proofs.Words.{accepts-row, beq-true, beq-false}
+use borrow.Author.Needs.{needs}
+use Rattle.search.proofs.matrix.agrees_at.Statement.{statement}
+use Rattle.search.proofs.matrix.agrees_at.Tie as tie
+use Rattle.search.proofs.matrix.agrees_at.Reads as reads
+use Rattle.search.proofs.matrix.agrees_at.Lts as lts
+use Rattle.sequence.proofs.CharSeq.accepts.Reads as accepts-reads
+
+accepts-requires : tie.Need-accepts-requires
+accepts-requires c κs = search needs
+
+returns : tie.Need-returns
+returns c = beq-true _ ∙ ap (λ (b : Bool). Bool·beq b (eqb (c .before .before .args .mark) 1)) (sym (accepts-row (c .before .before .args .length) (c .before .before .args .x) _ (c .before .accepts .ensures) ∙ c .if1 .taken))
+
+returns-2 : tie.Need-returns-2
+returns-2 c = beq-false (eqb (c .before .before .args .mark) 1) ∙ ap (λ (b : Bool). Bool·beq b (eqb (c .before .before .args .mark) 1)) (sym (accepts-row (c .before .before .args .length) (c .before .before .args .x) _ (c .before .accepts .ensures) ∙ c .if1 .left))
+
+pub agrees-at-spec : {M : Type 1} → statement M
+agrees-at-spec = tie.close (tie.spec accepts-requires returns returns-2)

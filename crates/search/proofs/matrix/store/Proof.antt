@@ -1,0 +1,76 @@
+-- `search::matrix::store` meets its contract.
+-- Assumes nothing.
+use native.Mathlib.Omega.{arith}
+use mathlib.Core.Path.{_≡_, refl, ap, _∙_}
+use Prim.Native.Nat.{ℕ, _+_, _-_, _*_, _≤_, _<_}
+use lib.ListN.{length, getD, length-set}
+use lib.Seq.{paste, paste-zero, paste-suc, length-paste}
+use native.Mathlib.Numerals.{add-one}
+use borrow.Author.Needs.{needs}
+use Rattle.search.proofs.matrix.store.Statement.{statement}
+use Rattle.search.proofs.matrix.store.Tie as tie
+use Rattle.search.proofs.matrix.store.Reads as reads
+use Rattle.search.proofs.matrix.store.Lts as lts
+
+abbrev Inv-loop : tie.InvT-loop
+Inv-loop r matrices₀ rows from j₀ matrices j = (j ≤ r) × (length matrices ≡ length matrices₀) × (matrices ≡ paste matrices₀ from rows j)
+
+abbrev μ-loop : tie.MeasureT-loop
+μ-loop r matrices₀ rows from j₀ matrices j = r - j
+
+loop-holds : tie.Need-loop-holds Inv-loop μ-loop
+loop-holds c = (omega arith, refl, paste-zero (c .args .matrices .now) (c .args .from) (c .args .rows .now))
+
+mul-matrices : tie.Need-mul-matrices Inv-loop μ-loop
+mul-matrices c = search needs
+
+element-copy-out-matrices : tie.Need-element-copy-out-matrices Inv-loop μ-loop
+element-copy-out-matrices c = search needs
+
+add-matrices : tie.Need-add-matrices Inv-loop μ-loop
+add-matrices c = search needs
+
+mul-matrices-2 : tie.Need-mul-matrices-2 Inv-loop μ-loop
+mul-matrices-2 c = search needs
+
+slice-write-matrices : tie.Need-slice-write-matrices Inv-loop μ-loop
+slice-write-matrices c = omega arith
+
+add-j : tie.Need-add-j Inv-loop μ-loop
+add-j c = search needs
+
+loop-less : tie.Need-loop-less Inv-loop μ-loop
+loop-less c = search needs
+
+loop-again : tie.Need-loop-again Inv-loop μ-loop
+loop-again c =
+    let v = c .before .before .loop in
+    let a = c .before .before .before .args in (
+      omega arith,
+      length-set (v .matrices) (a .from + v .j) _ ∙ v .inv .1,
+      rw (add-one, v .inv .2) (paste-suc (a .matrices .now) (a .from) (a .rows .now) (v .j) 0 (omega arith) (omega arith)),
+    )
+
+same-length : tie.Need-same-length Inv-loop μ-loop
+same-length c = c .before .loop .inv .1
+
+returns : tie.Need-returns Inv-loop μ-loop
+returns c = let e : c .before .loop .j ≡ c .before .before .args .r = omega arith in rw e at (c .before .loop .inv .2)
+
+pub store-spec : {M : Type 1} → statement M
+store-spec =
+    tie.close
+    (tie.spec
+    Inv-loop
+    μ-loop
+    loop-holds
+    mul-matrices
+    element-copy-out-matrices
+    add-matrices
+    mul-matrices-2
+    slice-write-matrices
+    add-j
+    loop-less
+    loop-again
+    same-length
+    returns)

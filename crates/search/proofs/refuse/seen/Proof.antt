@@ -1,0 +1,53 @@
+-- `search::refuse::seen` meets its contract.
+-- Assumes nothing.
+use mathlib.Core.Path.{_≡_}
+use Prim.Native.Nat.{ℕ, _-_, _≤_, _<_}
+use lib.ListN.{getD}
+use borrow.Author.Count.{below-none, below-more}
+use native.Mathlib.Omega.{arith}
+use borrow.Author.Needs.{needs}
+use Rattle.search.proofs.refuse.seen.Statement.{statement}
+use Rattle.search.proofs.refuse.seen.Tie as tie
+use Rattle.search.proofs.refuse.seen.Reads as reads
+use Rattle.search.proofs.refuse.seen.Lts as lts
+
+abbrev Inv-loop : tie.InvT-loop
+Inv-loop codes n code i₀ i = (i ≤ n) × ((o : ℕ) → o < i → getD codes o 0 ≡ code → ⊥)
+
+abbrev μ-loop : tie.MeasureT-loop
+μ-loop codes n code i₀ i = n - i
+
+loop-holds : tie.Need-loop-holds Inv-loop μ-loop
+loop-holds c = search needs
+
+shared-slice-read-if1 : tie.Need-shared-slice-read-if1 Inv-loop μ-loop
+shared-slice-read-if1 c = search needs
+
+returns : tie.Need-returns Inv-loop μ-loop
+returns c = (c .before .before .before .loop .i, c .before .before .loop-test .taken, c .if1 .taken)
+
+add-i : tie.Need-add-i Inv-loop μ-loop
+add-i c = search needs
+
+loop-less : tie.Need-loop-less Inv-loop μ-loop
+loop-less c = search needs
+
+loop-again : tie.Need-loop-again Inv-loop μ-loop
+loop-again c = (omega arith, below-more _ _ (c .before .before .before .loop .inv .1) (c .if1 .left))
+
+returns-2 : tie.Need-returns-2 Inv-loop μ-loop
+returns-2 c = λ w. c .before .loop .inv .1 (w .0) (omega (arith, w .1)) (w .2)
+
+pub seen-spec : {M : Type 1} → statement M
+seen-spec =
+    tie.close
+    (tie.spec
+    Inv-loop
+    μ-loop
+    loop-holds
+    shared-slice-read-if1
+    returns
+    add-i
+    loop-less
+    loop-again
+    returns-2)

@@ -1,0 +1,21 @@
+-- `search::scan::leaf_code` meets its contract.
+-- Assumes nothing.
+use borrow.Author.Tests.{lt-ltb, le-ltb, eq-eqb, ne-eqb}
+use native.Mathlib.Omega.{arith}
+use borrow.Author.Needs.{needs}
+use Rattle.search.proofs.scan.leaf_code.Statement.{statement}
+use Rattle.search.proofs.scan.leaf_code.Tie as tie
+use Rattle.search.proofs.scan.leaf_code.Reads as reads
+use Rattle.search.proofs.scan.leaf_code.Lts as lts
+
+returns : tie.Need-returns
+returns c = simp (lt-ltb _ _ (c .if1 .taken))
+
+returns-2 : tie.Need-returns-2
+returns-2 c = simp (le-ltb _ _ (c .before .if1 .left), eq-eqb _ _ (c .if2 .taken))
+
+returns-3 : tie.Need-returns-3
+returns-3 c = simp (le-ltb _ _ (c .before .if1 .left), ne-eqb _ _ (c .if2 .left))
+
+pub leaf-code-spec : {M : Type 1} → statement M
+leaf-code-spec = tie.close (tie.spec returns returns-2 returns-3)

@@ -1,0 +1,50 @@
+-- `search::scan::one` meets its contract.
+-- Assumes nothing.
+use native.Mathlib.Omega.{arith}
+use mathlib.Core.Path.{_≡_, sym, _∙_}
+use Rattle.search.proofs.Judge.{one-found, one-known, one-new}
+use borrow.Author.Needs.{needs}
+use Rattle.search.proofs.scan.one.Statement.{statement}
+use Rattle.search.proofs.scan.one.Tie as tie
+use Rattle.search.proofs.scan.one.Reads as reads
+use Rattle.search.proofs.scan.one.Lts as lts
+use Rattle.search.proofs.matrix.agrees.Reads as agrees-reads
+use Rattle.search.proofs.matrix.known.Reads as known-reads
+use Rattle.search.proofs.matrix.rows_of.Reads as rows-of-reads
+
+rows-of-requires : tie.Need-rows-of-requires
+rows-of-requires c κs = search needs
+
+agrees-requires : tie.Need-agrees-requires
+agrees-requires c κs = search needs
+
+add-t17 : tie.Need-add-t17
+add-t17 c = search needs
+
+returns : tie.Need-returns
+returns c = one-found (c .before .before .before .before .before .before .before .before .pre) (c .before .before .before .rows-of .ensures) (sym (c .if1 .taken) ∙ c .before .agrees .ensures)
+
+known-requires : tie.Need-known-requires
+known-requires c κs = search needs
+
+add-t20 : tie.Need-add-t20
+add-t20 c = search needs
+
+returns-2 : tie.Need-returns-2
+returns-2 c = one-known (c .before .before .before .before .before .before .before .before .before .before .before .pre) (c .before .before .before .before .before .before .rows-of .ensures) (sym (c .before .before .before .if1 .left) ∙ c .before .before .before .before .agrees .ensures) (rw (c .if2 .taken) at (c .before .known .ensures))
+
+returns-3 : tie.Need-returns-3
+returns-3 c = one-new (c .before .before .before .before .before .before .before .before .before .before .before .pre) (c .before .before .before .before .before .before .rows-of .ensures) (sym (c .before .before .before .if1 .left) ∙ c .before .before .before .before .agrees .ensures) (rw (c .if2 .left) at (c .before .known .ensures))
+
+pub one-spec : {M : Type 1} → statement M
+one-spec =
+    tie.close
+    (tie.spec
+    rows-of-requires
+    agrees-requires
+    add-t17
+    returns
+    known-requires
+    add-t20
+    returns-2
+    returns-3)

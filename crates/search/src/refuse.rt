@@ -1,0 +1,157 @@
+// The refusals of a search: the tests of session data, with its own numbers, rooms and codes among them.
+use sequence::operators::Group;
+use sequence::operators::operator_of;
+ghost use Prim.Native.Nat.{_≤_};
+ghost use lib.ListN.{length};
+ghost use Rattle.sequence.specs.Refusals.{Decided};
+ghost use Rattle.search.specs.Table.{cols};
+ghost use Rattle.search.specs.Refusals.{searchRows};
+ghost use Rattle.search.specs.Search.{inputOf};
+ghost use Rattle.search.specs.Checks.{Told, GroupIs, SeenIn, CodesTold, SettingsTold, RoomTold};
+
+// Document 01, "Numbers": the largest room.
+const ROOM: usize = 4096;
+
+fn in_group(code: u8, unary: bool) -> bool
+    ensures { λ b. ⌜ Told (GroupIs unary code) b ⌝ }
+{
+    let group = operator_of(code).group;
+    match group {
+        Group::Unary => unary,
+        Group::Binary => !unary,
+        Group::Neither => false,
+    }
+}
+
+// Whether the code stands at one of the first n positions.
+fn seen(codes: &[u8], n: usize, code: u8) -> bool
+    requires { ⌜ n ≤ length (now codes) ⌝ }
+    ensures { λ b. ⌜ Told (SeenIn (now (codes .entry)) n code) b ⌝ }
+{
+    let mut i: usize = 0;
+    while i < n {
+        if codes[i] == code {
+            return true;
+        }
+        i += 1;
+    }
+    false
+}
+
+// Whether each code is in its group, and none is repeated.
+fn codes_good(codes: &[u8], unary: bool) -> bool
+    ensures { λ b. ⌜ CodesTold unary (now (codes .entry)) b ⌝ }
+{
+    let mut i: usize = 0;
+    while i < codes.len() {
+        let code = codes[i];
+        if in_group(code, unary) {
+            if seen(codes, i, code) {
+                return false;
+            }
+            i += 1;
+        } else {
+            return false;
+        }
+    }
+    true
+}
+
+fn settings_good(bound: usize, room: usize, constants: u8) -> bool
+    ensures { λ b. ⌜ SettingsTold bound room constants b ⌝ }
+{
+    if bound < 1 {
+        return false;
+    }
+    if session::BOUND < bound {
+        return false;
+    }
+    if room < 1 {
+        return false;
+    }
+    if ROOM < room {
+        return false;
+    }
+    if 1 < constants {
+        return false;
+    }
+    true
+}
+
+// Whether there is room for C nodes and C x r words.
+fn has_room(
+    r: usize,
+    room: usize,
+    codes: &[u8],
+    lefts: &[u16],
+    rights: &[u16],
+    sizes: &[u8],
+    matrices: &[u64],
+) -> bool
+    requires { ⌜ (r ≤ 32) × (room ≤ 4096) ⌝ }
+    ensures { λ b. ⌜ RoomTold r room
+        (cols (now (codes .entry)) (now (lefts .entry)) (now (rights .entry)) (now (sizes .entry)) (now (matrices .entry))) b ⌝ }
+{
+    if codes.len() < room {
+        return false;
+    }
+    if lefts.len() < room {
+        return false;
+    }
+    if rights.len() < room {
+        return false;
+    }
+    if sizes.len() < room {
+        return false;
+    }
+    if matrices.len() < room * r {
+        return false;
+    }
+    true
+}
+
+// 0 where no row is given, or the number of the first that is.
+pub(crate) fn refusal(
+    r: usize,
+    m: usize,
+    bound: usize,
+    room: usize,
+    constants: u8,
+    marks: &[u8],
+    lengths: &[u8],
+    words: &[u64],
+    unary: &[u8],
+    binary: &[u8],
+    codes: &[u8],
+    lefts: &[u16],
+    rights: &[u16],
+    sizes: &[u8],
+    matrices: &[u64],
+) -> u8
+    ensures { λ k. ⌜ Decided (searchRows
+        (inputOf r m bound room constants (now (marks .entry)) (now (lengths .entry)) (now (words .entry)) (now (unary .entry)) (now (binary .entry)))
+        (cols (now (codes .entry)) (now (lefts .entry)) (now (rights .entry)) (now (sizes .entry)) (now (matrices .entry)))) k ⌝ }
+{
+    let data = session::data::test(r, m, marks, lengths, words);
+    if data == 1 {
+        return 1;
+    }
+    if settings_good(bound, room, constants) {
+        if data == 3 {
+            return 3;
+        }
+        if has_room(r, room, codes, lefts, rights, sizes, matrices) {
+            if data != 0 {
+                return data;
+            }
+            if codes_good(unary, true) {
+                if codes_good(binary, false) {
+                    return 0;
+                }
+            }
+            return 7;
+        }
+        return 3;
+    }
+    2
+}
