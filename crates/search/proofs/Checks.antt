@@ -1,13 +1,11 @@
 -- The tests behind the refusals: groups of codes, codes that are repeated, settings and rooms.
 -- Assumes nothing.
-use mathlib.Core.Path.{_≡_, refl, sym, ap, _∙_, subst}
-use mathlib.Core.Logic.{_⊎_, inl, inr, ⊎-elim}
+use mathlib.Core.Path.{_≡_, sym, ap, _∙_, subst}
+use mathlib.Core.Logic.{_⊎_, ⊎-elim}
 use mathlib.Core.Bool.{Bool, true, false, not}
-use mathlib.Core.List.{List, [], _∷_, _++_, List·Memᴰ, List·Memᴰ·cases-cons, List·Memᴰ·not-nil, append-assoc}
-use Prim.Native.Nat.{ℕ, zero, suc, _+_, _*_, _≤_, _<_}
+use mathlib.Core.List.{List, [], _∷_, _++_, List·Memᴰ, List·Memᴰ·cases-cons, List·Memᴰ·not-nil}
+use Prim.Native.Nat.{ℕ, suc, _+_, _≤_, _<_}
 use native.Mathlib.Omega.{arith}
-use native.Mathlib.Nat.{eq-or-lt-of-le}
-use native.Mathlib.Numerals.{add-one}
 use native.Mathlib.Decide.{decLe}
 use lib.ListN.{length, getD, length-append, List·getD-append}
 use lib.Seq.{getD-append-seam, append-snoc}
@@ -16,8 +14,8 @@ use Rattle.session.specs.Format.{Each}
 use Rattle.session.proofs.Few.{few}
 use Rattle.walk.specs.Formula.{_∈_}
 use Rattle.walk.specs.Input.{Once}
-use Rattle.search.specs.Scan.{Codes, UnaryCodes, BinaryCodes}
-use Rattle.search.specs.Checks.{Told, GroupIs, SeenIn, GoodCodes, BadCodes, CodesTold}
+use Rattle.search.specs.Scan.{UnaryCodes, BinaryCodes}
+use Rattle.search.specs.Checks.{Told, GroupIs, SeenIn, GoodCodes}
 
 -- ---- groups
 
@@ -105,11 +103,11 @@ each-fit lo n before (c ∷ l) r f = (
     r 0 (omega arith) .0,
     r 0 (omega arith) .1,
     λ m. let (p, lt, e) = at-position before c 0 m in
-    f p (length before) lt (omega (arith, length-append before (c ∷ l)))
-    (List·getD-append before (c ∷ l) 0 p lt ∙ e ∙ sym (getD-append-seam before c l 0)),
+        f p (length before) lt (omega (arith, length-append before (c ∷ l)))
+        (List·getD-append before (c ∷ l) 0 p lt ∙ e ∙ sym (getD-append-seam before c l 0)),
   ),
   each-fit lo n (before ++ (c ∷ [])) l (λ o h. r (suc o) (omega arith))
-  (subst (λ (x : List ℕ). (p q : ℕ) → p < q → q < length x → getD x p 0 ≡ getD x q 0 → ⊥) (sym (append-snoc before c l)) f),
+      (subst (λ (x : List ℕ). (p q : ℕ) → p < q → q < length x → getD x p 0 ≡ getD x q 0 → ⊥) (sym (append-snoc before c l)) f),
 )
 
 at-most : (lo n : ℕ) (l : List ℕ) → ((o : ℕ) → o < length l → (lo ≤ getD l o 0) × (getD l o 0 < lo + n))

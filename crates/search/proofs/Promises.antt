@@ -1,15 +1,14 @@
 -- What follows of every answer of the search, from its contract and the walk's promises: one result for an input, demand 3 over the reading, and
 -- larger bounds and rooms.
 -- Assumes nothing.
-use mathlib.Core.Path.{_≡_, refl, sym, ap, ap₂, _∙_, subst}
-use mathlib.Core.List.{List, [], _∷_}
-use Prim.Native.Nat.{ℕ, _+_, _≤_, _<_}
+use mathlib.Core.Path.{_≡_, refl, sym, ap, ap₂, _∙_}
+use mathlib.Core.List.{List}
+use Prim.Native.Nat.{ℕ}
 use native.Mathlib.Omega.{arith}
 use lib.ListN.{length}
-use Rattle.sequence.specs.Refusals.{Decided}
 use Rattle.sequence.proofs.Refusals.{decided-unique}
 use Rattle.session.specs.Reading.{Said}
-use Rattle.walk.specs.Walk.{Ending, found, full, none, State, going, ended, kept}
+use Rattle.walk.specs.Walk.{Ending, found, full, none, State, ended, kept}
 use Rattle.walk.specs.Input.{Input, Passes, search}
 use Rattle.walk.specs.Promises.{Table, again}
 use Rattle.walk.proofs.Promises as walk
@@ -20,7 +19,7 @@ use Rattle.search.specs.declared.SearchAnswer.{SearchAnswer}
 use Rattle.search.specs.declared.SearchAnswer.the-variants.{Found, None, Full, Refused}
 use Rattle.search.specs.Table.{Cols, tableOver}
 use Rattle.search.specs.Refusals.{searchRows}
-use Rattle.search.specs.Search.{said, walkSaid, endSaid, foundSaid, noneSaid, fullSaid, Outcome, Searched}
+use Rattle.search.specs.Search.{said, walkSaid, endSaid, foundSaid, noneSaid, fullSaid, Searched}
 use Rattle.search.specs.Promises.{Unique, PassesWhole, Holding, FoundSmallest, NoneMeansNone, FullNeedsRoom, LargerSame}
 use Rattle.search.proofs.Whole.{search-passes}
 
@@ -110,12 +109,14 @@ found-end i n x y (found root) k m w q =
     let c : nodeOf n .right ≡ root .right = cc v in
     let d : nodeOf n .size ≡ root .size = cc v in
     let f : x ≡ m = cc v in
-    let g : y ≡ length k = cc v in
-    (w ∙ sym (ap (λ (z : ℕ). ended (found (record { code = z; left = n .left .0; right = n .right .0; size = n .size })) k x) a
-    ∙ ap (λ (z : ℕ). ended (found (record { code = root .code; left = z; right = n .right .0; size = n .size })) k x) b
-    ∙ ap (λ (z : ℕ). ended (found (record { code = root .code; left = root .left; right = z; size = n .size })) k x) c
-    ∙ ap (λ (z : ℕ). ended (found (record { code = root .code; left = root .left; right = root .right; size = z })) k x) d
-    ∙ ap (ended (found root) k) f), sym g)
+    let g : y ≡ length k = cc v in (
+      w ∙ sym (ap (λ (z : ℕ). ended (found (record { code = z; left = n .left .0; right = n .right .0; size = n .size })) k x) a
+          ∙ ap (λ (z : ℕ). ended (found (record { code = root .code; left = z; right = n .right .0; size = n .size })) k x) b
+          ∙ ap (λ (z : ℕ). ended (found (record { code = root .code; left = root .left; right = z; size = n .size })) k x) c
+          ∙ ap (λ (z : ℕ). ended (found (record { code = root .code; left = root .left; right = root .right; size = z })) k x) d
+          ∙ ap (ended (found root) k) f),
+      sym g,
+    )
 found-end i n x y (full s) k m w q = let v = values q in let z : _≡_ {A = ℕ} 0 1 = cc v in absurd (omega arith)
 found-end i n x y none k m w q = let v = values q in let z : _≡_ {A = ℕ} 0 1 = cc v in absurd (omega arith)
 
@@ -174,8 +175,7 @@ larger-same i t u root x y w b c hb hc t′ a v z e =
     let (d, k, m, q) = walk.walk-ends i in
     let (p, l) = found-end i root x y d k m q (w .outcome .0 ∙ ap walkSaid q) in
     let later = found-stays i b c hb hc (nodeOf root) k x p in
-    let r = answered {i = again i b c} {t = t′} a v e z in
-    (
+    let r = answered {i = again i b c} {t = t′} a v e z in (
       said-same a (Found root x y) (r .0 ∙ ap walkSaid later ∙ ap (foundSaid (nodeOf root) x) l),
       (k, w .outcome .1 ∙ ap (λ (st : State (List ℕ)). tableOver (kept st) t) p, r .1 ∙ ap (λ (st : State (List ℕ)). tableOver (kept st) t′) later),
     )

@@ -44,7 +44,21 @@ pub fn search(
         (cols (now (codes .exit)) (now (lefts .exit)) (now (rights .exit)) (now (sizes .exit)) (now (matrices .exit))) ⌝ }
 {
     let refused = refuse::refusal(
-        r, m, bound, room, constants, marks, lengths, words, unary, binary, codes, lefts, rights, sizes, matrices,
+        r,
+        m,
+        bound,
+        room,
+        constants,
+        marks,
+        lengths,
+        words,
+        unary,
+        binary,
+        codes,
+        lefts,
+        rights,
+        sizes,
+        matrices,
     );
     if refused != 0 {
         return SearchAnswer::Refused(refused);
@@ -57,7 +71,17 @@ pub fn search(
         constants,
     };
     let stand = layers::layers(
-        given, marks, lengths, words, unary, binary, codes, lefts, rights, sizes, matrices,
+        given,
+        marks,
+        lengths,
+        words,
+        unary,
+        binary,
+        codes,
+        lefts,
+        rights,
+        sizes,
+        matrices,
     );
     match stand {
         Stand::Going { tried, kept } => SearchAnswer::None { tried, kept },

@@ -1,22 +1,17 @@
+-- `refusal` meets its contract: the tests go through the rows in their order.
+-- Assumes nothing.
+use borrow.Author.Needs.{needs}
 use Rattle.search.specs.Table.{cols}
 use Rattle.search.specs.Search.{inputOf}
 use Rattle.search.proofs.Decide.{is-one, is-two, is-three, no-room, is-data, is-seven, is-zero, settings-fine, room-fine, unary-bad, binary-bad, codes-fine, not-one-in}
-use native.Mathlib.Omega.{arith}
-use borrow.Author.Needs.{needs}
 use Rattle.search.proofs.refuse.refusal.Statement.{statement}
 use Rattle.search.proofs.refuse.refusal.Tie as tie
-use Rattle.search.proofs.refuse.refusal.Reads as reads
-use Rattle.search.proofs.refuse.refusal.Lts as lts
-use Rattle.search.proofs.refuse.codes_good.Reads as codes-good-reads
-use Rattle.search.proofs.refuse.has_room.Reads as has-room-reads
-use Rattle.search.proofs.refuse.settings_good.Reads as settings-good-reads
-use Rattle.session.proofs.data.test.Reads as test-reads
 
 test-requires : tie.Need-test-requires
 test-requires c κs = search needs
 
 returns : tie.Need-returns
-returns c = 
+returns c =
     let a = c .before .before .before .before .before .before .before .before .before .before .before .before .args in
     let i = inputOf (a .r) (a .m) (a .bound) (a .room) (a .constants) (a .marks .now) (a .lengths .now) (a .words .now) (a .unary .now) (a .binary .now) in
     let t = cols (a .codes .now) (a .lefts .now) (a .rights .now) (a .sizes .now) (a .matrices .now) in
@@ -26,19 +21,19 @@ settings-good-requires : tie.Need-settings-good-requires
 settings-good-requires c κs = search needs
 
 returns-2 : tie.Need-returns-2
-returns-2 c = 
+returns-2 c =
     let a = c .before .before .before .before .before .before .before .before .before .before .before .before .before .before .before .args in
     let i = inputOf (a .r) (a .m) (a .bound) (a .room) (a .constants) (a .marks .now) (a .lengths .now) (a .words .now) (a .unary .now) (a .binary .now) in
     let t = cols (a .codes .now) (a .lefts .now) (a .rights .now) (a .sizes .now) (a .matrices .now) in
     is-three i t _ (c .before .before .before .before .test .ensures) (c .before .before .before .if1 .left) (settings-fine i (rw (c .before .if2 .taken) at (c .before .before .settings-good .ensures))) (c .if3 .taken)
 
 has-room-requires : tie.Need-has-room-requires
-has-room-requires c κs = 
+has-room-requires c κs =
     let a = c .before .before .before .before .before .before .before .before .before .before .before .before .before .before .before .args in
     (not-one-in (a .r) (a .m) (a .marks .now) (a .lengths .now) (a .words .now) _ (c .before .before .before .before .test .ensures) (c .before .before .before .if1 .left), (rw (c .before .if2 .taken) at (c .before .before .settings-good .ensures)) .3)
 
 returns-3 : tie.Need-returns-3
-returns-3 c = 
+returns-3 c =
     let a = c .before .before .before .before .before .before .before .before .before .before .before .before .before .before .before .before .before .before .args in
     let i = inputOf (a .r) (a .m) (a .bound) (a .room) (a .constants) (a .marks .now) (a .lengths .now) (a .words .now) (a .unary .now) (a .binary .now) in
     let t = cols (a .codes .now) (a .lefts .now) (a .rights .now) (a .sizes .now) (a .matrices .now) in
@@ -51,35 +46,35 @@ codes-good-requires-2 : tie.Need-codes-good-requires-2
 codes-good-requires-2 c κs = search needs
 
 returns-4 : tie.Need-returns-4
-returns-4 c = 
+returns-4 c =
     let a = c .before .before .before .before .before .before .before .before .before .before .before .before .before .before .before .before .before .before .before .before .before .before .args in
     let i = inputOf (a .r) (a .m) (a .bound) (a .room) (a .constants) (a .marks .now) (a .lengths .now) (a .words .now) (a .unary .now) (a .binary .now) in
     let t = cols (a .codes .now) (a .lefts .now) (a .rights .now) (a .sizes .now) (a .matrices .now) in
     is-zero i t _ (c .before .before .before .before .before .before .before .before .before .before .before .test .ensures) (c .before .before .before .before .before .before .before .before .before .before .if1 .left) (settings-fine i (rw (c .before .before .before .before .before .before .before .before .if2 .taken) at (c .before .before .before .before .before .before .before .before .before .settings-good .ensures))) (c .before .before .before .before .before .before .before .if3 .left) (room-fine i t (rw (c .before .before .before .before .before .if4 .taken) at (c .before .before .before .before .before .before .has-room .ensures))) (c .before .before .before .before .if5 .left) (codes-fine i (rw (c .before .before .if6 .taken) at (c .before .before .before .codes-good .ensures)) (rw (c .if7 .taken) at (c .before .codes-good2 .ensures)))
 
 returns-5 : tie.Need-returns-5
-returns-5 c = 
+returns-5 c =
     let a = c .before .before .before .before .before .before .before .before .before .before .before .before .before .before .before .before .before .before .before .before .before .before .args in
     let i = inputOf (a .r) (a .m) (a .bound) (a .room) (a .constants) (a .marks .now) (a .lengths .now) (a .words .now) (a .unary .now) (a .binary .now) in
     let t = cols (a .codes .now) (a .lefts .now) (a .rights .now) (a .sizes .now) (a .matrices .now) in
     is-seven i t _ (c .before .before .before .before .before .before .before .before .before .before .before .test .ensures) (c .before .before .before .before .before .before .before .before .before .before .if1 .left) (settings-fine i (rw (c .before .before .before .before .before .before .before .before .if2 .taken) at (c .before .before .before .before .before .before .before .before .before .settings-good .ensures))) (c .before .before .before .before .before .before .before .if3 .left) (room-fine i t (rw (c .before .before .before .before .before .if4 .taken) at (c .before .before .before .before .before .before .has-room .ensures))) (c .before .before .before .before .if5 .left) (binary-bad i (rw (c .if7 .left) at (c .before .codes-good2 .ensures)))
 
 returns-6 : tie.Need-returns-6
-returns-6 c = 
+returns-6 c =
     let a = c .before .before .before .before .before .before .before .before .before .before .before .before .before .before .before .before .before .before .before .before .args in
     let i = inputOf (a .r) (a .m) (a .bound) (a .room) (a .constants) (a .marks .now) (a .lengths .now) (a .words .now) (a .unary .now) (a .binary .now) in
     let t = cols (a .codes .now) (a .lefts .now) (a .rights .now) (a .sizes .now) (a .matrices .now) in
     is-seven i t _ (c .before .before .before .before .before .before .before .before .before .test .ensures) (c .before .before .before .before .before .before .before .before .if1 .left) (settings-fine i (rw (c .before .before .before .before .before .before .if2 .taken) at (c .before .before .before .before .before .before .before .settings-good .ensures))) (c .before .before .before .before .before .if3 .left) (room-fine i t (rw (c .before .before .before .if4 .taken) at (c .before .before .before .before .has-room .ensures))) (c .before .before .if5 .left) (unary-bad i (rw (c .if6 .left) at (c .before .codes-good .ensures)))
 
 returns-7 : tie.Need-returns-7
-returns-7 c = 
+returns-7 c =
     let a = c .before .before .before .before .before .before .before .before .before .before .before .before .before .before .before .before .before .args in
     let i = inputOf (a .r) (a .m) (a .bound) (a .room) (a .constants) (a .marks .now) (a .lengths .now) (a .words .now) (a .unary .now) (a .binary .now) in
     let t = cols (a .codes .now) (a .lefts .now) (a .rights .now) (a .sizes .now) (a .matrices .now) in
     no-room i t _ (c .before .before .before .before .before .before .test .ensures) (c .before .before .before .before .before .if1 .left) (settings-fine i (rw (c .before .before .before .if2 .taken) at (c .before .before .before .before .settings-good .ensures))) (c .before .before .if3 .left) (rw (c .if4 .left) at (c .before .has-room .ensures))
 
 returns-8 : tie.Need-returns-8
-returns-8 c = 
+returns-8 c =
     let a = c .before .before .before .before .before .before .before .before .before .before .before .before .before .before .args in
     let i = inputOf (a .r) (a .m) (a .bound) (a .room) (a .constants) (a .marks .now) (a .lengths .now) (a .words .now) (a .unary .now) (a .binary .now) in
     let t = cols (a .codes .now) (a .lefts .now) (a .rights .now) (a .sizes .now) (a .matrices .now) in
