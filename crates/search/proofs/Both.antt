@@ -1,26 +1,25 @@
 -- One binary operator over a pair: both orders where it doesn't commute, or the second one alone.
 -- Assumes nothing.
-use mathlib.Core.Path.{_≡_, refl, sym, ap, ap₂, _∙_, subst}
-use mathlib.Core.Bool.{Bool, true, false, cond}
-use mathlib.Core.List.{List, [], _∷_, _++_}
+use mathlib.Core.Path.{_≡_, refl, sym, ap, _∙_, subst}
+use mathlib.Core.Bool.{Bool, true, false}
+use mathlib.Core.List.{List, [], _∷_}
 use Prim.Native.Nat.{ℕ, _+_, _≤_, _<_}
 use native.Mathlib.Omega.{arith}
-use lib.ListN.{length, drop}
+use lib.ListN.{length}
 use Rattle.sequence.specs.declared.operators.Operator.{Operator}
-use Rattle.sequence.specs.Operators.{Unary, Binary, unaryCode, binaryCode, commutes}
+use Rattle.sequence.specs.Operators.{Unary, unaryCode, commutes}
 use Rattle.sequence.specs.Table.{Listed}
-use Rattle.walk.specs.Walk.{Candidate}
 use Rattle.walk.specs.Input.{Input, binaryOf}
 use Rattle.walk.specs.Promises.{Table}
 use Rattle.walk.proofs.Nodes.{binary-of}
 use Rattle.search.specs.declared.given.Given.{Given}
 use Rattle.search.specs.declared.scan.Cursor.{Cursor}
 use Rattle.search.specs.declared.scan.Event.{Event}
-use Rattle.search.specs.declared.scan.Event.the-variants.{Through, Found, New}
+use Rattle.search.specs.declared.scan.Event.the-variants.{Through}
 use Rattle.search.specs.Matrix.{input, Makes}
-use Rattle.search.specs.Scan.{candidate, both, bothRest, Onward, Scanned, Safe, Stands, Asks, OneAsks, OneDoes, SamePair, NextBoth, BothAsks, BothDoes}
+use Rattle.search.specs.Scan.{candidate, both, Asks, OneAsks, OneDoes, NextBoth, BothAsks, BothDoes}
 use Rattle.search.proofs.Matrices.{binary-code}
-use Rattle.search.proofs.Onward.{Stops, safe-more, onward-refl, onward-as, onward-through, stop-part, last-part, relabel}
+use Rattle.search.proofs.Onward.{Stops, safe-more, onward-refl, onward-through, stop-part, last-part, relabel}
 
 -- the table's mark is the operator's
 unary-low : (op : Unary) → unaryCode op < 5

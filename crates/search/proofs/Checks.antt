@@ -1,13 +1,11 @@
 -- The tests behind the refusals: groups of codes, codes that are repeated, settings and rooms.
 -- Assumes nothing.
-use mathlib.Core.Path.{_≡_, refl, sym, ap, _∙_, subst}
-use mathlib.Core.Logic.{_⊎_, inl, inr, ⊎-elim}
+use mathlib.Core.Path.{_≡_, sym, ap, _∙_, subst}
+use mathlib.Core.Logic.{_⊎_, ⊎-elim}
 use mathlib.Core.Bool.{Bool, true, false, not}
-use mathlib.Core.List.{List, [], _∷_, _++_, List·Memᴰ, List·Memᴰ·cases-cons, List·Memᴰ·not-nil, append-assoc}
-use Prim.Native.Nat.{ℕ, zero, suc, _+_, _*_, _≤_, _<_}
+use mathlib.Core.List.{List, [], _∷_, _++_, List·Memᴰ, List·Memᴰ·cases-cons, List·Memᴰ·not-nil}
+use Prim.Native.Nat.{ℕ, suc, _+_, _≤_, _<_}
 use native.Mathlib.Omega.{arith}
-use native.Mathlib.Nat.{eq-or-lt-of-le}
-use native.Mathlib.Numerals.{add-one}
 use native.Mathlib.Decide.{decLe}
 use lib.ListN.{length, getD, length-append, List·getD-append}
 use lib.Seq.{getD-append-seam, append-snoc}
@@ -16,8 +14,8 @@ use Rattle.session.specs.Format.{Each}
 use Rattle.session.proofs.Few.{few}
 use Rattle.walk.specs.Formula.{_∈_}
 use Rattle.walk.specs.Input.{Once}
-use Rattle.search.specs.Scan.{Codes, UnaryCodes, BinaryCodes}
-use Rattle.search.specs.Checks.{Told, GroupIs, SeenIn, GoodCodes, BadCodes, CodesTold}
+use Rattle.search.specs.Scan.{UnaryCodes, BinaryCodes}
+use Rattle.search.specs.Checks.{Told, GroupIs, SeenIn, GoodCodes}
 
 -- ---- groups
 

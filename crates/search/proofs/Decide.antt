@@ -1,25 +1,19 @@
 -- The refusals in their order: the session's number for its data, with the search's own rows among them.
 -- Assumes nothing.
-use mathlib.Core.Path.{_≡_, refl, sym, ap, _∙_, subst}
+use mathlib.Core.Path.{_≡_, refl}
 use mathlib.Core.Logic.{_⊎_, inl, inr, ⊎-elim}
-use mathlib.Core.Bool.{Bool, true, false}
+use mathlib.Core.Bool.{true, false}
 use mathlib.Core.List.{List, [], _∷_, _++_}
-use Prim.Native.Nat.{ℕ, zero, suc, _+_, _*_, _≤_, _<_}
+use Prim.Native.Nat.{ℕ, _+_, _≤_, _<_}
 use native.Mathlib.Omega.{arith}
 use native.Mathlib.Decide.{decLe}
-use lib.ListN.{length, getD}
-use Rattle.words.specs.Word.{width, Wf, At}
-use Rattle.words.proofs.At.{not-at}
 use Rattle.sequence.specs.Limits as limits
-use Rattle.sequence.specs.Operators.{Unary, Binary, unaryCode, binaryCode}
 use Rattle.sequence.specs.Refusals.{Row, Decided}
 use Rattle.session.specs.Data.{outsideNumbers, tooShort, tooLong, bitAbove, markWrong, dataRows}
-use Rattle.walk.specs.Formula.{_∈_}
-use Rattle.walk.specs.Input.{Input, Passes, lengthOf, markOf, wordOf, Once}
+use Rattle.walk.specs.Input.{Input}
 use Rattle.search.specs.Table.{Cols}
-use Rattle.search.specs.Refusals.{Repeated, settingWrong, noRoom, codeWrong, searchRows}
-use Rattle.search.specs.Checks.{GroupIs, GoodCodes, BadCodes, SettingsTold, RoomTold}
-use Rattle.search.proofs.Checks.{at-position, good-once}
+use Rattle.search.specs.Refusals.{settingWrong, noRoom, codeWrong, searchRows}
+use Rattle.search.specs.Checks.{GoodCodes, BadCodes, SettingsTold, RoomTold}
 
 pub le-of-not-lt : {a b : ℕ} → (b < a → ⊥) → a ≤ b
 le-of-not-lt {a} {b} f = elim (decLe a b) [

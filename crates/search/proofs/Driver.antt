@@ -1,34 +1,29 @@
 -- A size: what is to be kept is written at the next place, and the scan goes on after it.
 -- Assumes nothing.
-use mathlib.Core.Path.{_≡_, refl, sym, ap, ap₂, _∙_, subst}
-use mathlib.Core.Bool.{Bool, true, false}
+use mathlib.Core.Path.{_≡_, refl, sym, ap, _∙_, subst}
 use mathlib.Core.List.{List, [], _∷_, _++_, foldl}
-use Prim.Native.Nat.{ℕ, suc, _+_, _-_, _*_, _^_, _≤_, _<_}
+use Prim.Native.Nat.{ℕ, _+_, _-_, _*_, _^_, _≤_, _<_}
 use native.Mathlib.Omega.{arith}
 use native.Mathlib.Numerals.{add-one}
-use lib.ListN.{length, getD, set, take, length-set}
+use lib.ListN.{length, getD, set, length-set}
 use lib.Seq.{paste, length-paste}
-use lib.Dec.{leb}
 use borrow.Author.Tests.{le-leb, lt-leb}
-use Rattle.walk.specs.Walk.{Candidate, Ending, found, full, State, going, ended, judge, consider}
-use Rattle.walk.specs.Walk as walk
-use Rattle.walk.specs.Input.{Input, Passes, separating, offer}
+use Rattle.walk.specs.Walk.{Candidate, full, State, going, ended, judge, consider}
+use Rattle.walk.specs.Input.{Input, Passes, offer}
 use Rattle.walk.specs.Promises.{Table}
 use Rattle.walk.proofs.Pass.{stays}
 use Rattle.search.specs.declared.given.Given.{Given}
 use Rattle.search.specs.declared.scan.Cursor.{Cursor}
-use Rattle.search.specs.declared.scan.Event.{Event}
 use Rattle.search.specs.declared.scan.Event.the-variants.{Through, New}
 use Rattle.search.specs.declared.scan.Event.the-variants as event
-use Rattle.search.specs.declared.layers.Stand.{Stand}
 use Rattle.search.specs.declared.layers.Stand.the-variants.{Going, Found, Full}
-use Rattle.search.specs.Matrix.{nothing, input, made, Makes, Fine, Readable, RowsAsk, RowsOf}
-use Rattle.search.specs.Scan.{nodeOf, candidate, leafCount, Onward, Fresh, Scanned, Safe, Stands, Asks, Starts, layerRest, ScanAsks, ScanDoes}
+use Rattle.search.specs.Matrix.{nothing, input, Makes, Readable, RowsAsk, RowsOf}
+use Rattle.search.specs.Scan.{candidate, leafCount, Fresh, Stands, Starts, layerRest, ScanAsks, ScanDoes}
 use Rattle.search.specs.Table.{Cols, cols}
-use Rattle.search.specs.Layers.{Holds, Room, Sound, stateOf, Stood, NodeAsks, begin, LayerAsks, LayerDoes}
+use Rattle.search.specs.Layers.{Holds, Room, NodeAsks, begin, LayerAsks, LayerDoes}
 use Rattle.search.proofs.Matrices.{made-fine}
 use Rattle.search.proofs.Products.{place-end, at-most}
-use Rattle.search.proofs.Table.{pushed, holds-stored, holds-push, snoc-old, length-snoc}
+use Rattle.search.proofs.Table.{holds-stored, holds-push, snoc-old, length-snoc}
 
 -- ---- the walk's rule for a candidate that is not known
 

@@ -2,23 +2,21 @@
 -- Assumes nothing.
 use mathlib.Core.Path.{_≡_, refl, sym, ap, ap₂, _∙_, subst}
 use mathlib.Core.Bool.{Bool, true, false}
-use mathlib.Core.List.{List, [], _∷_, foldl}
-use Prim.Native.Nat.{ℕ, suc, _+_, _*_, _≤_, _<_}
+use mathlib.Core.List.{List}
+use Prim.Native.Nat.{ℕ, _+_}
 use native.Mathlib.Omega.{arith}
 use native.Mathlib.Numerals.{add-one}
-use lib.ListN.{length, getD, take}
-use lib.Dec.{leb}
+use lib.ListN.{length, take}
 use borrow.Author.Tests.{lt-ltb, le-ltb}
-use Rattle.walk.specs.Walk.{Candidate, State, Ending, found, full, going, ended, count, judge, consider}
+use Rattle.walk.specs.Walk.{Candidate, found, going, ended, count, judge, consider}
 use Rattle.walk.specs.Walk as walk
-use Rattle.walk.specs.Input.{Input, Passes, unaryOf, binaryOf, every, separating, offer}
+use Rattle.walk.specs.Input.{Input, unaryOf, binaryOf, every, separating, offer}
 use Rattle.walk.specs.Promises.{Table}
 use Rattle.search.specs.declared.given.Given.{Given}
 use Rattle.search.specs.declared.scan.Cursor.{Cursor}
-use Rattle.search.specs.declared.scan.Event.{Event}
 use Rattle.search.specs.declared.scan.Event.the-variants.{Through, Found, New}
-use Rattle.search.specs.Matrix.{nothing, matrixAt, input, Stored, made, Makes, RowsOf, agreesAt, Known}
-use Rattle.search.specs.Scan.{candidate, Onward, Fresh, Scanned, Safe, Stands, OneAsks, OneDoes}
+use Rattle.search.specs.Matrix.{nothing, input, made, Makes, RowsOf, agreesAt, Known}
+use Rattle.search.specs.Scan.{candidate, Stands, OneAsks, OneDoes}
 use Rattle.search.proofs.Matrices.{agrees-separating, known-walk}
 
 -- ---- the walk's rule for one candidate

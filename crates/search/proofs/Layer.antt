@@ -1,12 +1,10 @@
 -- The candidates of a size from a cursor on: leaves; or unary operators, then pairs.
 -- Assumes nothing.
-use mathlib.Core.Path.{_≡_, refl, sym, ap, ap₂, _∙_, subst}
-use mathlib.Core.Bool.{Bool, true, false, cond}
-use mathlib.Core.List.{List, [], _∷_, _++_}
-use Prim.Native.Nat.{ℕ, zero, suc, _+_, _-_, _*_, _/_, _≤_, _<_}
+use mathlib.Core.Path.{_≡_, refl, sym, subst}
+use mathlib.Core.List.{List, _++_}
+use Prim.Native.Nat.{ℕ, zero, suc, _+_, _-_, _≤_}
 use native.Mathlib.Omega.{arith}
-use lib.ListN.{length, getD, drop}
-use lib.Dec.{eqb}
+use lib.ListN.{getD}
 use borrow.Author.Tests.{eq-eqb, ne-eqb}
 use Rattle.walk.specs.Walk.{Candidate}
 use Rattle.walk.specs.Input.{Input}
@@ -14,10 +12,10 @@ use Rattle.walk.specs.Promises.{Table}
 use Rattle.search.specs.declared.given.Given.{Given}
 use Rattle.search.specs.declared.scan.Cursor.{Cursor}
 use Rattle.search.specs.declared.scan.Event.{Event}
-use Rattle.search.specs.declared.scan.Event.the-variants.{Through, Found, New}
+use Rattle.search.specs.declared.scan.Event.the-variants.{Through}
 use Rattle.search.specs.Matrix.{input}
-use Rattle.search.specs.Scan.{leafCount, unaryRest, splitsRest, seedsRest, firstPair, layerRest, Onward, Scanned, Safe, Stands, Asks, Starts, SplitsAsks, SplitsDoes, UnaryAsks, UnaryDoes, SeedsAsks, SeedsDoes, ScanAsks, ScanDoes}
-use Rattle.search.proofs.Onward.{Stops, safe-more, onward-refl, onward-as, onward-through, stop-part, last-part, relabel}
+use Rattle.search.specs.Scan.{leafCount, unaryRest, splitsRest, seedsRest, firstPair, layerRest, Scanned, SplitsAsks, SplitsDoes, UnaryAsks, UnaryDoes, SeedsAsks, SeedsDoes, ScanAsks, ScanDoes}
+use Rattle.search.proofs.Onward.{Stops, safe-more, onward-refl, onward-through, stop-part, last-part, relabel}
 use Rattle.search.proofs.PairLoops.{asks-less}
 
 module _ (i : Input) (k : Table) (s : ℕ) (starts : List ℕ) (leaves : ℕ) where

@@ -1,3 +1,4 @@
+-- The laws behind the proofs, by subject.
 pub mod Words
 pub mod Arrays
 pub mod Products

@@ -1,25 +1,23 @@
 -- The candidates of a size by places are the walk's, in its order.
 -- Assumes nothing.
 use mathlib.Core.Path.{_≡_, refl, sym, ap, ap₂, _∙_, subst}
-use mathlib.Core.Bool.{Bool, true, false, cond, not}
+use mathlib.Core.Bool.{Bool, true, false, cond}
 use mathlib.Core.List.{List, [], _∷_, _++_, map}
-use Prim.Native.Nat.{ℕ, zero, suc, _+_, _-_, _*_, _/_, _≤_, _<_}
+use Prim.Native.Nat.{ℕ, zero, suc, _+_, _-_, _/_, _≤_, _<_}
 use native.Mathlib.Omega.{arith}
 use native.Mathlib.Numerals.{add-one}
-use lib.ListN.{length, getD, drop}
-use lib.Dec.{eqb, ltb}
+use lib.ListN.{length, getD}
+use lib.Dec.{eqb}
 use borrow.Author.Tests.{lt-ltb, le-ltb, eq-eqb, ne-eqb}
-use Rattle.sequence.specs.Operators.{Unary, Binary, unaryCode, binaryCode, commutes}
+use Rattle.sequence.specs.Operators.{commutes}
 use Rattle.walk.specs.Formula.{Leaf, proposition, constant}
-use Rattle.walk.specs.Walk.{Candidate, Placed, each, count, leftSizes, seed, unaryOn, binaryOn, orders, layer}
+use Rattle.walk.specs.Walk.{Candidate, each, count, leftSizes, seed, unaryOn, binaryOn, orders, layer}
 use Rattle.walk.specs.Walk as walk
-use Rattle.walk.specs.Input.{Input, unaryOf, binaryOf, leaves, constantsIf, leafRow, rows, offer}
+use Rattle.walk.specs.Input.{Input, unaryOf, binaryOf, leaves, constantsIf, offer}
 use Rattle.walk.specs.Promises.{Table}
 use Rattle.walk.proofs.Places.{sizeAt, placed, Split, unary-places, pair-places}
-use Rattle.search.specs.declared.given.Given.{Given}
-use Rattle.search.specs.declared.scan.Cursor.{Cursor}
-use Rattle.search.specs.Matrix.{nothing, matrixAt, input, leafOf, made}
-use Rattle.search.specs.Scan.{resume, candidate, both, row, column, pairs, split, unaryRow, leafAt, leafCode, leafLeft, leafCount, UnaryCodes, BinaryCodes, unaryRest, splitsRest, seedsRest, firstPair, layerRest}
+use Rattle.search.specs.Matrix.{nothing, leafOf, made}
+use Rattle.search.specs.Scan.{resume, candidate, both, pairs, split, unaryRow, leafAt, UnaryCodes, BinaryCodes, seedsRest, layerRest}
 use Rattle.search.specs.Layers.{begin}
 use Rattle.search.proofs.Matrices.{unary-code, binary-code}
 use Rattle.search.proofs.Onward.{resume-fresh}

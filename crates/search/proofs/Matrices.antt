@@ -1,19 +1,19 @@
 -- A candidate's rows as a list: they are the walk's matrix, and the program's tests of them are the walk's.
 -- Assumes nothing.
 use mathlib.Core.Path.{_≡_, refl, sym, ap, ap₂, _∙_, subst}
-use mathlib.Core.Bool.{Bool, true, false, _&&_, _||_, not, cond, Bool·beq, true≢false}
+use mathlib.Core.Bool.{Bool, true, false, _&&_, _||_, not, cond, Bool·beq}
 use mathlib.Core.List.{List, [], _∷_, map}
 use Prim.Native.Nat.{ℕ, zero, suc, _+_, _-_, _*_, _≤_, _<_}
 use native.Mathlib.Omega.{arith}
 use native.Mathlib.Numerals.{add-one}
-use lib.ListN.{length, getD, take, drop}
+use lib.ListN.{length, getD, take}
 use lib.Seq.{ext-getD, length-take-le, getD-take}
-use lib.Dec.{eqb, ltb}
-use borrow.Author.Tests.{eq-eqb, ne-eqb, lt-ltb, le-ltb, eqb-true}
-use Rattle.words.specs.Word.{Wf, Means}
-use Rattle.sequence.specs.Operators.{Unary, Binary, unaryCode, binaryCode}
-use Rattle.walk.specs.Formula.{Leaf, proposition, constant}
-use Rattle.walk.specs.Walk.{Candidate, count}
+use lib.Dec.{eqb}
+use borrow.Author.Tests.{lt-ltb, le-ltb}
+use Rattle.words.specs.Word.{Wf}
+use Rattle.sequence.specs.Operators.{unaryCode, binaryCode}
+use Rattle.walk.specs.Formula.{proposition, constant}
+use Rattle.walk.specs.Walk.{count}
 use Rattle.walk.specs.Walk as walk
 use Rattle.walk.specs.Rows.{unaryRow, binaryRow, constantRow, acceptsRow}
 use Rattle.walk.specs.Input.{Input, Passes, lengthOf, markOf, wordOf, unaryOf, binaryOf, row, rows, leafRow, sameRows, every, separating, offer}
@@ -22,7 +22,7 @@ use Rattle.walk.proofs.Reading.{row-rows, lawful}
 use Rattle.walk.proofs.Rows.{unary-row-means, binary-row-means, constant-row-means}
 use Rattle.search.proofs.Products.{place-end}
 use Rattle.search.specs.declared.given.Given.{Given}
-use Rattle.search.specs.Matrix.{UnaryRows, BinaryRows, LeafRows, leafWord, nothing, matrixAt, input, Fine, Stored, leafOf, made, Makes, RowsAsk, RowsOf, agreesAt, EqualRows, SameAt, Known}
+use Rattle.search.specs.Matrix.{UnaryRows, BinaryRows, LeafRows, nothing, matrixAt, input, Fine, Stored, leafOf, made, Makes, RowsAsk, RowsOf, agreesAt, EqualRows, Known}
 
 -- ---- the rows
 

@@ -1,18 +1,17 @@
 -- A scan in parts: what a part of the candidates comes to is what all of them come to, as far as it goes.
 -- Assumes nothing.
-use mathlib.Core.Path.{_≡_, refl, sym, ap, ap₂, _∙_, subst}
-use mathlib.Core.Logic.{_⊎_, inl, inr}
+use mathlib.Core.Path.{_≡_, refl, sym, ap, _∙_}
+use mathlib.Core.Logic.{inl, inr}
 use mathlib.Core.Bool.{Bool, true, false, cond}
-use mathlib.Core.List.{List, [], _∷_, _++_, map, foldl, foldl-append}
+use mathlib.Core.List.{List, [], _∷_, _++_, foldl, foldl-append}
 use Prim.Native.Nat.{ℕ, suc, _+_, _-_, _≤_, _<_}
 use native.Mathlib.Omega.{arith}
 use native.Mathlib.Numerals.{add-one}
-use lib.ListN.{length, getD, drop}
 use lib.Dec.{ltb}
 use borrow.Author.Tests.{lt-ltb, le-ltb, ltb-true, ltb-false}
 use denote.Enum.Declared.{tagOf}
 use types.Run.{OneOf}
-use Rattle.walk.specs.Walk.{Candidate, State, Ending, found, going, ended, each, count, consider}
+use Rattle.walk.specs.Walk.{Candidate, State, going, each, count, consider}
 use Rattle.walk.specs.Input.{Input, offer}
 use Rattle.walk.specs.Promises.{Table}
 use Rattle.walk.proofs.Pass.{stays}
@@ -20,8 +19,7 @@ use Rattle.search.specs.declared.scan.Cursor.{Cursor}
 use Rattle.search.specs.declared.scan.Event.{Event}
 use Rattle.search.specs.declared.scan.Event.the-variants.{Through, Found, New}
 use Rattle.search.proofs.scan.Event.{the-type}
-use Rattle.search.specs.Matrix.{Makes}
-use Rattle.search.specs.Scan.{resume, nodeOf, candidate, Onward, Fresh, Scanned, Safe}
+use Rattle.search.specs.Scan.{resume, candidate, Onward, Scanned, Safe}
 
 -- ---- events
 

@@ -1,23 +1,23 @@
 -- The loops over the binary operators of a pair, the right places and the left places: what is left comes to what all comes to.
 -- Assumes nothing.
-use mathlib.Core.Path.{_≡_, refl, sym, ap, ap₂, _∙_, subst}
+use mathlib.Core.Path.{_≡_, refl, sym, ap, _∙_}
 use mathlib.Core.Bool.{Bool, true, false, cond}
-use mathlib.Core.List.{List, [], _∷_, _++_}
-use Prim.Native.Nat.{ℕ, suc, _+_, _-_, _*_, _≤_, _<_}
+use mathlib.Core.List.{List, [], _++_}
+use Prim.Native.Nat.{ℕ, _+_, _-_, _*_, _≤_, _<_}
 use native.Mathlib.Omega.{arith}
 use native.Mathlib.Numerals.{add-one}
 use lib.ListN.{length, getD, drop, drop-of-length-le}
 use lib.Seq.{drop-cons, drop-append-le, drop-nil}
-use Rattle.walk.specs.Walk.{Candidate, each, count}
+use Rattle.walk.specs.Walk.{Candidate, each}
 use Rattle.walk.specs.Input.{Input}
 use Rattle.walk.specs.Promises.{Table}
 use Rattle.search.specs.declared.given.Given.{Given}
 use Rattle.search.specs.declared.scan.Cursor.{Cursor}
 use Rattle.search.specs.declared.scan.Event.{Event}
-use Rattle.search.specs.declared.scan.Event.the-variants.{Through, Found, New}
+use Rattle.search.specs.declared.scan.Event.the-variants.{Through}
 use Rattle.search.specs.Matrix.{input}
-use Rattle.search.specs.Scan.{resume, candidate, both, row, column, rowRest, columnRest, pairsRest, Onward, Scanned, Safe, Stands, Asks, SamePair, NextBoth, BothAsks, bothRest, BothDoes, BinaryCodes, RowAsks, RowDoes, SameLeft, ColumnAsks, ColumnDoes, PairsAsks, PairsDoes}
-use Rattle.search.proofs.Onward.{Stops, safe-more, onward-refl, onward-as, onward-through, stop-part, last-part, relabel, resume-in, resume-out, resume-fresh}
+use Rattle.search.specs.Scan.{resume, both, row, column, rowRest, columnRest, pairsRest, Onward, Stands, Asks, NextBoth, BothAsks, bothRest, BothDoes, RowAsks, RowDoes, ColumnAsks, ColumnDoes, PairsAsks, PairsDoes}
+use Rattle.search.proofs.Onward.{Stops, safe-more, onward-refl, onward-as, onward-through, stop-part, resume-in, resume-out, resume-fresh}
 use Rattle.search.proofs.Both.{both-some}
 
 -- ---- the operators of a pair

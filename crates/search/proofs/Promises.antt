@@ -1,15 +1,14 @@
 -- What follows of every answer of the search, from its contract and the walk's promises: one result for an input, demand 3 over the reading, and
 -- larger bounds and rooms.
 -- Assumes nothing.
-use mathlib.Core.Path.{_≡_, refl, sym, ap, ap₂, _∙_, subst}
-use mathlib.Core.List.{List, [], _∷_}
-use Prim.Native.Nat.{ℕ, _+_, _≤_, _<_}
+use mathlib.Core.Path.{_≡_, refl, sym, ap, ap₂, _∙_}
+use mathlib.Core.List.{List}
+use Prim.Native.Nat.{ℕ}
 use native.Mathlib.Omega.{arith}
 use lib.ListN.{length}
-use Rattle.sequence.specs.Refusals.{Decided}
 use Rattle.sequence.proofs.Refusals.{decided-unique}
 use Rattle.session.specs.Reading.{Said}
-use Rattle.walk.specs.Walk.{Ending, found, full, none, State, going, ended, kept}
+use Rattle.walk.specs.Walk.{Ending, found, full, none, State, ended, kept}
 use Rattle.walk.specs.Input.{Input, Passes, search}
 use Rattle.walk.specs.Promises.{Table, again}
 use Rattle.walk.proofs.Promises as walk
@@ -20,7 +19,7 @@ use Rattle.search.specs.declared.SearchAnswer.{SearchAnswer}
 use Rattle.search.specs.declared.SearchAnswer.the-variants.{Found, None, Full, Refused}
 use Rattle.search.specs.Table.{Cols, tableOver}
 use Rattle.search.specs.Refusals.{searchRows}
-use Rattle.search.specs.Search.{said, walkSaid, endSaid, foundSaid, noneSaid, fullSaid, Outcome, Searched}
+use Rattle.search.specs.Search.{said, walkSaid, endSaid, foundSaid, noneSaid, fullSaid, Searched}
 use Rattle.search.specs.Promises.{Unique, PassesWhole, Holding, FoundSmallest, NoneMeansNone, FullNeedsRoom, LargerSame}
 use Rattle.search.proofs.Whole.{search-passes}
 

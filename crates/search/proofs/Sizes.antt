@@ -1,21 +1,18 @@
 -- The sizes one after the other: what is kept of each stands behind what was kept before.
 -- Assumes nothing.
 use mathlib.Core.Path.{_≡_, refl, sym, ap, ap₂, _∙_, subst}
-use mathlib.Core.Logic.{_⊎_, inl, inr}
-use mathlib.Core.Bool.{Bool, true, false, cond}
-use mathlib.Core.List.{List, [], _∷_, _++_, map, flatMap, foldl, List·Memᴰ·head, List·Memᴰ·tail}
-use Prim.Native.Nat.{ℕ, zero, suc, _+_, _-_, _*_, _^_, _≤_, _<_}
+use mathlib.Core.Logic.{inl, inr}
+use mathlib.Core.List.{List, [], _∷_, flatMap, foldl, List·Memᴰ·head, List·Memᴰ·tail}
+use Prim.Native.Nat.{ℕ, zero, suc, _+_, _-_, _*_, _≤_, _<_}
 use native.Mathlib.Omega.{arith}
-use native.Mathlib.Numerals.{add-one}
 use native.Mathlib.Decide.{decLe}
 use lib.ListN.{length, getD, set, length-set, length-append, List·getD-append, replicate, length-replicate, getD-replicate}
 use lib.Seq.{getD-append-add, getD-set-same, getD-set-other}
-use lib.Dec.{eqb}
 use denote.Enum.Declared.{tagOf}
 use types.Run.{OneOf}
 use Rattle.search.proofs.layers.Stand.{the-type}
 use Rattle.walk.specs.Formula.{_∈_}
-use Rattle.walk.specs.Walk.{Candidate, Ending, State, going, ended, kept, layer, consider, through, after}
+use Rattle.walk.specs.Walk.{Candidate, State, going, ended, kept, layer, consider, through, after}
 use Rattle.walk.specs.Input.{Input, Passes, offer}
 use Rattle.walk.specs.Promises.{Table}
 use Rattle.walk.proofs.Places.{sizeAt, Split, split-end}
@@ -27,9 +24,9 @@ use Rattle.search.specs.declared.given.Given.{Given}
 use Rattle.search.specs.declared.layers.Stand.{Stand}
 use Rattle.search.specs.declared.layers.Stand.the-variants.{Going, Found, Full}
 use Rattle.search.specs.Matrix.{nothing, input}
-use Rattle.search.specs.Scan.{leafCount, Starts, layerRest, UnaryCodes, BinaryCodes}
-use Rattle.search.specs.Table.{Cols, cols, tableOver}
-use Rattle.search.specs.Layers.{Holds, Room, Sound, stateOf, keptOf, Stood, begin, LayerAsks, LayerDoes, LayersAsks, LayersDoes}
+use Rattle.search.specs.Scan.{Starts}
+use Rattle.search.specs.Table.{Cols, tableOver}
+use Rattle.search.specs.Layers.{Holds, stateOf, Stood, LayerAsks, LayerDoes, LayersAsks, LayersDoes}
 use Rattle.search.proofs.Driver.{SameLengths}
 use Rattle.search.proofs.Listing.{Begins, layer-list}
 

@@ -1,20 +1,20 @@
 -- The loop over the splits of a size.
 -- Assumes nothing.
-use mathlib.Core.Path.{_≡_, refl, sym, ap, ap₂, _∙_, subst}
-use mathlib.Core.Bool.{Bool, true, false, cond}
-use mathlib.Core.List.{List, [], _∷_, _++_}
-use Prim.Native.Nat.{ℕ, suc, _+_, _-_, _*_, _/_, _≤_, _<_}
+use mathlib.Core.Path.{_≡_, sym, ap, _∙_}
+use mathlib.Core.Bool.{Bool, false}
+use mathlib.Core.List.{List}
+use Prim.Native.Nat.{ℕ, _+_, _-_, _*_, _/_, _≤_, _<_}
 use native.Mathlib.Omega.{arith}
-use lib.ListN.{length, getD, drop}
-use Rattle.walk.specs.Walk.{Candidate, each, count}
+use lib.ListN.{length, getD}
+use Rattle.walk.specs.Walk.{Candidate}
 use Rattle.walk.specs.Input.{Input}
 use Rattle.walk.specs.Promises.{Table}
 use Rattle.search.specs.declared.given.Given.{Given}
 use Rattle.search.specs.declared.scan.Cursor.{Cursor}
 use Rattle.search.specs.declared.scan.Event.{Event}
-use Rattle.search.specs.declared.scan.Event.the-variants.{Through, Found, New}
+use Rattle.search.specs.declared.scan.Event.the-variants.{Through}
 use Rattle.search.specs.Matrix.{input}
-use Rattle.search.specs.Scan.{resume, row, column, pairs, split, pairsRest, splitsRest, Onward, Scanned, Safe, Stands, Asks, BinaryCodes, PairsAsks, PairsDoes, Starts, SplitsAsks, SplitsDoes}
+use Rattle.search.specs.Scan.{resume, row, column, split, pairsRest, splitsRest, Onward, Stands, PairsAsks, PairsDoes, Starts, SplitsAsks, SplitsDoes}
 use Rattle.search.proofs.Onward.{Stops, safe-more, onward-refl, onward-as, onward-through, stop-part, resume-in, resume-out, resume-fresh}
 use Rattle.search.proofs.PairLoops.{asks-less}
 

@@ -10,13 +10,11 @@ use native.Mathlib.Decide.{decLe}
 use lib.ListN.{length, getD, set, take, drop, length-append, List·getD-append}
 use lib.Seq.{paste, drop-cons, set-append-seam, append-snoc, take-at, drop-append-add, drop-drop, length-take-le, getD-append-add, getD-append-seam}
 use Rattle.walk.specs.Walk.{Candidate}
-use Rattle.walk.specs.Input.{Input, Passes, row}
+use Rattle.walk.specs.Input.{Input, row}
 use Rattle.walk.specs.Promises.{Table}
-use Rattle.search.specs.declared.given.Given.{Given}
 use Rattle.search.specs.Matrix.{nothing, matrixAt, Fine, Stored}
-use Rattle.search.specs.Scan.{Stands}
 use Rattle.session.specs.Reading.{over}
-use Rattle.search.specs.Table.{Cols, cols, tableOver}
+use Rattle.search.specs.Table.{Cols, cols}
 use Rattle.search.specs.Layers.{Holds}
 use Rattle.search.proofs.Matrices.{length-map}
 use Rattle.search.proofs.Products.{place-end}

@@ -1,24 +1,24 @@
 -- The loops over the unary operators of a place, the places, and the leaves.
 -- Assumes nothing.
-use mathlib.Core.Path.{_≡_, refl, sym, ap, ap₂, _∙_, subst}
+use mathlib.Core.Path.{_≡_, refl, sym, ap, subst}
 use mathlib.Core.Bool.{Bool, true, false, cond}
-use mathlib.Core.List.{List, [], _∷_, _++_, map}
+use mathlib.Core.List.{List, [], _∷_, _++_}
 use Prim.Native.Nat.{ℕ, suc, _+_, _-_, _*_, _≤_, _<_}
 use native.Mathlib.Omega.{arith}
 use native.Mathlib.Numerals.{add-one}
 use lib.ListN.{length, getD, drop, drop-of-length-le}
 use lib.Seq.{drop-cons}
 use lib.Dec.{eqb, ltb}
-use borrow.Author.Tests.{ltb-true, ltb-false}
-use Rattle.walk.specs.Walk.{Candidate, each, count}
+use borrow.Author.Tests.{ltb-true}
+use Rattle.walk.specs.Walk.{count}
 use Rattle.walk.specs.Input.{Input}
 use Rattle.walk.specs.Promises.{Table}
 use Rattle.search.specs.declared.given.Given.{Given}
 use Rattle.search.specs.declared.scan.Cursor.{Cursor}
 use Rattle.search.specs.declared.scan.Event.{Event}
-use Rattle.search.specs.declared.scan.Event.the-variants.{Through, Found, New}
+use Rattle.search.specs.declared.scan.Event.the-variants.{Through}
 use Rattle.search.specs.Matrix.{input, Makes}
-use Rattle.search.specs.Scan.{resume, candidate, unaryRow, leafAt, leafCode, leafLeft, leafCount, unaryRest, seedsRest, Onward, Scanned, Safe, Stands, Asks, OneAsks, OneDoes, UnaryCodes, UnaryRowAsks, AtPlace, UnaryRowDoes, UnaryAsks, UnaryDoes, SeedsAsks, SeedsDoes}
+use Rattle.search.specs.Scan.{candidate, unaryRow, leafAt, leafCode, leafLeft, leafCount, unaryRest, seedsRest, Onward, Stands, OneAsks, OneDoes, UnaryRowAsks, AtPlace, UnaryRowDoes, UnaryAsks, UnaryDoes, SeedsAsks, SeedsDoes}
 use Rattle.search.proofs.Onward.{Stops, safe-more, onward-refl, onward-as, onward-through, stop-part, resume-in, resume-out, resume-fresh}
 use Rattle.search.proofs.PairLoops.{asks-less}
 

@@ -1,35 +1,30 @@
 -- The whole search: where no row is given the input passes the walk's checks, and the answer is the walk's.
 -- Assumes nothing.
-use mathlib.Core.Path.{_≡_, refl, sym, ap, ap₂, _∙_, subst}
-use mathlib.Core.Logic.{_⊎_, inl, inr, ⊎-elim}
-use mathlib.Core.Bool.{Bool, true, false}
-use mathlib.Core.List.{List, [], _∷_}
-use Prim.Native.Nat.{ℕ, zero, suc, _+_, _*_, _≤_, _<_}
+use mathlib.Core.Path.{_≡_, refl, sym, ap, _∙_}
+use mathlib.Core.Logic.{_⊎_, inl, inr}
+use mathlib.Core.Bool.{true, false}
+use mathlib.Core.List.{List}
+use Prim.Native.Nat.{ℕ, zero, suc, _≤_, _<_}
 use native.Mathlib.Omega.{arith}
 use native.Mathlib.Decide.{decLe}
 use lib.ListN.{length, getD}
-use Rattle.words.specs.Word.{width, Wf, At}
+use Rattle.words.specs.Word.{width}
 use Rattle.words.proofs.At.{not-at}
 use Rattle.sequence.specs.Limits as limits
 use Rattle.sequence.specs.Operators.{Unary, Binary, unaryCode, binaryCode}
-use Rattle.sequence.specs.Refusals.{Row, Decided}
-use Rattle.session.specs.Reading.{Said}
-use Rattle.walk.specs.Formula.{_∈_}
-use Rattle.walk.specs.Walk.{Ending, found, full, none, State, going, ended, kept, finish, after, walk}
+use Rattle.sequence.specs.Refusals.{Decided}
+use Rattle.walk.specs.Walk.{none, State, kept, finish, after, walk}
 use Rattle.walk.specs.Input.{Input, Passes, lengthOf, markOf, wordOf, unaryOf, binaryOf, offer, search}
-use Rattle.walk.specs.Promises.{Table}
-use Rattle.formula.specs.Kinds.{nodeOf}
 use Rattle.search.specs.declared.given.Given.{Given}
-use Rattle.search.specs.declared.SearchAnswer.{SearchAnswer}
-use Rattle.search.specs.declared.SearchAnswer.the-variants.{Found, None, Full, Refused}
+use Rattle.search.specs.declared.SearchAnswer.the-variants.{Found, None, Full}
 use Rattle.search.specs.declared.layers.Stand.{Stand}
 use Rattle.search.specs.declared.layers.Stand.the-variants as stand
 use Rattle.search.specs.Table.{Cols, tableOver}
 use Rattle.search.specs.Refusals.{searchRows}
-use Rattle.search.specs.Search.{said, walkSaid, endSaid, Outcome, Searched}
+use Rattle.search.specs.Search.{Searched}
 use Rattle.search.specs.Matrix.{input}
 use Rattle.search.specs.Checks.{GoodCodes}
-use Rattle.search.specs.Layers.{Room, Sound, stateOf, keptOf, Stood, LayersAsks, LayersDoes}
+use Rattle.search.specs.Layers.{stateOf, Stood, LayersAsks, LayersDoes}
 use Rattle.search.proofs.Matrices.{unary-code, binary-code}
 use Rattle.search.proofs.Checks.{unary-low, binary-in, at-position, good-once, unary-codes, binary-codes}
 use Rattle.search.proofs.Decide.{NoneOf, none-given, numbers-in, le-of-not-lt}

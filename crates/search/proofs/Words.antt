@@ -1,13 +1,13 @@
 -- One word of a candidate: the operators' contracts on a session's mask fix the walk's row.
 -- Assumes nothing.
-use mathlib.Core.Path.{_≡_, refl, sym, ap, _∙_, subst}
+use mathlib.Core.Path.{_≡_, refl, sym, ap, _∙_}
 use mathlib.Core.Logic.{_↔_}
-use mathlib.Core.Bool.{Bool, true, false, not, cond, Bool·beq, true≢false}
+use mathlib.Core.Bool.{Bool, true, false, not, Bool·beq, true≢false}
 use Prim.Native.Nat.{ℕ, _≤_, _<_}
 use native.Mathlib.Omega.{arith}
-use lib.Dec.{eqb, ltb}
+use lib.Dec.{ltb}
 use borrow.Author.Tests.{eq-eqb, ne-eqb, eqb-true, lt-ltb, ltb-true}
-use Rattle.words.specs.Word.{width, bit, At, Wf, Means}
+use Rattle.words.specs.Word.{width, bit, At}
 use Rattle.words.proofs.Bits.{bit-zero}
 use Rattle.words.proofs.At.{means-unique, means, at-below}
 use Rattle.words.proofs.Lengths.{Mask}
@@ -18,7 +18,7 @@ use Rattle.walk.specs.Rows.{isOn, unaryRow, binaryRow, constantRow, acceptsRow}
 use Rattle.walk.specs.Input.{unaryOf, binaryOf}
 use Rattle.walk.proofs.Nodes.{unary-of, binary-of}
 use Rattle.walk.proofs.Rows.{unary-row-only, binary-row-only, constant-row-means, and-on}
-use Rattle.search.specs.Matrix.{UnaryAt, BinaryAt, LeafAt, leafWord}
+use Rattle.search.specs.Matrix.{UnaryAt, BinaryAt, LeafAt}
 
 -- the codes fix the operators
 pub unary-same : (a b : Unary) → unaryCode a ≡ unaryCode b → a ≡ b

@@ -5,14 +5,14 @@ use mathlib.Core.Bool.{false}
 use mathlib.Core.List.{List, foldl}
 use Prim.Native.Nat.{ℕ, _+_, _-_, _*_, _^_, _≤_, _<_}
 use lib.ListN.{length, getD}
-use Rattle.walk.specs.Walk.{Candidate, Ending, found, full, State, going, ended, consider, after}
+use Rattle.walk.specs.Walk.{found, full, State, going, ended, consider, after}
 use Rattle.walk.specs.Input.{Input, Passes, offer}
 use Rattle.walk.specs.Promises.{Table}
 use Rattle.search.specs.declared.given.Given.{Given}
 use Rattle.search.specs.declared.scan.Cursor.{Cursor}
 use Rattle.search.specs.declared.layers.Stand.{Stand}
 use Rattle.search.specs.declared.layers.Stand.the-variants.{Going, Found, Full}
-use Rattle.search.specs.Table.{Cols, cols, tableOver}
+use Rattle.search.specs.Table.{Cols, tableOver}
 use Rattle.search.specs.Matrix.{matrixAt, input, Fine}
 use Rattle.search.specs.Scan.{nodeOf, leafCount, UnaryCodes, BinaryCodes, Starts, layerRest}
 

@@ -1,21 +1,21 @@
 -- What the loops over a size's candidates promise each other. No public contract cites this.
 -- Assumes nothing.
 use mathlib.Core.Path.{_≡_}
-use mathlib.Core.Bool.{Bool, true, false, cond}
+use mathlib.Core.Bool.{false, cond}
 use mathlib.Core.List.{List, [], _∷_, _++_, map, foldl}
-use Prim.Native.Nat.{ℕ, zero, suc, _+_, _-_, _*_, _/_, _^_, _≤_, _<_}
-use lib.ListN.{length, getD, take, drop}
+use Prim.Native.Nat.{ℕ, _+_, _-_, _/_, _^_, _≤_, _<_}
+use lib.ListN.{length, getD, drop}
 use lib.Dec.{eqb, ltb}
 use Rattle.sequence.specs.Operators.{commutes}
 use Rattle.walk.specs.Nodes.{Node}
-use Rattle.walk.specs.Walk.{Candidate, Ending, found, State, going, ended, each, count, consider, known}
+use Rattle.walk.specs.Walk.{Candidate, found, going, ended, each, count, consider, known}
 use Rattle.walk.specs.Input.{Input, Passes, binaryOf, separating, offer}
 use Rattle.walk.specs.Promises.{Table}
 use Rattle.search.specs.declared.given.Given.{Given}
 use Rattle.search.specs.declared.scan.Cursor.{Cursor}
 use Rattle.search.specs.declared.scan.Event.{Event}
 use Rattle.search.specs.declared.scan.Event.the-variants.{Through, Found, New}
-use Rattle.search.specs.Matrix.{nothing, matrixAt, input, Stored, made, Makes, Readable}
+use Rattle.search.specs.Matrix.{nothing, input, Stored, made, Makes, Readable}
 
 -- ---- the candidates, by places
 

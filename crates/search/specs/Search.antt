@@ -8,7 +8,6 @@ use Rattle.sequence.specs.Refusals.{Decided}
 use Rattle.session.specs.Reading.{Said}
 use Rattle.walk.specs.Walk.{Ending, found, full, none, State, going, ended, kept}
 use Rattle.walk.specs.Input.{Input, search}
-use Rattle.walk.specs.Promises.{Table}
 use Rattle.formula.specs.Kinds.{nodeOf}
 use Rattle.walk.specs.Nodes.{Node}
 use Rattle.search.specs.declared.SearchAnswer.{SearchAnswer}

@@ -1,16 +1,11 @@
--- `search::search` meets its contract.
+-- `search` meets its contract: the first row that is given decides, and where none is, the answer is the walk's.
 -- Assumes nothing.
 use mathlib.Core.Path.{refl}
+use borrow.Author.Needs.{needs}
 use Rattle.search.proofs.Layer.{pos-of-ne}
 use Rattle.search.proofs.Whole.{search-asks, none-answer, found-answer, full-answer}
-use native.Mathlib.Omega.{arith}
-use borrow.Author.Needs.{needs}
 use Rattle.search.proofs.search.Statement.{statement}
 use Rattle.search.proofs.search.Tie as tie
-use Rattle.search.proofs.search.Reads as reads
-use Rattle.search.proofs.search.Lts as lts
-use Rattle.search.proofs.layers.layers.Reads as layers-reads
-use Rattle.search.proofs.refuse.refusal.Reads as refusal-reads
 
 refusal-requires : tie.Need-refusal-requires
 refusal-requires c κs = search needs

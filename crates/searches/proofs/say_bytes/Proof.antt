@@ -1,17 +1,11 @@
--- `searches::say_bytes` meets its contract.
+-- `say_bytes` meets its contract.
 -- Assumes nothing.
+use mathlib.Core.Path.{_≡_}
 use Prim.Native.Nat.{_-_, _≤_}
 use lib.ListN.{length}
-use mathlib.Core.Path.{_≡_}
-use native.Mathlib.Omega.{arith}
 use borrow.Author.Needs.{needs}
 use Rattle.searches.proofs.say_bytes.Statement.{statement}
 use Rattle.searches.proofs.say_bytes.Tie as tie
-use Rattle.searches.proofs.say_bytes.Reads as reads
-use Rattle.searches.proofs.say_bytes.Lts as lts
-use Rattle.searches.proofs.say.Reads as say-reads
-use Rattle.searches.proofs.say_number.Reads as say-number-reads
-use Rattle.searches.proofs.wide_byte.Reads as wide-byte-reads
 
 abbrev Inv-loop : tie.InvT-loop
 Inv-loop list i₀ t4 i = (i ≤ length list) × (length t4 ≡ 1)

@@ -1,17 +1,11 @@
--- `searches::say_places` meets its contract.
+-- `say_places` meets its contract.
 -- Assumes nothing.
+use mathlib.Core.Path.{_≡_}
 use Prim.Native.Nat.{_-_, _≤_}
 use lib.ListN.{length}
-use mathlib.Core.Path.{_≡_}
-use native.Mathlib.Omega.{arith}
 use borrow.Author.Needs.{needs}
 use Rattle.searches.proofs.say_places.Statement.{statement}
 use Rattle.searches.proofs.say_places.Tie as tie
-use Rattle.searches.proofs.say_places.Reads as reads
-use Rattle.searches.proofs.say_places.Lts as lts
-use Rattle.searches.proofs.say.Reads as say-reads
-use Rattle.searches.proofs.say_number.Reads as say-number-reads
-use Rattle.searches.proofs.wide_place.Reads as wide-place-reads
 
 abbrev Inv-loop : tie.InvT-loop
 Inv-loop list i₀ t4 i = (i ≤ length list) × (length t4 ≡ 1)

@@ -1,16 +1,11 @@
--- `searches::say_words` meets its contract.
+-- `say_words` meets its contract.
 -- Assumes nothing.
+use mathlib.Core.Path.{_≡_}
 use Prim.Native.Nat.{_-_, _≤_}
 use lib.ListN.{length}
-use mathlib.Core.Path.{_≡_}
-use native.Mathlib.Omega.{arith}
 use borrow.Author.Needs.{needs}
 use Rattle.searches.proofs.say_words.Statement.{statement}
 use Rattle.searches.proofs.say_words.Tie as tie
-use Rattle.searches.proofs.say_words.Reads as reads
-use Rattle.searches.proofs.say_words.Lts as lts
-use Rattle.searches.proofs.say.Reads as say-reads
-use Rattle.searches.proofs.say_number.Reads as say-number-reads
 
 abbrev Inv-loop : tie.InvT-loop
 Inv-loop list i₀ t4 i = (i ≤ length list) × (length t4 ≡ 1)

@@ -1,19 +1,12 @@
--- `search::layers::layer` meets its contract.
+-- `layer` meets its contract: each turn keeps one formula more at the next place, so the turns end, and the rest of the size comes to the same.
 -- Assumes nothing.
 use Prim.Native.Nat.{_-_}
-use lib.ListN.{length}
-use Rattle.search.specs.Table.{cols}
-use Rattle.search.proofs.Driver.{LayerLoop, layer-start, layer-scan, layer-small, layer-through, layer-found, layer-full, layer-rows, layer-node, layer-words, layer-product, layer-turn}
 use native.Mathlib.Omega.{arith}
 use borrow.Author.Needs.{needs}
+use Rattle.search.specs.Table.{cols}
+use Rattle.search.proofs.Driver.{LayerLoop, layer-start, layer-scan, layer-small, layer-through, layer-found, layer-full, layer-rows, layer-node, layer-words, layer-product, layer-turn}
 use Rattle.search.proofs.layers.layer.Statement.{statement}
 use Rattle.search.proofs.layers.layer.Tie as tie
-use Rattle.search.proofs.layers.layer.Reads as reads
-use Rattle.search.proofs.layers.layer.Lts as lts
-use Rattle.search.proofs.layers.put_node.Reads as put-node-reads
-use Rattle.search.proofs.matrix.rows_of.Reads as rows-of-reads
-use Rattle.search.proofs.matrix.store.Reads as store-reads
-use Rattle.search.proofs.scan.scan.Reads as scan-reads
 
 abbrev Inv-loop : tie.InvT-loop
 Inv-loop given marks lengths words unary binary starts s codes₀ lefts₀ rights₀ sizes₀ matrices₀ kept tried r room at₀ k₀ n₀ codes lefts rights sizes matrices at k n = LayerLoop given marks lengths words unary binary starts s (cols codes₀ lefts₀ rights₀ sizes₀ matrices₀) kept tried (cols codes lefts rights sizes matrices) at k n

@@ -1,17 +1,14 @@
--- `search::layers::layers` meets its contract.
+-- `layers` meets its contract: before size s the table is the walk's after the sizes below it.
 -- Assumes nothing.
-use mathlib.Core.Path.{_≡_, sym, _∙_}
+use mathlib.Core.Path.{sym, _∙_}
 use Prim.Native.Nat.{_+_, _-_}
-use lib.ListN.{length, length-set}
+use native.Mathlib.Omega.{arith}
+use lib.ListN.{length-set}
+use borrow.Author.Needs.{needs}
 use Rattle.search.specs.Table.{cols}
 use Rattle.search.proofs.Sizes.{SizesLoop, sizes-start, sizes-layer, sizes-turn, sizes-stops, sizes-ends, over-now}
-use native.Mathlib.Omega.{arith}
-use borrow.Author.Needs.{needs}
 use Rattle.search.proofs.layers.layers.Statement.{statement}
 use Rattle.search.proofs.layers.layers.Tie as tie
-use Rattle.search.proofs.layers.layers.Reads as reads
-use Rattle.search.proofs.layers.layers.Lts as lts
-use Rattle.search.proofs.layers.layer.Reads as layer-reads
 
 abbrev Inv-loop : tie.InvT-loop
 Inv-loop given marks lengths words unary binary codes₀ lefts₀ rights₀ sizes₀ matrices₀ bound starts₀ k₀ n₀ s₀ codes lefts rights sizes matrices starts k n s = SizesLoop given marks lengths words unary binary (cols codes₀ lefts₀ rights₀ sizes₀ matrices₀) (cols codes lefts rights sizes matrices) starts s k n

@@ -1,19 +1,16 @@
--- `search::matrix::agrees` meets its contract.
+-- `agrees` meets its contract: the sessions passed agree, so the rest decides.
 -- Assumes nothing.
-use native.Mathlib.Omega.{arith}
-use mathlib.Core.Path.{_≡_, refl, sym, ap, _∙_}
+use mathlib.Core.Path.{_≡_, sym, ap, _∙_}
 use mathlib.Core.Bool.{Bool, _&&_}
-use Prim.Native.Nat.{ℕ, _+_, _-_, _≤_, _<_}
+use Prim.Native.Nat.{_+_, _-_, _≤_}
+use native.Mathlib.Omega.{arith}
+use borrow.Author.Needs.{needs}
 use Rattle.walk.specs.Walk.{count}
 use Rattle.walk.specs.Input.{every}
 use Rattle.search.specs.Matrix.{agreesAt}
 use Rattle.search.proofs.Matrices.{every-start, every-turn, every-end}
-use borrow.Author.Needs.{needs}
 use Rattle.search.proofs.matrix.agrees.Statement.{statement}
 use Rattle.search.proofs.matrix.agrees.Tie as tie
-use Rattle.search.proofs.matrix.agrees.Reads as reads
-use Rattle.search.proofs.matrix.agrees.Lts as lts
-use Rattle.search.proofs.matrix.agrees_at.Reads as agrees-at-reads
 
 abbrev Inv-loop : tie.InvT-loop
 Inv-loop r marks lengths rows j₀ j = (j ≤ r) × (every (count 0 r) (agreesAt marks lengths rows) ≡ every (count j (r - j)) (agreesAt marks lengths rows))

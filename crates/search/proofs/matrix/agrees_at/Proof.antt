@@ -1,16 +1,12 @@
--- `search::matrix::agrees_at` meets its contract.
+-- `agrees_at` meets its contract.
 -- Assumes nothing.
-use native.Mathlib.Omega.{arith}
-use mathlib.Core.Path.{_≡_, sym, ap, _∙_}
+use mathlib.Core.Path.{sym, ap, _∙_}
 use mathlib.Core.Bool.{Bool, Bool·beq}
 use lib.Dec.{eqb}
-use Rattle.search.proofs.Words.{accepts-row, beq-true, beq-false}
 use borrow.Author.Needs.{needs}
+use Rattle.search.proofs.Words.{accepts-row, beq-true, beq-false}
 use Rattle.search.proofs.matrix.agrees_at.Statement.{statement}
 use Rattle.search.proofs.matrix.agrees_at.Tie as tie
-use Rattle.search.proofs.matrix.agrees_at.Reads as reads
-use Rattle.search.proofs.matrix.agrees_at.Lts as lts
-use Rattle.sequence.proofs.CharSeq.accepts.Reads as accepts-reads
 
 accepts-requires : tie.Need-accepts-requires
 accepts-requires c κs = search needs

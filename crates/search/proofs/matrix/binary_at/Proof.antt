@@ -1,14 +1,9 @@
--- `search::matrix::binary_at` meets its contract.
+-- `binary_at` meets its contract: on the session's mask the word is the walk's row.
 -- Assumes nothing.
-use native.Mathlib.Omega.{arith}
-use Rattle.search.proofs.Words.{binary-at}
 use borrow.Author.Needs.{needs}
+use Rattle.search.proofs.Words.{binary-at}
 use Rattle.search.proofs.matrix.binary_at.Statement.{statement}
 use Rattle.search.proofs.matrix.binary_at.Tie as tie
-use Rattle.search.proofs.matrix.binary_at.Reads as reads
-use Rattle.search.proofs.matrix.binary_at.Lts as lts
-use Rattle.sequence.proofs.CharSeq.mask.Reads as mask-reads
-use Rattle.sequence.proofs.operators.binary_word.Reads as binary-word-reads
 
 mask-requires : tie.Need-mask-requires
 mask-requires c κs = search needs

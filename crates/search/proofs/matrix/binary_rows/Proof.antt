@@ -1,17 +1,14 @@
--- `search::matrix::binary_rows` meets its contract.
+-- `binary_rows` meets its contract: the rows filled so far are the operator's.
 -- Assumes nothing.
-use mathlib.Core.Path.{_≡_, refl, _∙_}
-use Prim.Native.Nat.{ℕ, _+_, _-_, _*_, _≤_, _<_}
-use lib.ListN.{length, getD, length-set}
-use Rattle.search.specs.Matrix.{UnaryAt, BinaryAt, LeafAt}
-use Rattle.search.proofs.Arrays.{filled-more}
+use mathlib.Core.Path.{_≡_, _∙_}
+use Prim.Native.Nat.{ℕ, _+_, _-_, _≤_, _<_}
 use native.Mathlib.Omega.{arith}
+use lib.ListN.{length, getD, length-set}
 use borrow.Author.Needs.{needs}
+use Rattle.search.specs.Matrix.{BinaryAt}
+use Rattle.search.proofs.Arrays.{filled-more}
 use Rattle.search.proofs.matrix.binary_rows.Statement.{statement}
 use Rattle.search.proofs.matrix.binary_rows.Tie as tie
-use Rattle.search.proofs.matrix.binary_rows.Reads as reads
-use Rattle.search.proofs.matrix.binary_rows.Lts as lts
-use Rattle.search.proofs.matrix.binary_at.Reads as binary-at-reads
 
 abbrev Inv-loop : tie.InvT-loop
 Inv-loop r lengths matrices code left right rows₀ j₀ rows j = (j ≤ r) × (length rows ≡ 32) × ((t : ℕ) → t < j → BinaryAt code (getD matrices (left + t) 0) (getD matrices (right + t) 0) (getD lengths t 0) (getD rows t 0))

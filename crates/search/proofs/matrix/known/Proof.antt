@@ -1,19 +1,15 @@
--- `search::matrix::known` meets its contract.
+-- `known` meets its contract: no place passed has the same matrix.
 -- Assumes nothing.
-use native.Mathlib.Omega.{arith}
 use mathlib.Core.Path.{_≡_}
-use Prim.Native.Nat.{ℕ, _+_, _-_, _*_, _≤_, _<_}
-use lib.ListN.{length, getD}
+use Prim.Native.Nat.{ℕ, _-_, _*_, _≤_, _<_}
+use native.Mathlib.Omega.{arith}
 use native.Mathlib.Nat.{zero-mul}
-use borrow.Author.Count.{below-none, below-more}
+use borrow.Author.Count.{below-more}
+use borrow.Author.Needs.{needs}
 use Rattle.search.specs.Matrix.{EqualRows}
 use Rattle.search.proofs.Products.{place-end, next-row}
-use borrow.Author.Needs.{needs}
 use Rattle.search.proofs.matrix.known.Statement.{statement}
 use Rattle.search.proofs.matrix.known.Tie as tie
-use Rattle.search.proofs.matrix.known.Reads as reads
-use Rattle.search.proofs.matrix.known.Lts as lts
-use Rattle.search.proofs.matrix.same_at.Reads as same-at-reads
 
 abbrev Inv-loop : tie.InvT-loop
 Inv-loop r matrices kept rows p₀ from₀ p from = (p ≤ kept) × (from ≡ p * r) × ((t : ℕ) → t < p → EqualRows r rows matrices (t * r) → ⊥)

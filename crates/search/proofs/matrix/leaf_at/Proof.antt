@@ -1,13 +1,9 @@
--- `search::matrix::leaf_at` meets its contract.
+-- `leaf_at` meets its contract: true is the session's mask, false is 0.
 -- Assumes nothing.
-use native.Mathlib.Omega.{arith}
-use Rattle.search.proofs.Words.{leaf-word, leaf-false, leaf-true}
 use borrow.Author.Needs.{needs}
+use Rattle.search.proofs.Words.{leaf-word, leaf-false, leaf-true}
 use Rattle.search.proofs.matrix.leaf_at.Statement.{statement}
 use Rattle.search.proofs.matrix.leaf_at.Tie as tie
-use Rattle.search.proofs.matrix.leaf_at.Reads as reads
-use Rattle.search.proofs.matrix.leaf_at.Lts as lts
-use Rattle.sequence.proofs.CharSeq.mask.Reads as mask-reads
 
 returns : tie.Need-returns
 returns c = leaf-word _ _ _ (c .if1 .taken)

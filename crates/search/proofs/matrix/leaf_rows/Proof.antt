@@ -1,18 +1,15 @@
--- `search::matrix::leaf_rows` meets its contract.
+-- `leaf_rows` meets its contract: the rows filled so far are the leaf's, and the running index is that of the next session's word.
 -- Assumes nothing.
-use mathlib.Core.Path.{_≡_, refl, _∙_}
+use mathlib.Core.Path.{_≡_, _∙_}
 use Prim.Native.Nat.{ℕ, _+_, _-_, _*_, _≤_, _<_}
-use lib.ListN.{length, getD, length-set}
-use Rattle.search.specs.Matrix.{UnaryAt, BinaryAt, LeafAt}
-use Rattle.search.proofs.Arrays.{filled-more}
 use native.Mathlib.Omega.{arith}
-use Rattle.search.proofs.Products.{next-row, word-in}
+use lib.ListN.{length, getD, length-set}
 use borrow.Author.Needs.{needs}
+use Rattle.search.specs.Matrix.{LeafAt}
+use Rattle.search.proofs.Arrays.{filled-more}
+use Rattle.search.proofs.Products.{next-row, word-in}
 use Rattle.search.proofs.matrix.leaf_rows.Statement.{statement}
 use Rattle.search.proofs.matrix.leaf_rows.Tie as tie
-use Rattle.search.proofs.matrix.leaf_rows.Reads as reads
-use Rattle.search.proofs.matrix.leaf_rows.Lts as lts
-use Rattle.search.proofs.matrix.leaf_at.Reads as leaf-at-reads
 
 abbrev Inv-loop : tie.InvT-loop
 Inv-loop r m lengths words code number rows₀ j₀ at₀ rows j at = (j ≤ r) × (length rows ≡ 32) × (at ≡ j * m + number) × ((t : ℕ) → t < j → LeafAt code (getD words (t * m + number) 0) (getD lengths t 0) (getD rows t 0))

@@ -1,15 +1,9 @@
--- `search::matrix::rows_of` meets its contract.
+-- `rows_of` meets its contract: each group of codes by its own loop.
 -- Assumes nothing.
 use native.Mathlib.Omega.{arith}
 use Rattle.search.proofs.Matrices.{unary-made, binary-made, leaf-made, unary-reads, binary-reads, leaf-reads}
-use borrow.Author.Needs.{needs}
 use Rattle.search.proofs.matrix.rows_of.Statement.{statement}
 use Rattle.search.proofs.matrix.rows_of.Tie as tie
-use Rattle.search.proofs.matrix.rows_of.Reads as reads
-use Rattle.search.proofs.matrix.rows_of.Lts as lts
-use Rattle.search.proofs.matrix.binary_rows.Reads as binary-rows-reads
-use Rattle.search.proofs.matrix.leaf_rows.Reads as leaf-rows-reads
-use Rattle.search.proofs.matrix.unary_rows.Reads as unary-rows-reads
 
 mul-unary-rows : tie.Need-mul-unary-rows
 mul-unary-rows c = omega (arith, unary-reads (c .before .before .before .before .pre) (c .if1 .taken))

@@ -1,15 +1,13 @@
--- `search::matrix::same_at` meets its contract.
+-- `same_at` meets its contract: the rows passed are equal.
 -- Assumes nothing.
-use native.Mathlib.Omega.{arith}
 use mathlib.Core.Path.{_≡_}
 use Prim.Native.Nat.{ℕ, _+_, _-_, _≤_, _<_}
-use lib.ListN.{length, getD}
-use borrow.Author.Count.{below-none, below-more}
+use native.Mathlib.Omega.{arith}
+use lib.ListN.{getD}
+use borrow.Author.Count.{below-more}
 use borrow.Author.Needs.{needs}
 use Rattle.search.proofs.matrix.same_at.Statement.{statement}
 use Rattle.search.proofs.matrix.same_at.Tie as tie
-use Rattle.search.proofs.matrix.same_at.Reads as reads
-use Rattle.search.proofs.matrix.same_at.Lts as lts
 
 abbrev Inv-loop : tie.InvT-loop
 Inv-loop r matrices rows from j₀ j = (j ≤ r) × ((t : ℕ) → t < j → getD rows t 0 ≡ getD matrices (from + t) 0)

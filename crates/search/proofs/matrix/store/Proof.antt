@@ -1,16 +1,14 @@
--- `search::matrix::store` meets its contract.
+-- `store` meets its contract: so many of the rows are pasted in.
 -- Assumes nothing.
+use mathlib.Core.Path.{_≡_, refl, _∙_}
+use Prim.Native.Nat.{_+_, _-_, _≤_}
 use native.Mathlib.Omega.{arith}
-use mathlib.Core.Path.{_≡_, refl, ap, _∙_}
-use Prim.Native.Nat.{ℕ, _+_, _-_, _*_, _≤_, _<_}
-use lib.ListN.{length, getD, length-set}
-use lib.Seq.{paste, paste-zero, paste-suc, length-paste}
 use native.Mathlib.Numerals.{add-one}
+use lib.ListN.{length, length-set}
+use lib.Seq.{paste, paste-zero, paste-suc}
 use borrow.Author.Needs.{needs}
 use Rattle.search.proofs.matrix.store.Statement.{statement}
 use Rattle.search.proofs.matrix.store.Tie as tie
-use Rattle.search.proofs.matrix.store.Reads as reads
-use Rattle.search.proofs.matrix.store.Lts as lts
 
 abbrev Inv-loop : tie.InvT-loop
 Inv-loop r matrices₀ rows from j₀ matrices j = (j ≤ r) × (length matrices ≡ length matrices₀) × (matrices ≡ paste matrices₀ from rows j)

@@ -1,14 +1,9 @@
--- `search::matrix::unary_at` meets its contract.
+-- `unary_at` meets its contract: on the session's mask the word is the walk's row.
 -- Assumes nothing.
-use native.Mathlib.Omega.{arith}
-use Rattle.search.proofs.Words.{unary-at}
 use borrow.Author.Needs.{needs}
+use Rattle.search.proofs.Words.{unary-at}
 use Rattle.search.proofs.matrix.unary_at.Statement.{statement}
 use Rattle.search.proofs.matrix.unary_at.Tie as tie
-use Rattle.search.proofs.matrix.unary_at.Reads as reads
-use Rattle.search.proofs.matrix.unary_at.Lts as lts
-use Rattle.sequence.proofs.CharSeq.mask.Reads as mask-reads
-use Rattle.sequence.proofs.operators.unary_word.Reads as unary-word-reads
 
 mask-requires : tie.Need-mask-requires
 mask-requires c κs = search needs

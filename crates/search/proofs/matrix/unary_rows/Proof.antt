@@ -1,17 +1,14 @@
--- `search::matrix::unary_rows` meets its contract.
+-- `unary_rows` meets its contract: the rows filled so far are the operator's.
 -- Assumes nothing.
-use mathlib.Core.Path.{_≡_, refl, _∙_}
-use Prim.Native.Nat.{ℕ, _+_, _-_, _*_, _≤_, _<_}
-use lib.ListN.{length, getD, length-set}
-use Rattle.search.specs.Matrix.{UnaryAt, BinaryAt, LeafAt}
-use Rattle.search.proofs.Arrays.{filled-more}
+use mathlib.Core.Path.{_≡_, _∙_}
+use Prim.Native.Nat.{ℕ, _+_, _-_, _≤_, _<_}
 use native.Mathlib.Omega.{arith}
+use lib.ListN.{length, getD, length-set}
 use borrow.Author.Needs.{needs}
+use Rattle.search.specs.Matrix.{UnaryAt}
+use Rattle.search.proofs.Arrays.{filled-more}
 use Rattle.search.proofs.matrix.unary_rows.Statement.{statement}
 use Rattle.search.proofs.matrix.unary_rows.Tie as tie
-use Rattle.search.proofs.matrix.unary_rows.Reads as reads
-use Rattle.search.proofs.matrix.unary_rows.Lts as lts
-use Rattle.search.proofs.matrix.unary_at.Reads as unary-at-reads
 
 abbrev Inv-loop : tie.InvT-loop
 Inv-loop r lengths matrices code from rows₀ j₀ rows j = (j ≤ r) × (length rows ≡ 32) × ((t : ℕ) → t < j → UnaryAt code (getD matrices (from + t) 0) (getD lengths t 0) (getD rows t 0))

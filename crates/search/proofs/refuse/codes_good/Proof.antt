@@ -1,17 +1,12 @@
--- `search::refuse::codes_good` meets its contract.
+-- `codes_good` meets its contract: the codes passed are in their group, and none is repeated.
 -- Assumes nothing.
-use Prim.Native.Nat.{ℕ, _-_, _≤_, _<_}
 use mathlib.Core.Logic.{inl, inr}
-use lib.ListN.{length, getD}
-use Rattle.search.proofs.Checks.{GoodBelow, good-none, good-more, good-all}
-use native.Mathlib.Omega.{arith}
+use Prim.Native.Nat.{_-_}
+use lib.ListN.{length}
 use borrow.Author.Needs.{needs}
+use Rattle.search.proofs.Checks.{GoodBelow, good-none, good-more, good-all}
 use Rattle.search.proofs.refuse.codes_good.Statement.{statement}
 use Rattle.search.proofs.refuse.codes_good.Tie as tie
-use Rattle.search.proofs.refuse.codes_good.Reads as reads
-use Rattle.search.proofs.refuse.codes_good.Lts as lts
-use Rattle.search.proofs.refuse.in_group.Reads as in-group-reads
-use Rattle.search.proofs.refuse.seen.Reads as seen-reads
 
 abbrev Inv-loop : tie.InvT-loop
 Inv-loop codes unary i₀ i = GoodBelow unary codes i

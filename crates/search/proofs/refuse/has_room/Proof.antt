@@ -1,13 +1,10 @@
--- `search::refuse::has_room` meets its contract.
+-- `has_room` meets its contract.
 -- Assumes nothing.
 use mathlib.Core.Logic.{inl, inr}
-use Rattle.search.proofs.Products.{at-most}
 use native.Mathlib.Omega.{arith}
-use borrow.Author.Needs.{needs}
+use Rattle.search.proofs.Products.{at-most}
 use Rattle.search.proofs.refuse.has_room.Statement.{statement}
 use Rattle.search.proofs.refuse.has_room.Tie as tie
-use Rattle.search.proofs.refuse.has_room.Reads as reads
-use Rattle.search.proofs.refuse.has_room.Lts as lts
 
 returns : tie.Need-returns
 returns c = inl (c .if1 .taken)

@@ -1,16 +1,13 @@
--- `search::refuse::in_group` meets its contract.
+-- `in_group` meets its contract: the row of the table says which operators have the code.
 -- Assumes nothing.
 use mathlib.Core.Path.{_≡_}
 use Prim.Native.Nat.{ℕ}
-use Rattle.sequence.proofs.Groups.{in-unary, in-binary, off-unary, off-binary}
-use Rattle.search.proofs.Checks.{group-unary, group-binary, group-neither}
 use native.Mathlib.Omega.{arith}
 use borrow.Author.Needs.{needs}
+use Rattle.sequence.proofs.Groups.{in-unary, in-binary, off-unary, off-binary}
+use Rattle.search.proofs.Checks.{group-unary, group-binary, group-neither}
 use Rattle.search.proofs.refuse.in_group.Statement.{statement}
 use Rattle.search.proofs.refuse.in_group.Tie as tie
-use Rattle.search.proofs.refuse.in_group.Reads as reads
-use Rattle.search.proofs.refuse.in_group.Lts as lts
-use Rattle.sequence.proofs.operators.operator_of.Reads as operator-of-reads
 
 operator-of-requires : tie.Need-operator-of-requires
 operator-of-requires c κs = search needs

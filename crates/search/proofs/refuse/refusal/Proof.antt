@@ -1,18 +1,11 @@
--- `search::refuse::refusal` meets its contract.
+-- `refusal` meets its contract: the tests go through the rows in their order.
 -- Assumes nothing.
+use borrow.Author.Needs.{needs}
 use Rattle.search.specs.Table.{cols}
 use Rattle.search.specs.Search.{inputOf}
 use Rattle.search.proofs.Decide.{is-one, is-two, is-three, no-room, is-data, is-seven, is-zero, settings-fine, room-fine, unary-bad, binary-bad, codes-fine, not-one-in}
-use native.Mathlib.Omega.{arith}
-use borrow.Author.Needs.{needs}
 use Rattle.search.proofs.refuse.refusal.Statement.{statement}
 use Rattle.search.proofs.refuse.refusal.Tie as tie
-use Rattle.search.proofs.refuse.refusal.Reads as reads
-use Rattle.search.proofs.refuse.refusal.Lts as lts
-use Rattle.search.proofs.refuse.codes_good.Reads as codes-good-reads
-use Rattle.search.proofs.refuse.has_room.Reads as has-room-reads
-use Rattle.search.proofs.refuse.settings_good.Reads as settings-good-reads
-use Rattle.session.proofs.data.test.Reads as test-reads
 
 test-requires : tie.Need-test-requires
 test-requires c κs = search needs

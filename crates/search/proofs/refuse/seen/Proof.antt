@@ -1,15 +1,13 @@
--- `search::refuse::seen` meets its contract.
+-- `seen` meets its contract: the code is at none of the positions passed.
 -- Assumes nothing.
 use mathlib.Core.Path.{_≡_}
 use Prim.Native.Nat.{ℕ, _-_, _≤_, _<_}
-use lib.ListN.{getD}
-use borrow.Author.Count.{below-none, below-more}
 use native.Mathlib.Omega.{arith}
+use lib.ListN.{getD}
+use borrow.Author.Count.{below-more}
 use borrow.Author.Needs.{needs}
 use Rattle.search.proofs.refuse.seen.Statement.{statement}
 use Rattle.search.proofs.refuse.seen.Tie as tie
-use Rattle.search.proofs.refuse.seen.Reads as reads
-use Rattle.search.proofs.refuse.seen.Lts as lts
 
 abbrev Inv-loop : tie.InvT-loop
 Inv-loop codes n code i₀ i = (i ≤ n) × ((o : ℕ) → o < i → getD codes o 0 ≡ code → ⊥)

@@ -1,12 +1,9 @@
--- `search::refuse::settings_good` meets its contract.
+-- `settings_good` meets its contract.
 -- Assumes nothing.
 use mathlib.Core.Logic.{inl, inr}
 use native.Mathlib.Omega.{arith}
-use borrow.Author.Needs.{needs}
 use Rattle.search.proofs.refuse.settings_good.Statement.{statement}
 use Rattle.search.proofs.refuse.settings_good.Tie as tie
-use Rattle.search.proofs.refuse.settings_good.Reads as reads
-use Rattle.search.proofs.refuse.settings_good.Lts as lts
 
 returns : tie.Need-returns
 returns c = inl (inl (c .if1 .taken))

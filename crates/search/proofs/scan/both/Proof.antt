@@ -1,17 +1,13 @@
--- `search::scan::both` meets its contract.
+-- `both` meets its contract: the two orders of one operator, or what is left of them.
 -- Assumes nothing.
+use mathlib.Core.Path.{sym, _∙_}
 use native.Mathlib.Omega.{arith}
-use mathlib.Core.Path.{_≡_, sym, _∙_}
-use Rattle.search.proofs.Onward.{stopped}
-use Rattle.search.proofs.Both.{listed-commutes, first-asks, second-asks, both-commutes, both-stops, both-goes, both-through, both-second}
 use borrow.Author.Tests.{not-true, not-false}
 use borrow.Author.Needs.{needs}
+use Rattle.search.proofs.Onward.{stopped}
+use Rattle.search.proofs.Both.{listed-commutes, first-asks, second-asks, both-commutes, both-stops, both-goes, both-through, both-second}
 use Rattle.search.proofs.scan.both.Statement.{statement}
 use Rattle.search.proofs.scan.both.Tie as tie
-use Rattle.search.proofs.scan.both.Reads as reads
-use Rattle.search.proofs.scan.both.Lts as lts
-use Rattle.search.proofs.scan.one.Reads as one-reads
-use Rattle.sequence.proofs.operators.operator_of.Reads as operator-of-reads
 
 operator-of-requires : tie.Need-operator-of-requires
 operator-of-requires c κs = search needs

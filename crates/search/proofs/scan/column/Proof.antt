@@ -1,16 +1,11 @@
--- `search::scan::column` meets its contract.
+-- `column` meets its contract: what is left from the right place on comes to what all comes to.
 -- Assumes nothing.
 use Prim.Native.Nat.{_-_}
-use lib.ListN.{length}
+use borrow.Author.Needs.{needs}
 use Rattle.search.proofs.Onward.{stopped}
 use Rattle.search.proofs.PairLoops.{ColumnLoop, column-start, column-row, column-turn, column-stops, column-ends}
-use native.Mathlib.Omega.{arith}
-use borrow.Author.Needs.{needs}
 use Rattle.search.proofs.scan.column.Statement.{statement}
 use Rattle.search.proofs.scan.column.Tie as tie
-use Rattle.search.proofs.scan.column.Reads as reads
-use Rattle.search.proofs.scan.column.Lts as lts
-use Rattle.search.proofs.scan.row.Reads as row-reads
 
 abbrev Inv-loop : tie.InvT-loop
 Inv-loop given marks lengths words binary matrices kept to at tried q₀ o₀ second₀ n₀ q o second n = ColumnLoop given marks lengths words binary matrices kept to at tried q o second n

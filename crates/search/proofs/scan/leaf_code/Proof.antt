@@ -1,12 +1,8 @@
--- `search::scan::leaf_code` meets its contract.
+-- `leaf_code` meets its contract.
 -- Assumes nothing.
 use borrow.Author.Tests.{lt-ltb, le-ltb, eq-eqb, ne-eqb}
-use native.Mathlib.Omega.{arith}
-use borrow.Author.Needs.{needs}
 use Rattle.search.proofs.scan.leaf_code.Statement.{statement}
 use Rattle.search.proofs.scan.leaf_code.Tie as tie
-use Rattle.search.proofs.scan.leaf_code.Reads as reads
-use Rattle.search.proofs.scan.leaf_code.Lts as lts
 
 returns : tie.Need-returns
 returns c = simp (lt-ltb _ _ (c .if1 .taken))

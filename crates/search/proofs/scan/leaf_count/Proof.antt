@@ -1,12 +1,9 @@
--- `search::scan::leaf_count` meets its contract.
+-- `leaf_count` meets its contract.
 -- Assumes nothing.
 use borrow.Author.Tests.{eq-eqb, ne-eqb}
-use native.Mathlib.Omega.{arith}
 use borrow.Author.Needs.{needs}
 use Rattle.search.proofs.scan.leaf_count.Statement.{statement}
 use Rattle.search.proofs.scan.leaf_count.Tie as tie
-use Rattle.search.proofs.scan.leaf_count.Reads as reads
-use Rattle.search.proofs.scan.leaf_count.Lts as lts
 
 add-result : tie.Need-add-result
 add-result c = search needs

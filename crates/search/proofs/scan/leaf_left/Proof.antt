@@ -1,12 +1,8 @@
--- `search::scan::leaf_left` meets its contract.
+-- `leaf_left` meets its contract.
 -- Assumes nothing.
 use borrow.Author.Tests.{lt-ltb, le-ltb}
-use native.Mathlib.Omega.{arith}
-use borrow.Author.Needs.{needs}
 use Rattle.search.proofs.scan.leaf_left.Statement.{statement}
 use Rattle.search.proofs.scan.leaf_left.Tie as tie
-use Rattle.search.proofs.scan.leaf_left.Reads as reads
-use Rattle.search.proofs.scan.leaf_left.Lts as lts
 
 returns : tie.Need-returns
 returns c = simp (lt-ltb _ _ (c .if1 .taken))

@@ -1,16 +1,10 @@
--- `search::scan::one` meets its contract.
+-- `one` meets its contract: the three tests in the walk's order.
 -- Assumes nothing.
-use native.Mathlib.Omega.{arith}
-use mathlib.Core.Path.{_≡_, sym, _∙_}
-use Rattle.search.proofs.Judge.{one-found, one-known, one-new}
+use mathlib.Core.Path.{sym, _∙_}
 use borrow.Author.Needs.{needs}
+use Rattle.search.proofs.Judge.{one-found, one-known, one-new}
 use Rattle.search.proofs.scan.one.Statement.{statement}
 use Rattle.search.proofs.scan.one.Tie as tie
-use Rattle.search.proofs.scan.one.Reads as reads
-use Rattle.search.proofs.scan.one.Lts as lts
-use Rattle.search.proofs.matrix.agrees.Reads as agrees-reads
-use Rattle.search.proofs.matrix.known.Reads as known-reads
-use Rattle.search.proofs.matrix.rows_of.Reads as rows-of-reads
 
 rows-of-requires : tie.Need-rows-of-requires
 rows-of-requires c κs = search needs

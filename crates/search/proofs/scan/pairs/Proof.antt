@@ -1,16 +1,11 @@
--- `search::scan::pairs` meets its contract.
+-- `pairs` meets its contract: what is left from the left place on comes to what all comes to.
 -- Assumes nothing.
 use Prim.Native.Nat.{_-_}
-use lib.ListN.{length}
+use borrow.Author.Needs.{needs}
 use Rattle.search.proofs.Onward.{stopped}
 use Rattle.search.proofs.PairLoops.{PairsLoop, pairs-start, pairs-column, pairs-turn, pairs-stops, pairs-ends}
-use native.Mathlib.Omega.{arith}
-use borrow.Author.Needs.{needs}
 use Rattle.search.proofs.scan.pairs.Statement.{statement}
 use Rattle.search.proofs.scan.pairs.Tie as tie
-use Rattle.search.proofs.scan.pairs.Reads as reads
-use Rattle.search.proofs.scan.pairs.Lts as lts
-use Rattle.search.proofs.scan.column.Reads as column-reads
 
 abbrev Inv-loop : tie.InvT-loop
 Inv-loop given marks lengths words binary matrices kept end from to at tried l₀ q₀ o₀ second₀ n₀ l q o second n = PairsLoop given marks lengths words binary matrices kept end from to at tried l q o second n

@@ -1,16 +1,12 @@
--- `search::scan::row` meets its contract.
+-- `row` meets its contract: what is left from the operator on comes to what all comes to.
 -- Assumes nothing.
 use Prim.Native.Nat.{_-_}
 use lib.ListN.{length}
+use borrow.Author.Needs.{needs}
 use Rattle.search.proofs.Onward.{stopped}
 use Rattle.search.proofs.PairLoops.{RowLoop, row-start, row-both, row-turn, row-stops, row-ends}
-use native.Mathlib.Omega.{arith}
-use borrow.Author.Needs.{needs}
 use Rattle.search.proofs.scan.row.Statement.{statement}
 use Rattle.search.proofs.scan.row.Tie as tie
-use Rattle.search.proofs.scan.row.Reads as reads
-use Rattle.search.proofs.scan.row.Lts as lts
-use Rattle.search.proofs.scan.both.Reads as both-reads
 
 abbrev Inv-loop : tie.InvT-loop
 Inv-loop given marks lengths words binary matrices kept at tried o₀ second₀ n₀ o second n = RowLoop given marks lengths words binary matrices kept at tried o second n

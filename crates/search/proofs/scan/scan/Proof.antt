@@ -1,16 +1,11 @@
--- `search::scan::scan` meets its contract.
+-- `scan` meets its contract: leaves, or unary operators and then pairs.
 -- Assumes nothing.
-use Rattle.search.proofs.Onward.{stopped}
-use Rattle.search.proofs.Layer.{pos-of-ne, scan-seeds-asks, scan-unary-asks, scan-splits-asks, scan-seeds, scan-stops, scan-goes, scan-pairs}
 use native.Mathlib.Omega.{arith}
 use borrow.Author.Needs.{needs}
+use Rattle.search.proofs.Onward.{stopped}
+use Rattle.search.proofs.Layer.{pos-of-ne, scan-seeds-asks, scan-unary-asks, scan-splits-asks, scan-seeds, scan-stops, scan-goes, scan-pairs}
 use Rattle.search.proofs.scan.scan.Statement.{statement}
 use Rattle.search.proofs.scan.scan.Tie as tie
-use Rattle.search.proofs.scan.scan.Reads as reads
-use Rattle.search.proofs.scan.scan.Lts as lts
-use Rattle.search.proofs.scan.seeds.Reads as seeds-reads
-use Rattle.search.proofs.scan.splits.Reads as splits-reads
-use Rattle.search.proofs.scan.unary_places.Reads as unary-places-reads
 
 seeds-requires : tie.Need-seeds-requires
 seeds-requires c κs = scan-seeds-asks (c .before .before .before .before .before .before .before .before .pre)

@@ -1,19 +1,12 @@
--- `search::scan::seeds` meets its contract.
+-- `seeds` meets its contract: what is left from the leaf on comes to what all comes to.
 -- Assumes nothing.
 use Prim.Native.Nat.{_-_}
-use lib.ListN.{length}
-use Rattle.search.proofs.Onward.{stopped}
-use Rattle.search.proofs.UnaryLoops.{count-most, SeedsLoop, seeds-start, seeds-one, seeds-turn, seeds-stops, seeds-ends}
 use native.Mathlib.Omega.{arith}
 use borrow.Author.Needs.{needs}
+use Rattle.search.proofs.Onward.{stopped}
+use Rattle.search.proofs.UnaryLoops.{count-most, SeedsLoop, seeds-start, seeds-one, seeds-turn, seeds-stops, seeds-ends}
 use Rattle.search.proofs.scan.seeds.Statement.{statement}
 use Rattle.search.proofs.scan.seeds.Tie as tie
-use Rattle.search.proofs.scan.seeds.Reads as reads
-use Rattle.search.proofs.scan.seeds.Lts as lts
-use Rattle.search.proofs.scan.leaf_code.Reads as leaf-code-reads
-use Rattle.search.proofs.scan.leaf_count.Reads as leaf-count-reads
-use Rattle.search.proofs.scan.leaf_left.Reads as leaf-left-reads
-use Rattle.search.proofs.scan.one.Reads as one-reads
 
 abbrev Inv-loop : tie.InvT-loop
 Inv-loop given marks lengths words matrices kept from tried m count p₀ n₀ p n = SeedsLoop given marks lengths words matrices kept from tried p n

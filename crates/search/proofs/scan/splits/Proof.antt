@@ -1,16 +1,11 @@
--- `search::scan::splits` meets its contract.
+-- `splits` meets its contract: what is left from the split on comes to what all comes to.
 -- Assumes nothing.
 use Prim.Native.Nat.{_-_}
-use lib.ListN.{length}
+use borrow.Author.Needs.{needs}
 use Rattle.search.proofs.Onward.{stopped}
 use Rattle.search.proofs.Splits.{cursorAt, SplitsLoop, splits-start, splits-pairs, splits-turn, splits-stops, splits-ends}
-use native.Mathlib.Omega.{arith}
-use borrow.Author.Needs.{needs}
 use Rattle.search.proofs.scan.splits.Statement.{statement}
 use Rattle.search.proofs.scan.splits.Tie as tie
-use Rattle.search.proofs.scan.splits.Reads as reads
-use Rattle.search.proofs.scan.splits.Lts as lts
-use Rattle.search.proofs.scan.pairs.Reads as pairs-reads
 
 abbrev Inv-loop : tie.InvT-loop
 Inv-loop given marks lengths words binary matrices kept starts s tried half i₀ l₀ q₀ o₀ second₀ n₀ i l q o second n = SplitsLoop given marks lengths words binary matrices kept starts s (cursorAt i₀ l₀ q₀ o₀ second₀) tried i l q o second n

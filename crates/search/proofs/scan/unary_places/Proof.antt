@@ -1,17 +1,12 @@
--- `search::scan::unary_places` meets its contract.
+-- `unary_places` meets its contract: what is left from the place on comes to what all comes to.
 -- Assumes nothing.
-use Prim.Native.Nat.{_-_}
-use lib.ListN.{length}
 use mathlib.Core.Bool.{false}
+use Prim.Native.Nat.{_-_}
+use borrow.Author.Needs.{needs}
 use Rattle.search.proofs.Onward.{stopped}
 use Rattle.search.proofs.UnaryLoops.{UnaryLoop, unary-start, unary-row, unary-turn, unary-stops, unary-ends, unary-asks, unary-does}
-use native.Mathlib.Omega.{arith}
-use borrow.Author.Needs.{needs}
 use Rattle.search.proofs.scan.unary_places.Statement.{statement}
 use Rattle.search.proofs.scan.unary_places.Tie as tie
-use Rattle.search.proofs.scan.unary_places.Reads as reads
-use Rattle.search.proofs.scan.unary_places.Lts as lts
-use Rattle.search.proofs.scan.unary_row.Reads as unary-row-reads
 
 abbrev Inv-loop : tie.InvT-loop
 Inv-loop given marks lengths words unary matrices kept to tried p₀ o₀ n₀ p o n = UnaryLoop given marks lengths words unary matrices kept to (record { split = 0; left = p₀; right = 0; operator = o₀; second = false }) tried p o n

@@ -1,16 +1,12 @@
--- `search::scan::unary_row` meets its contract.
+-- `unary_row` meets its contract: what is left from the operator on comes to what all comes to.
 -- Assumes nothing.
 use Prim.Native.Nat.{_-_}
 use lib.ListN.{length}
+use borrow.Author.Needs.{needs}
 use Rattle.search.proofs.Onward.{stopped}
 use Rattle.search.proofs.UnaryLoops.{UnaryRowLoop, unary-row-start, unary-row-one, unary-row-turn, unary-row-stops, unary-row-ends}
-use native.Mathlib.Omega.{arith}
-use borrow.Author.Needs.{needs}
 use Rattle.search.proofs.scan.unary_row.Statement.{statement}
 use Rattle.search.proofs.scan.unary_row.Tie as tie
-use Rattle.search.proofs.scan.unary_row.Reads as reads
-use Rattle.search.proofs.scan.unary_row.Lts as lts
-use Rattle.search.proofs.scan.one.Reads as one-reads
 
 abbrev Inv-loop : tie.InvT-loop
 Inv-loop given marks lengths words unary matrices kept place from tried o₀ n₀ o n = UnaryRowLoop given marks lengths words unary matrices kept place from tried o n
