@@ -12,10 +12,12 @@
  *
  * A formula says something of a session's snapshots. Its operators have codes:
  *
- *     unary    0 `!` not          1 `X` at the next snapshot, if there is one     2 `X[!]` there is a next one, and at it
- *              3 `F` at some snapshot from here on                                4 `G` at every snapshot from here on
- *     binary   5 `|` or           6 `&` and           7 `U` until           8 `R` release           9 `->` implies           10 `<->` equivalent
- *     leaves  16 a proposition   17 false            18 true
+ *     unary    0 `!` not            1 `X` at the next snapshot, if there is one       2 `X[!]` there is a next snapshot, and at it
+ *              3 `F` at some snapshot from here on                                    4 `G` at every snapshot from here on
+ *     binary   5 `|` or             6 `&` and            9 `->` implies              10 `<->` equivalent
+ *              7 `U` f U g: g at some snapshot from here on, and f at every one before that
+ *              8 `R` f R g: g at every snapshot from here on up to the first with f, that one included; without such a one, to the end
+ *     leaves  16 a proposition     17 false             18 true
  *
  * A session accepts a formula if it has a snapshot and the formula holds at the first one. A formula separates the sessions if every good one
  * accepts it and no bad one does.
