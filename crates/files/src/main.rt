@@ -2,7 +2,7 @@
 // s, 3 marks, 3 lengths, 4 words, 6 unary and 7 binary codes, all 99 before, and written out after; m, n, w, u, b, as much but for 1 mark, 1 length,
 // 1 word, 4 unary or 5 binary codes; l, room for the largest file.
 // A line that starts with # is copied.
-use session::file::ReadAnswer;
+use file::ReadAnswer;
 ghost use Prim.Native.Nat.{_<_, _≤_};
 ghost use lib.ListN.{length};
 
@@ -107,7 +107,7 @@ fn run(
     unary: &mut [u8],
     binary: &mut [u8],
 ) {
-    let answer = session::file::read(file, marks, lengths, words, unary, binary);
+    let answer = file::read(file, marks, lengths, words, unary, binary);
     show(answer);
     show_bytes(marks);
     show_bytes(lengths);
@@ -219,7 +219,7 @@ fn largest(file: &[u8]) {
     let mut words = [99u64; 512];
     let mut unary = [99u8; 5];
     let mut binary = [99u8; 6];
-    let answer = session::file::read(
+    let answer = file::read(
         file,
         &mut marks,
         &mut lengths,

@@ -20,7 +20,6 @@ use Rattle.walk.specs.Formula.{Formula, Holds, Separates}
 use Rattle.walk.specs.Nodes.{Node, Spells, codes}
 use Rattle.walk.specs.Walk.{count}
 use Rattle.walk.specs.Input.{Input, markOf, lengthOf, wordOf, session, sessions}
-use Rattle.formula.specs.Kinds.{mostNumber}
 use Rattle.formula.specs.Rule.{Broken, brokenList}
 use Rattle.formula.specs.Check.{checkRows, Agrees, Outcome}
 use Rattle.formula.specs.Inner.{Fits, traceAt, Ready, Evaluated, AgreesWord, Checkable, Found}
@@ -132,12 +131,6 @@ module _ (i : Input) (k : List Node) (root : Node) where
   checkable a b p e q f =
       passed i k root (subst (Decided (dataRows (i .sessions) (i .propositions) (i .marks) (i .lengths) (i .words))) e p)
       (decided-none (brokenList (i .propositions) k root) [] (lit< tt, tt) (subst (Decided (brokenList (i .propositions) k root ∷ [])) f q) .0)
-
-  pub few-propositions : (a : ℕ) → Decided (dataRows (i .sessions) (i .propositions) (i .marks) (i .lengths) (i .words)) a → a ≡ 0 → i .propositions ≤ mostNumber
-  few-propositions a p e =
-      let d = decided-none _ _ data-numbered (subst (Decided (dataRows (i .sessions) (i .propositions) (i .marks) (i .lengths) (i .words))) e p) in
-      let x : mostPropositions < i .propositions → ⊥ = λ h. d .0 (inr (inr h)) in
-      omega arith
 
 -- ---- separation, session by session
 

@@ -4,9 +4,4 @@ pub mod Tests
 pub mod Spelled
 pub mod Evaluation
 pub mod Checking
-pub mod Names
-pub mod Writing
-pub mod Texts
-pub mod Printing
-pub mod Answers
 pub mod Unique

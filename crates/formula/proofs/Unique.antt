@@ -1,30 +1,39 @@
 -- Uniqueness: any two results that a public operation's contract allows for the same input are equal; and what the check's verdicts mean.
--- For `Proposition::from_left` and `Proposition::to_left` the contract is the number itself.
+-- For `Proposition::from_left`, `Proposition::to_left` and `nodes::count` the contract is the number itself; for `nodes::refusal` it is `decided-unique`.
 -- Assumes nothing.
-use mathlib.Core.Path.{_≡_, refl, sym, ap, ap₂, _∙_, subst}
-use mathlib.Core.Logic.{_↔_, _⊎_, ⊎-elim}
-use mathlib.Core.List.{List, [], _∷_, head-eq-of-cons-eq, tail-eq-of-cons-eq, nil≢cons}
+use mathlib.Core.Path.{_≡_, refl, sym, ap, subst}
+use mathlib.Core.Logic.{_↔_, ⊎-elim}
+use mathlib.Core.List.{List, head-eq-of-cons-eq, tail-eq-of-cons-eq, nil≢cons}
 use Prim.Native.Nat.{ℕ}
 use native.Mathlib.Nat.{eq-or-lt-of-le}
-use native.Mathlib.Decide.{ℕ-discrete, decLt}
+use native.Mathlib.Decide.{decLt}
 use native.Mathlib.Omega.{arith}
-use lib.ListN.{length}
 use Rattle.sequence.proofs.Refusals.{decided-unique}
-use Rattle.session.specs.Offence.{Got, got, bad, wholeNames}
-use Rattle.session.specs.Reading.{Said, over}
 use Rattle.walk.specs.Formula.{Formula, Separates}
 use Rattle.walk.specs.Nodes.{Node, Spells, codes}
 use Rattle.walk.specs.Input.{Input, sessions}
+use Rattle.formula.specs.declared.kinds.Place.{Place}
+use Rattle.formula.specs.declared.kinds.Node as kinds
 use Rattle.formula.specs.declared.kinds.Session.{Session}
 use Rattle.formula.specs.declared.Verdict.{Verdict}
 use Rattle.formula.specs.declared.Verdict.the-variants.{Accepted, Disagrees, Refused}
-use Rattle.formula.specs.declared.Printed.{Printed}
-use Rattle.formula.specs.declared.Printed.the-variants.{Text, Broken, Refused as NotPrinted}
-use Rattle.formula.specs.Text.{text}
+use Rattle.formula.specs.Kinds.{nodeOf}
 use Rattle.formula.specs.Check.{saidVerdict, FirstDisagrees, CheckAnswer}
-use Rattle.formula.specs.Print.{saidPrinted, PrintAnswer, PrintsBy, Prints}
 use Rattle.formula.proofs.Spelled.{spells-one}
 use Rattle.formula.proofs.Checking.{each-agrees}
+
+-- ---- the node at a place
+
+place : ℕ → Place
+place n = record { 0 = n }
+
+kindsOf : Node → kinds.Node
+kindsOf n = record { code = n .code; left = place (n .left); right = place (n .right); size = n .size }
+
+-- a node whose places are of their kind is determined by its numbers
+pub node-unique : (a b : kinds.Node) → nodeOf a ≡ nodeOf b → a ≡ b
+unfolding kindsOf place
+node-unique a b e = ap kindsOf e
 
 -- ---- the check
 
@@ -91,51 +100,3 @@ module _ (i : Input) (k : List Node) (root : Node) where
       let f = subst (λ (u : Formula). FirstDisagrees i u (j .0)) (spells-one k root (p .0) t (p .1) s) (p .2) in
       (λ q. let z : _≡_ {A = ℕ} 0 1 = cc in absurd (omega arith), λ q. absurd (f .disagrees (each-agrees i t q (j .0) (f .there))))
   accepts-separating (Refused n) a e t s = absurd (not-none n a e)
-
--- ---- printing
-
-said : ℕ → List ℕ → Said
-said n vs = record { number = n; values = vs }
-
-same-said : (s r : Said) → s .number ≡ r .number → s .values ≡ r .values → s ≡ r
-unfolding said
-same-said s r p q = ap₂ said p q
-
-module _ (names : List (List ℕ)) (k : List Node) (root : Node) (old : List ℕ) where
-  same-print : (s r : Said) (new later : List ℕ) → PrintAnswer names k root old s new → PrintAnswer names k root old r later → (s ≡ r) × (new ≡ later)
-  same-print s r new later a b =
-      let n = decided-unique _ (s .number) (r .number) (a .number) (b .number) in
-      elim (ℕ-discrete (s .number) 0) [
-        | yes e ↦
-            let p = a .passed e in
-            let q = b .passed (sym n ∙ e) in
-            let t = ap (text names) (spells-one k root (p .0) (q .0) (p .1) (q .1)) in
-            (same-said s r n (p .2 ∙ ap (λ (x : List ℕ). length x ∷ []) t ∙ sym (q .2)), p .3 ∙ ap (λ (x : List ℕ). over x old) t ∙ sym (q .3))
-        | no e ↦
-            let p = a .refused e in
-            let q = b .refused (λ z. e (n ∙ z)) in
-            (same-said s r n (p .0 ∙ sym (q .0)), p .1 ∙ sym (q .1))
-      ]
-
-same-by : (g : Got (List (List ℕ))) (k : List Node) (root : Node) (old : List ℕ) (s r : Said) (new later : List ℕ)
-    → PrintsBy g k root old s new → PrintsBy g k root old r later → (s ≡ r) × (new ≡ later)
-same-by (bad o) k root old s r new later a b = (a .0 ∙ sym (b .0), a .1 ∙ sym (b .1))
-same-by (got names next) k root old s r new later a b = same-print names k root old s r new later a b
-
-printed-one : (p q : Printed) → saidPrinted p ≡ saidPrinted q → p ≡ q
-printed-one (Text n) (Text m) e = ap Text (head-eq-of-cons-eq (ap (λ (s : Said). s .values) e))
-printed-one (Text n) (Broken o) e = let z = ap (λ (s : Said). s .number) e in absurd (omega arith)
-printed-one (Text n) (NotPrinted m) e = absurd (nil≢cons (sym (ap (λ (s : Said). s .values) e)))
-printed-one (Broken o) (Text m) e = let z = ap (λ (s : Said). s .number) e in absurd (omega arith)
-printed-one (Broken o) (Broken u) e = ap Broken (head-eq-of-cons-eq (ap (λ (s : Said). s .values) e))
-printed-one (Broken o) (NotPrinted m) e = absurd (nil≢cons (sym (ap (λ (s : Said). s .values) e)))
-printed-one (NotPrinted n) (Text m) e = absurd (nil≢cons (ap (λ (s : Said). s .values) e))
-printed-one (NotPrinted n) (Broken o) e = absurd (nil≢cons (ap (λ (s : Said). s .values) e))
-printed-one (NotPrinted n) (NotPrinted m) e = ap NotPrinted (ap (λ (s : Said). s .number) e)
-
--- the answer, and what the lent room holds
-pub print-unique : (file : List ℕ) (k : List Node) (root : Node) (old : List ℕ) (p q : Printed) (new later : List ℕ)
-    → Prints file k root old (saidPrinted p) new → Prints file k root old (saidPrinted q) later → (p ≡ q) × (new ≡ later)
-print-unique file k root old p q new later a b =
-    let e = same-by (wholeNames file) k root old (saidPrinted p) (saidPrinted q) new later a b in
-    (printed-one p q (e .0), e .1)

@@ -6,7 +6,7 @@ use mathlib.Core.List.{List, [], _∷_, _++_}
 use Prim.Native.Nat.{ℕ, _<_}
 use Rattle.sequence.specs.Refusals.{Row, Decided}
 use Rattle.session.specs.Data.{dataRows}
-use Rattle.session.specs.Reading.{Said}
+use Rattle.session.specs.Answers.{Said}
 use Rattle.walk.specs.Formula.{Formula, Session, Accepts, Separates}
 use Rattle.walk.specs.Nodes.{Node, Spells, codes}
 use Rattle.walk.specs.Input.{Input, session, sessions}

@@ -1,5 +1,7 @@
 // One session's word of a formula, over a node list that has passed the rule.
+use crate::kinds::FALSE;
 use crate::kinds::Node;
+use crate::kinds::PROPOSITION;
 use crate::kinds::Proposition;
 use crate::nodes::node_at;
 use sequence::CharSeq;
@@ -26,11 +28,11 @@ fn leaf_word(
     requires { ⌜ Ready length (now words) from (nodes (now codes) (now lefts) (now rights) (now sizes)) below (nodeOf node) × (IsUnary (node .code) → ⊥) × (IsBinary (node .code) → ⊥) ⌝ }
     ensures { λ r. ⌜ Evaluated length (now (words .entry)) from (nodes (now (codes .entry)) (now (lefts .entry)) (now (rights .entry)) (now (sizes .entry))) (nodeOf node) r ⌝ }
 {
-    if node.code == 16 {
+    if node.code == PROPOSITION {
         let p = Proposition::from_left(node.left).0 as usize;
         return words[from + p];
     }
-    if node.code == 17 {
+    if node.code == FALSE {
         return 0;
     }
     CharSeq::mask(length)

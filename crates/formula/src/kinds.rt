@@ -1,4 +1,4 @@
-// Place numbers, session numbers and proposition numbers are kinds that can't be mixed; and the node.
+// Place numbers, session numbers and proposition numbers are kinds that can't be mixed; the node, and the codes of leaves.
 ghost use mathlib.Core.Path.{_≡_};
 ghost use Prim.Native.Nat.{min};
 ghost use Rattle.formula.specs.Kinds.{mostNumber};
@@ -8,6 +8,13 @@ pub struct Place(pub u16);
 pub struct Session(pub u8);
 
 pub struct Proposition(pub u8);
+
+// The codes of leaves. Those of operators are the table's.
+pub const PROPOSITION: u8 = 16;
+
+pub const FALSE: u8 = 17;
+
+pub const TRUE: u8 = 18;
 
 // Unused fields are 0; the left field of a proposition's node is its number.
 pub struct Node {

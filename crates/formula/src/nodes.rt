@@ -1,7 +1,8 @@
-// The rule of a node list (number 9), tested at each listed node and at the root.
+// The nodes of four lent slices, and the rule of a node list (number 9), tested at each listed node and at the root.
 use crate::kinds::Node;
+use crate::kinds::PROPOSITION;
 use crate::kinds::Place;
-use crate::kinds::Proposition;
+use crate::kinds::TRUE;
 use sequence::operators::Group;
 ghost use mathlib.Core.Path.{_≡_};
 ghost use mathlib.Core.List.{[], _∷_};
@@ -12,8 +13,11 @@ ghost use Rattle.formula.specs.Kinds.{nodeOf, countOf, nodes, mostNumber
 ghost use Rattle.formula.specs.Rule.{IsUnary, IsBinary, brokenList};
 ghost use Rattle.formula.specs.Inner.{Judged, AllJudged};
 
+// The most nodes of a list.
+pub const NODES: usize = 4096;
+
 // How many nodes four slices have: as many as the shortest.
-pub(crate) fn count(codes: &[u8], lefts: &[u16], rights: &[u16], sizes: &[u8]) -> usize
+pub fn count(codes: &[u8], lefts: &[u16], rights: &[u16], sizes: &[u8]) -> usize
     ensures { λ r. ⌜ r ≡ countOf (now (codes .entry)) (now (lefts .entry)) (now (rights .entry)) (now (sizes .entry)) ⌝ }
 {
     let mut n = codes.len();
@@ -29,11 +33,18 @@ pub(crate) fn count(codes: &[u8], lefts: &[u16], rights: &[u16], sizes: &[u8]) -
     n
 }
 
-// The node at a place.
-pub(crate) fn node_at(codes: &[u8], lefts: &[u16], rights: &[u16], sizes: &[u8], at: usize) -> Node
-    requires { ⌜ at < countOf (now codes) (now lefts) (now rights) (now sizes) ⌝ }
+// The node at a place; where there is none, one whose numbers are all 0.
+pub fn node_at(codes: &[u8], lefts: &[u16], rights: &[u16], sizes: &[u8], at: usize) -> Node
     ensures { λ r. ⌜ nodeOf r ≡ nodeAt (nodes (now (codes .entry)) (now (lefts .entry)) (now (rights .entry)) (now (sizes .entry))) at ⌝ }
 {
+    if count(codes, lefts, rights, sizes) <= at {
+        return Node {
+            code: 0,
+            left: Place(0),
+            right: Place(0),
+            size: 0,
+        };
+    }
     let code = codes[at];
     let left = lefts[at];
     let right = rights[at];
@@ -64,13 +75,13 @@ fn leaf_good(
     below: usize,
     node: Node,
 ) -> bool
-    requires { ⌜ (m ≤ mostNumber) × (IsUnary (node .code) → ⊥) × (IsBinary (node .code) → ⊥) ⌝ }
+    requires { ⌜ (IsUnary (node .code) → ⊥) × (IsBinary (node .code) → ⊥) ⌝ }
     ensures { λ r. ⌜ Judged m (nodes (now (codes .entry)) (now (lefts .entry)) (now (rights .entry)) (now (sizes .entry))) below (nodeOf node) r ⌝ }
 {
-    if node.code < 16 {
+    if node.code < PROPOSITION {
         return false;
     }
-    if 18 < node.code {
+    if TRUE < node.code {
         return false;
     }
     if node.right.0 != 0 {
@@ -79,9 +90,8 @@ fn leaf_good(
     if node.size != 1 {
         return false;
     }
-    if node.code == 16 {
-        let p = Proposition::from_left(node.left);
-        if (p.0 as usize) < m {
+    if node.code == PROPOSITION {
+        if (node.left.0 as usize) < m {
             return true;
         }
         return false;
@@ -116,7 +126,7 @@ fn unary_good(
     if size != 1 + l {
         return false;
     }
-    if 31 < size {
+    if session::BOUND < size {
         return false;
     }
     true
@@ -148,7 +158,7 @@ fn binary_good(
     if size != 1 + l + r {
         return false;
     }
-    if 31 < size {
+    if session::BOUND < size {
         return false;
     }
     true
@@ -164,7 +174,7 @@ fn node_good(
     below: usize,
     node: Node,
 ) -> bool
-    requires { ⌜ (m ≤ mostNumber) × (below ≤ countOf (now codes) (now lefts) (now rights) (now sizes)) ⌝ }
+    requires { ⌜ below ≤ countOf (now codes) (now lefts) (now rights) (now sizes) ⌝ }
     ensures { λ r. ⌜ Judged m (nodes (now (codes .entry)) (now (lefts .entry)) (now (rights .entry)) (now (sizes .entry))) below (nodeOf node) r ⌝ }
 {
     let group = sequence::operators::operator_of(node.code).group;
@@ -177,7 +187,7 @@ fn node_good(
 
 // Each of the first n nodes, reachable or not.
 fn nodes_good(m: usize, codes: &[u8], lefts: &[u16], rights: &[u16], sizes: &[u8], n: usize) -> bool
-    requires { ⌜ (m ≤ mostNumber) × (n ≤ countOf (now codes) (now lefts) (now rights) (now sizes)) ⌝ }
+    requires { ⌜ n ≤ countOf (now codes) (now lefts) (now rights) (now sizes) ⌝ }
     ensures { λ r. ⌜ AllJudged m (nodes (now (codes .entry)) (now (lefts .entry)) (now (rights .entry)) (now (sizes .entry))) n r ⌝ }
 {
     let mut i: usize = 0;
@@ -193,7 +203,7 @@ fn nodes_good(m: usize, codes: &[u8], lefts: &[u16], rights: &[u16], sizes: &[u8
 }
 
 // 9 where the list or the root breaks the rule, else 0.
-pub(crate) fn refusal(
+pub fn refusal(
     m: usize,
     codes: &[u8],
     lefts: &[u16],
@@ -201,11 +211,10 @@ pub(crate) fn refusal(
     sizes: &[u8],
     root: Node,
 ) -> u8
-    requires { ⌜ m ≤ mostNumber ⌝ }
     ensures { λ r. ⌜ Decided (brokenList m (nodes (now (codes .entry)) (now (lefts .entry)) (now (rights .entry)) (now (sizes .entry))) (nodeOf root) ∷ []) r ⌝ }
 {
     let n = count(codes, lefts, rights, sizes);
-    if 4096 < n {
+    if NODES < n {
         return 9;
     }
     if nodes_good(m, codes, lefts, rights, sizes, n) {

@@ -11,20 +11,20 @@ use native.Mathlib.Omega.{arith}
 use lib.Dec.{lit≤}
 use lib.ListN.{length}
 use Rattle.sequence.specs.Refusals.{Decided}
-use Rattle.session.specs.Format.{GoodName}
-use Rattle.session.specs.Offence.{Got, got, bad, namesUpTo, wholeNames}
+use Rattle.file.specs.Format.{GoodName}
+use Rattle.file.specs.Offence.{Got, got, bad, namesUpTo, wholeNames}
 use Rattle.session.specs.Numbers.{propositions}
-use Rattle.session.specs.Reading.{Said}
-use Rattle.session.proofs.Whole.{end-sound, names-sound}
-use Rattle.session.proofs.Offsets.{names-offset-small}
-use Rattle.session.proofs.Theorems.{each-at}
+use Rattle.session.specs.Answers.{Said}
+use Rattle.file.proofs.Whole.{end-sound, names-sound}
+use Rattle.file.proofs.Offsets.{names-offset-small}
+use Rattle.file.proofs.Theorems.{each-at}
 use Rattle.walk.specs.Formula.{leaf, unary, binary, proposition, constant, Formula}
 use Rattle.walk.specs.Nodes.{Node, Spells, codes}
-use Rattle.formula.specs.declared.Printed.{Printed}
+use Rattle.text.specs.declared.Printed.{Printed}
 use Rattle.formula.specs.Rule.{noProposition, Broken, rooted}
-use Rattle.formula.specs.Text.{text}
-use Rattle.formula.specs.Print.{saidPrinted, printRows, PrintAnswer, PrintsBy, Prints}
-use Rattle.formula.proofs.Texts.{length-unary, length-binary}
+use Rattle.text.specs.Text.{text}
+use Rattle.text.specs.Print.{saidPrinted, printRows, PrintAnswer, PrintsBy, Prints}
+use Rattle.text.proofs.Texts.{length-unary, length-binary}
 use Rattle.scarfpylon.specs.Out.{outWords, brokenAt, numberWith, wordsWith, written, returnedOf, saidWords}
 use Rattle.scarfpylon.specs.Print.{PrintNumber, PrintDone}
 use Rattle.scarfpylon.specs.Inner.{Fits, PrintUnanswered}

@@ -9,13 +9,14 @@ use native.Mathlib.Omega.{arith}
 use borrow.Author.Tests.{leb-true, leb-false}
 use lib.Dec.{leb}
 use lib.ListN.{length}
-use Rattle.session.specs.Format.{Parts}
-use Rattle.session.specs.Offence.{Got, got, bad, wholeFile}
-use Rattle.session.specs.Reading.{Said, broken, tooLittleRoom, Lent, lent, After, roomFor, handedOut, readOf}
-use Rattle.session.specs.Reading as core
-use Rattle.session.proofs.Numbers.{Bytes}
-use Rattle.session.proofs.Whole.{passed-is-good}
-use Rattle.session.proofs.Offsets.{offset-small}
+use Rattle.file.specs.Format.{Parts}
+use Rattle.file.specs.Offence.{Got, got, bad, wholeFile}
+use Rattle.session.specs.Answers.{Said}
+use Rattle.file.specs.Reading.{broken, tooLittleRoom, Lent, lent, After, roomFor, handedOut, readOf}
+use Rattle.file.specs.Reading as core
+use Rattle.file.proofs.Numbers.{Bytes}
+use Rattle.file.proofs.Whole.{passed-is-good}
+use Rattle.file.proofs.Offsets.{offset-small}
 use Rattle.scarfpylon.specs.Out.{outWords, brokenAt, returnedOf}
 use Rattle.scarfpylon.specs.Read.{done, doneBy, outcome, readDone}
 use Rattle.scarfpylon.specs.Inner.{Fits, readUnanswered}

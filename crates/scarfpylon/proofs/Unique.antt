@@ -11,15 +11,16 @@ use Rattle.sequence.specs.Refusals.{Row}
 use Rattle.sequence.specs.Sequence.{seq, unaryRows, binaryRows, Answers, UnaryRead, BinaryRead}
 use Rattle.sequence.proofs.Refusals.{decided-unique}
 use Rattle.sequence.proofs.Unique.{unary-unique, binary-unique}
-use Rattle.session.specs.Offence.{Got, got, bad, wholeNames}
-use Rattle.session.specs.Reading.{Lent}
+use Rattle.file.specs.Offence.{Got, got, bad, wholeNames}
+use Rattle.file.specs.Reading.{Lent}
 use Rattle.walk.specs.Nodes.{Node}
 use Rattle.walk.specs.Input.{Input}
 use Rattle.formula.specs.declared.Verdict.{Verdict}
-use Rattle.formula.specs.declared.Printed.{Printed}
+use Rattle.text.specs.declared.Printed.{Printed}
 use Rattle.formula.specs.Check.{saidVerdict}
-use Rattle.formula.specs.Print.{saidPrinted}
-use Rattle.formula.proofs.Unique.{check-unique, print-unique}
+use Rattle.text.specs.Print.{saidPrinted}
+use Rattle.formula.proofs.Unique.{check-unique}
+use Rattle.text.proofs.Unique.{print-unique}
 use Rattle.search.specs.declared.SearchAnswer.{SearchAnswer}
 use Rattle.search.specs.Table.{Cols}
 use Rattle.search.proofs.Promises.{search-unique}

@@ -9,9 +9,10 @@ use Rattle.sequence.specs.declared.Answer.{Answer}
 use Rattle.sequence.specs.declared.Answer.the-variants.{Sequence, Refused}
 use Rattle.sequence.specs.Refusals.{Row, Decided}
 use Rattle.session.specs.Data.{outsideNumbers}
-use Rattle.session.specs.Format.{Parts}
-use Rattle.session.specs.Offence.{Got, got, bad}
-use Rattle.session.specs.Reading.{Said, broken}
+use Rattle.file.specs.Format.{Parts}
+use Rattle.file.specs.Offence.{Got, got, bad}
+use Rattle.session.specs.Answers.{Said}
+use Rattle.file.specs.Reading.{broken}
 use Rattle.walk.specs.Nodes.{Node}
 use Rattle.formula.specs.Rule.{brokenList}
 use Rattle.search.specs.Refusals.{settingWrong}

@@ -5,11 +5,11 @@ use mathlib.Core.List.{List, [], _∷_}
 use Prim.Native.Nat.{ℕ}
 use lib.ListN.{length}
 use Rattle.sequence.specs.Refusals.{Decided}
-use Rattle.session.specs.Offence.{Got, got, bad, wholeNames}
+use Rattle.file.specs.Offence.{Got, got, bad, wholeNames}
 use Rattle.walk.specs.Nodes.{Node}
-use Rattle.formula.specs.declared.Printed.{Printed}
+use Rattle.text.specs.declared.Printed.{Printed}
 use Rattle.formula.specs.Rule.{brokenList}
-use Rattle.formula.specs.Print.{saidPrinted, shortRoom, Prints}
+use Rattle.text.specs.Print.{saidPrinted, shortRoom, Prints}
 use Rattle.scarfpylon.specs.Out.{outShort, brokenAt, written, saidWords}
 
 -- "Print tests 8, 9, then 3"; which of the rows with one number is given first can't be seen

@@ -5,9 +5,9 @@ use mathlib.Core.List.{List}
 use Prim.Native.Nat.{ℕ}
 use lib.Dec.{leb}
 use lib.ListN.{length}
-use Rattle.session.specs.Format.{Parts}
-use Rattle.session.specs.Offence.{Got, got, bad, wholeFile}
-use Rattle.session.specs.Reading.{broken, tooLittleRoom, Lent, After, roomFor, handedOut}
+use Rattle.file.specs.Format.{Parts}
+use Rattle.file.specs.Offence.{Got, got, bad, wholeFile}
+use Rattle.file.specs.Reading.{broken, tooLittleRoom, Lent, After, roomFor, handedOut}
 use Rattle.scarfpylon.specs.Out.{outWords, written, returnedOf, saidWords}
 
 -- the number, the lent slices and `out` as the call leaves them

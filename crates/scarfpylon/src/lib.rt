@@ -7,7 +7,7 @@ use formula::kinds::Node;
 use formula::kinds::Place;
 use sequence::CharSeq;
 ghost use mathlib.Core.Path.{_≡_};
-ghost use Rattle.session.specs.Reading.{lent};
+ghost use Rattle.file.specs.Reading.{lent};
 ghost use Rattle.formula.specs.Kinds.{node, nodes};
 ghost use Rattle.formula.specs.Check.{recorded};
 ghost use Rattle.search.specs.Table.{cols};
@@ -192,7 +192,7 @@ pub extern "C" fn scarfpylon_print(
     if out.len() < out::WORDS {
         return short::print(names, codes, lefts, rights, sizes, root);
     }
-    let answer = formula::print(names, codes, lefts, rights, sizes, root, text);
+    let answer = text::print(names, codes, lefts, rights, sizes, root, text);
     out::put_printed(answer, out);
     out::printed_number(answer)
 }
@@ -218,7 +218,7 @@ pub extern "C" fn scarfpylon_read(
     if out.len() < out::WORDS {
         return short::read(file);
     }
-    let answer = session::file::read(file, marks, lengths, words, unary, binary);
+    let answer = file::read(file, marks, lengths, words, unary, binary);
     out::put_read(answer, out);
     out::read_number(answer)
 }

@@ -1,15 +1,15 @@
 // The number of an answer, and the words of `out` that it names.
-use formula::Printed;
+use file::ReadAnswer;
 use formula::Verdict;
 use search::SearchAnswer;
 use sequence::Answer;
-use session::file::ReadAnswer;
+use text::Printed;
 ghost use mathlib.Core.Path.{_≡_};
 ghost use Prim.Native.Nat.{_^_, _≤_, _<_};
 ghost use lib.ListN.{length};
-ghost use Rattle.session.specs.Reading as reading;
+ghost use Rattle.file.specs.Reading as reading;
 ghost use Rattle.formula.specs.Check.{saidVerdict};
-ghost use Rattle.formula.specs.Print.{saidPrinted};
+ghost use Rattle.text.specs.Print.{saidPrinted};
 ghost use Rattle.search.specs.Search.{said};
 ghost use Rattle.scarfpylon.specs.Out.{outWords, written, brokenAt, returnedOf, saidWords};
 ghost use Rattle.scarfpylon.specs.Search.{searchWords};

@@ -5,7 +5,7 @@ use crate::out::read_number;
 use crate::out::search_number;
 use formula::kinds::Node;
 ghost use mathlib.Core.Path.{_≡_};
-ghost use Rattle.session.specs.Offence.{wholeFile, wholeNames};
+ghost use Rattle.file.specs.Offence.{wholeFile, wholeNames};
 ghost use Rattle.formula.specs.Kinds.{nodeOf, nodes};
 ghost use Rattle.scarfpylon.specs.Inner.{SearchUnanswered, CheckUnanswered, PrintUnanswered, readUnanswered};
 
@@ -49,13 +49,13 @@ pub(crate) fn print(
     ensures { λ k. ⌜ PrintUnanswered (wholeNames (now (names .entry)))
         (nodes (now (codes .entry)) (now (lefts .entry)) (now (rights .entry)) (now (sizes .entry))) (nodeOf root) k ⌝ }
 {
-    let answer = formula::print(names, codes, lefts, rights, sizes, root, &mut []);
+    let answer = text::print(names, codes, lefts, rights, sizes, root, &mut []);
     printed_number(answer)
 }
 
 pub(crate) fn read(file: &[u8]) -> u64
     ensures { λ k. ⌜ k ≡ readUnanswered (wholeFile (now (file .entry))) ⌝ }
 {
-    let answer = session::file::read(file, &mut [], &mut [], &mut [], &mut [], &mut []);
+    let answer = file::read(file, &mut [], &mut [], &mut [], &mut [], &mut []);
     read_number(answer)
 }

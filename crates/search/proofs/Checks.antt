@@ -10,7 +10,7 @@ use native.Mathlib.Decide.{decLe}
 use lib.ListN.{length, getD, length-append, List·getD-append}
 use lib.Seq.{getD-append-seam, append-snoc}
 use Rattle.sequence.specs.Operators.{Unary, Binary, unaryCode, binaryCode}
-use Rattle.session.specs.Format.{Each}
+use Rattle.session.specs.Each.{Each}
 use Rattle.session.proofs.Few.{few}
 use Rattle.walk.specs.Formula.{_∈_}
 use Rattle.walk.specs.Input.{Once}

@@ -13,7 +13,7 @@ use Rattle.walk.specs.Walk.{Candidate}
 use Rattle.walk.specs.Input.{Input, row}
 use Rattle.walk.specs.Promises.{Table}
 use Rattle.search.specs.Matrix.{nothing, matrixAt, Fine, Stored}
-use Rattle.session.specs.Reading.{over}
+use Rattle.session.specs.Answers.{over}
 use Rattle.search.specs.Table.{Cols, cols}
 use Rattle.search.specs.Layers.{Holds}
 use Rattle.search.proofs.Matrices.{length-map}

@@ -5,7 +5,7 @@ use mathlib.Core.List.{List, [], _∷_}
 use Prim.Native.Nat.{ℕ, _<_}
 use lib.ListN.{length}
 use Rattle.sequence.specs.Refusals.{Decided}
-use Rattle.session.specs.Reading.{Said}
+use Rattle.session.specs.Answers.{Said}
 use Rattle.walk.specs.Walk.{Ending, found, full, none, State, going, ended, kept}
 use Rattle.walk.specs.Input.{Input, search}
 use Rattle.formula.specs.Kinds.{nodeOf}

@@ -1,6 +1,6 @@
 -- The decision over session data, row by row.
 -- Assumes nothing.
-use mathlib.Core.Path.{refl}
+use mathlib.Core.Path.{_≡_, refl}
 use mathlib.Core.Logic.{_⊎_, inl, inr}
 use mathlib.Core.Bool.{true, false}
 use mathlib.Core.List.{List}
@@ -10,6 +10,7 @@ use native.Mathlib.Omega.{arith}
 use lib.ListN.{length}
 use Rattle.words.specs.Word.{width}
 use Rattle.sequence.specs.Refusals.{Decided}
+use Rattle.sequence.proofs.Refusals.{decided-unique}
 use Rattle.session.specs.Numbers.{sessions, propositions, Outside}
 use Rattle.session.specs.Data.{tooLong, bitAbove, dataRows}
 use Rattle.session.specs.Inner.{AllUpTo, AllClear}
@@ -69,3 +70,7 @@ roomy r m marks lengths words a b c (inr (inr h)) = omega arith
 -- the words of session i lie within those of r sessions
 pub block : (i r m : ℕ) → i < r → i * m + m ≤ m * r
 block i r m h = omega (arith, suc-mul i m, mul-le-mul-right m h, mul-comm m r)
+
+-- any two allowed results of `test` are equal
+pub data-unique : (r m : ℕ) (marks lengths words : List ℕ) (j k : ℕ) → Decided (dataRows r m marks lengths words) j → Decided (dataRows r m marks lengths words) k → j ≡ k
+data-unique r m marks lengths words j k p q = decided-unique (dataRows r m marks lengths words) j k p q

@@ -1,8 +1,7 @@
--- What a reader must believe of session data and of the session file.
--- `Inner` is only for the reader's private functions: no public contract cites it.
+-- What a reader must believe of session data; and how this crate and those above it speak of answers (Answers) and of lists judged item by item (Each).
+-- `Inner` is only for the private tests: no public contract cites it.
 pub mod Numbers
 pub mod Data
-pub mod Format
-pub mod Offence
-pub mod Reading
+pub mod Answers
+pub mod Each
 pub mod Inner

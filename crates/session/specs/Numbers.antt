@@ -12,14 +12,6 @@ sessions = limits.sessions
 abbrev pub propositions : ℕ
 propositions = limits.propositions
 
--- "size bound B 1 to 31"
-abbrev pub bound : ℕ
-bound = limits.size
-
--- "names (length byte 1-16 ..)"
-abbrev pub nameLength : ℕ
-nameLength = 16
-
 -- n is none of the numbers from lo to hi
 abbrev pub Outside : ℕ → ℕ → ℕ → Type 0
 Outside lo hi n = (n < lo) ⊎ (hi < n)

@@ -9,7 +9,7 @@ use Rattle.session.specs.Data.{dataRows}
 use Rattle.formula.specs.Kinds.{nodeOf, nodes}
 use Rattle.formula.specs.Rule.{brokenList}
 use Rattle.formula.specs.Check.{recorded}
-use Rattle.formula.proofs.Checking.{decided-early, decided-list, checkable, few-propositions, names-session, accepts-formula}
+use Rattle.formula.proofs.Checking.{decided-early, decided-list, checkable, names-session, accepts-formula}
 use Rattle.formula.proofs.check.Statement.{statement}
 use Rattle.formula.proofs.check.Tie as tie
 
@@ -25,7 +25,7 @@ returns c = let a = c .before .before .before .before .before .before .before .b
     }
 
 refusal-requires : tie.Need-refusal-requires
-refusal-requires c κs = let a = c .before .before .before .before .before .before .before .before .before .args in omega (arith, few-propositions (recorded (a .r) (a .m) (a .marks .now) (a .lengths .now) (a .words .now)) (nodes (a .codes .now) (a .lefts .now) (a .rights .now) (a .sizes .now)) (nodeOf (a .root)) (c .before .test .result) (c .before .test .ensures) (c .if1 .left))
+refusal-requires c κs = search needs
 
 returns-2 : tie.Need-returns-2
 returns-2 c = let a = c .before .before .before .before .before .before .before .before .before .before .before .args in

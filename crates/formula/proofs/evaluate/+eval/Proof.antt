@@ -5,7 +5,6 @@ use mathlib.Core.Logic.{inl, inr}
 use native.Mathlib.Omega.{arith}
 use Rattle.sequence.proofs.Groups.{in-unary, in-binary, off-unary, off-binary}
 use Rattle.formula.specs.Kinds.{nodeOf, nodes}
-use Rattle.formula.proofs.Listed.{length-nodes}
 use Rattle.formula.proofs.Faults.{left-under, right-under}
 use Rattle.formula.proofs.Evaluation.{ready-at, word-of-unary, word-of-binary}
 use borrow.Author.Needs.{needs}
@@ -103,11 +102,7 @@ eval-node-at-requires : (t : ℕ) → eval-lts.Need-node-at-requires (
   leaf-word-reads.Asked,
   leaf-word-reads.Learnt,
 ) (eval-at t) eval.Post
-eval-node-at-requires t c κs = let s = c .before .before .before .before .before .before .before .before .before in
-    let a = s .args in
-    let f = c .before .before .before .operator-of in
-    let u = in-unary _ (f .result) (f .ensures) (c .before .enum-told .given .1) in
-    omega (arith, left-under _ _ _ (nodeOf (a .node)) (s .pre .1 .fits) (inl u), s .pre .1 .within, length-nodes (a .codes .now) (a .lefts .now) (a .rights .now) (a .sizes .now))
+eval-node-at-requires t c κs = search needs
 
 eval-eval-requires : (t : ℕ) → eval-lts.Need-eval-requires (
   operator-of-reads.Asked,
@@ -220,11 +215,7 @@ eval-node-at-requires-2 : (t : ℕ) → eval-lts.Need-node-at-requires-2 (
   leaf-word-reads.Asked,
   leaf-word-reads.Learnt,
 ) (eval-at t) eval.Post
-eval-node-at-requires-2 t c κs = let s = c .before .before .before .before .before .before .before .before .before in
-    let a = s .args in
-    let f = c .before .before .before .operator-of in
-    let u = in-binary _ (f .result) (f .ensures) (c .before .enum-told2 .given .1) in
-    omega (arith, left-under _ _ _ (nodeOf (a .node)) (s .pre .1 .fits) (inr u), s .pre .1 .within, length-nodes (a .codes .now) (a .lefts .now) (a .rights .now) (a .sizes .now))
+eval-node-at-requires-2 t c κs = search needs
 
 eval-eval-requires-2 : (t : ℕ) → eval-lts.Need-eval-requires-2 (
   operator-of-reads.Asked,
@@ -283,11 +274,7 @@ eval-node-at-requires-3 : (t : ℕ) → eval-lts.Need-node-at-requires-3 (
   leaf-word-reads.Asked,
   leaf-word-reads.Learnt,
 ) (eval-at t) eval.Post
-eval-node-at-requires-3 t c κs = let s = c .before .before .before .before .before .before .before .before .before .before .before .before in
-    let a = s .args in
-    let f = c .before .before .before .before .before .before .operator-of in
-    let u = in-binary _ (f .result) (f .ensures) (c .before .before .before .before .enum-told2 .given .1) in
-    omega (arith, right-under _ _ _ (nodeOf (a .node)) (s .pre .1 .fits) u, s .pre .1 .within, length-nodes (a .codes .now) (a .lefts .now) (a .rights .now) (a .sizes .now))
+eval-node-at-requires-3 t c κs = search needs
 
 eval-eval-requires-3 : (t : ℕ) → eval-lts.Need-eval-requires-3 (
   operator-of-reads.Asked,

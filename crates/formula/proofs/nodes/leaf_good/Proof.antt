@@ -11,28 +11,25 @@ use Rattle.formula.proofs.nodes.leaf_good.Statement.{statement}
 use Rattle.formula.proofs.nodes.leaf_good.Tie as tie
 
 returns : tie.Need-returns
-returns c = let s = c .before .before .before .before .before .before in unknownCode (unknown _ (s .pre .1) (s .pre .2) (λ a b. omega arith))
+returns c = let s = c .before .before in unknownCode (unknown _ (s .pre .0) (s .pre .1) (λ a b. omega arith))
 
 returns-2 : tie.Need-returns-2
-returns-2 c = let s = c .before .before .before .before .before .before .before .before in unknownCode (unknown _ (s .pre .1) (s .pre .2) (λ a b. omega arith))
+returns-2 c = let s = c .before .before .before .before in unknownCode (unknown _ (s .pre .0) (s .pre .1) (λ a b. omega arith))
 
 returns-3 : tie.Need-returns-3
-returns-3 c = rightUnused (c .before .before .before .before .before .before .before .before .before .before .pre .2) (c .if3 .taken)
+returns-3 c = rightUnused (c .before .before .before .before .before .before .pre .1) (c .if3 .taken)
 
 returns-4 : tie.Need-returns-4
 returns-4 c = leafSize (is-leaf _ (omega arith) (omega arith)) (c .if4 .taken)
-
-from-left-requires : tie.Need-from-left-requires
-from-left-requires c κs = search needs
 
 cast-if6 : tie.Need-cast-if6
 cast-if6 c = search needs
 
 returns-5 : tie.Need-returns-5
-returns-5 c = leaf (proposition (c .before .before .before .before .before .before .before .before .before .before .before .before .before .before .before .before .before .args .node .left .0)) (c .before .before .before .if5 .taken) refl (omega arith) (c .before .before .before .before .before .before .before .if3 .left) (c .before .before .before .before .before .if4 .left)
+returns-5 c = leaf (proposition (c .before .before .before .before .before .before .before .before .before .before .before .before .args .node .left .0)) (c .before .before .if5 .taken) refl (omega arith) (c .before .before .before .before .before .before .if3 .left) (c .before .before .before .before .if4 .left)
 
 returns-6 : tie.Need-returns-6
-returns-6 c = noProposition (c .before .before .before .if5 .taken) (omega arith)
+returns-6 c = noProposition (c .before .before .if5 .taken) (omega arith)
 
 returns-7 : tie.Need-returns-7
 returns-7 c = leftUnused (is-leaf _ (omega arith) (omega arith)) (c .before .before .if5 .left) (c .if7 .taken)
@@ -48,7 +45,6 @@ leaf-good-spec =
     returns-2
     returns-3
     returns-4
-    from-left-requires
     cast-if6
     returns-5
     returns-6

@@ -1,10 +1,18 @@
--- `node_at` meets its contract: the four numbers at the place are the node there.
+-- `node_at` meets its contract: the four numbers at the place are the node there, and past the shortest slice there is none.
 -- Assumes nothing.
 use mathlib.Core.Path.{sym}
-use Rattle.formula.proofs.Listed.{node-at}
+use native.Mathlib.Omega.{arith}
+use Rattle.formula.proofs.Listed.{node-at, node-off}
 use borrow.Author.Needs.{needs}
 use Rattle.formula.proofs.nodes.node_at.Statement.{statement}
 use Rattle.formula.proofs.nodes.node_at.Tie as tie
+
+count-requires : tie.Need-count-requires
+count-requires c κs = search needs
+
+returns : tie.Need-returns
+returns c = let a = c .before .before .before .before .before .before .args in
+    sym (node-off (a .codes .now) (a .lefts .now) (a .rights .now) (a .sizes .now) (a .at) (omega (arith, c .before .count .ensures, c .if1 .taken)))
 
 shared-slice-read-code : tie.Need-shared-slice-read-code
 shared-slice-read-code c = search needs
@@ -24,19 +32,20 @@ shared-slice-read-right c = search needs
 shared-slice-read-size : tie.Need-shared-slice-read-size
 shared-slice-read-size c = search needs
 
-returns : tie.Need-returns
-returns c = let s = c .before .before .before .before in
-    let a = s .args in
-    sym (node-at (a .codes .now) (a .lefts .now) (a .rights .now) (a .sizes .now) (a .at) (s .pre))
+returns-2 : tie.Need-returns-2
+returns-2 c = let a = c .before .before .before .before .before .before .before .before .before .before .args in
+    sym (node-at (a .codes .now) (a .lefts .now) (a .rights .now) (a .sizes .now) (a .at) (omega (arith, c .before .before .before .before .before .count .ensures, c .before .before .before .before .if1 .left)))
 
 pub node-at-spec : {M : Type 1} → statement M
 node-at-spec =
     tie.close
     (tie.spec
+    count-requires
+    returns
     shared-slice-read-code
     mul-left
     shared-slice-read-left
     mul-right
     shared-slice-read-right
     shared-slice-read-size
-    returns)
+    returns-2)

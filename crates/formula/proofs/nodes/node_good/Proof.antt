@@ -15,20 +15,19 @@ enum-told : tie.Need-enum-told
 enum-told c = search needs
 
 unary-good-requires : tie.Need-unary-good-requires
-unary-good-requires c κs = let f = c .before .before .operator-of in (c .before .before .before .before .before .before .before .pre .1, in-unary _ (f .result) (f .ensures) (c .enum-told .given .1))
+unary-good-requires c κs = let f = c .before .before .operator-of in (c .before .before .before .before .before .before .before .pre, in-unary _ (f .result) (f .ensures) (c .enum-told .given .1))
 
 enum-told-2 : tie.Need-enum-told-2
 enum-told-2 c = search needs
 
 binary-good-requires : tie.Need-binary-good-requires
-binary-good-requires c κs = let f = c .before .before .operator-of in (c .before .before .before .before .before .before .before .pre .1, in-binary _ (f .result) (f .ensures) (c .enum-told2 .given .1))
+binary-good-requires c κs = let f = c .before .before .operator-of in (c .before .before .before .before .before .before .before .pre, in-binary _ (f .result) (f .ensures) (c .enum-told2 .given .1))
 
 enum-told-3 : tie.Need-enum-told-3
 enum-told-3 c = search needs
 
 leaf-good-requires : tie.Need-leaf-good-requires
 leaf-good-requires c κs = let f = c .before .before .operator-of in (
-  c .before .before .before .before .before .before .before .pre .0,
   λ u. off-unary _ (f .result) (f .ensures) (λ g. let z : _≡_ {A = ℕ} 0 1 = cc (c .enum-told3 .given .1) in omega arith) (u .0) (u .1),
   λ u. off-binary _ (f .result) (f .ensures) (λ g. let z : _≡_ {A = ℕ} 0 1 = cc (c .enum-told3 .given .1) in omega arith) (u .0) (u .1),
 )

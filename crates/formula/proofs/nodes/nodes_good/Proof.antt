@@ -19,10 +19,10 @@ loop-holds : tie.Need-loop-holds Inv-loop μ-loop
 loop-holds c = (omega arith, λ p h. absurd (omega arith))
 
 node-at-requires : tie.Need-node-at-requires Inv-loop μ-loop
-node-at-requires c κs = omega arith
+node-at-requires c κs = search needs
 
 node-good-requires : tie.Need-node-good-requires Inv-loop μ-loop
-node-good-requires c κs = (c .before .before .before .before .before .before .before .pre .0, omega arith)
+node-good-requires c κs = omega arith
 
 add-i : tie.Need-add-i Inv-loop μ-loop
 add-i c = search needs

@@ -2,7 +2,7 @@
 -- Assumes nothing.
 use borrow.Author.Needs.{needs}
 use mathlib.Core.Path.{ap}
-use Rattle.formula.specs.Print.{saidPrinted}
+use Rattle.text.specs.Print.{saidPrinted}
 use Rattle.scarfpylon.proofs.out.printed_number.Statement.{statement}
 use Rattle.scarfpylon.proofs.out.printed_number.Tie as tie
 

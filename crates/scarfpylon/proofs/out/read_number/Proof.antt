@@ -2,7 +2,7 @@
 -- Assumes nothing.
 use borrow.Author.Needs.{needs}
 use mathlib.Core.Path.{ap}
-use Rattle.session.specs.Reading.{said}
+use Rattle.file.specs.Reading.{said}
 use Rattle.scarfpylon.proofs.out.read_number.Statement.{statement}
 use Rattle.scarfpylon.proofs.out.read_number.Tie as tie
 

@@ -1,0 +1,81 @@
+-- How the reader's private functions speak of what they found. No public contract cites this file, so nothing here has to be believed.
+-- Assumes nothing.
+use mathlib.Core.Bool.{Bool, true, false, cond}
+use mathlib.Core.List.{List, [], _∷_, _++_}
+use Prim.Native.Nat.{ℕ, zero, suc, _+_, _*_}
+use lib.Dec.{eqb}
+use lib.ListN.{length, getD, take, drop}
+use Rattle.file.specs.declared.bytes.Step.{Step}
+use Rattle.file.specs.declared.bytes.Step.the-variants.{Read, Broken}
+use Rattle.file.specs.declared.Tail.{Tail}
+use Rattle.file.specs.declared.Tail.the-variants.{Read as TailRead, Broken as TailBroken}
+use Rattle.file.specs.declared.ReadAnswer.{ReadAnswer}
+use Rattle.file.specs.declared.ReadAnswer.the-variants.{Parts as AllParts, Broken as FileBroken}
+use Rattle.file.specs.Format.{Parts, Session, section, nameBytes, isLetter, isNameByte}
+use Rattle.file.specs.Offence.{Got, got, bad, number, isUnary, isBinary, Settings, settings, atEnd, wholeFile}
+
+-- of what was read a sub-reader hands up one number
+abbrev pub stepOf : {A : Type 0} → (A → ℕ) → Got A → Step
+stepOf value (got a next) = Read (value a) next
+stepOf value (bad o) = Broken o
+
+abbrev pub nothing : {A : Type 0} → A → ℕ
+nothing a = 0
+
+abbrev pub wordCount : Session → ℕ
+wordCount s = length (s .words)
+
+-- ---- names
+
+-- the byte number i of a name
+abbrev pub fitsAt : ℕ → ℕ → Bool
+fitsAt i b = cond (eqb i 0) (isLetter b) (isNameByte b)
+
+-- the names at an offset, one after another, and where they end
+unfoldable pub walk : List ℕ → ℕ → ℕ → List (List ℕ)
+walk file zero p = []
+walk file (suc count) p = take (getD file p 0) (drop (p + 1) file) ∷ walk file count (p + 1 + getD file p 0)
+
+unfoldable pub walkEnd : List ℕ → ℕ → ℕ → ℕ
+walkEnd file zero p = p
+walkEnd file (suc count) p = walkEnd file count (p + 1 + getD file p 0)
+
+-- ---- codes
+
+abbrev pub groupOf : Bool → ℕ → Bool
+groupOf true c = isUnary c
+groupOf false c = isBinary c
+
+-- ---- settings, and the whole
+
+abbrev pub tailOf : Got Settings → Tail
+tailOf (got s next) = TailRead (s .constants) (s .bound)
+tailOf (bad o) = TailBroken o
+
+abbrev pub tailAt : List ℕ → ℕ → Got Settings
+tailAt file at = atEnd (settings file at) file
+
+abbrev pub numbersOf : Got Parts → ReadAnswer
+numbersOf (got p next) =
+    AllParts (length (p .sessions)) (length (p .names)) (length (section nameBytes (p .names))) (length (p .unary)) (length (p .binary)) (p .constants) (p .bound)
+numbersOf (bad o) = FileBroken o
+
+abbrev pub answerOf : List ℕ → ReadAnswer
+answerOf file = numbersOf (wholeFile file)
+
+-- ---- the writing pass
+
+-- n elements, each `stride` after the one before
+unfoldable pub strided : ℕ → ℕ → List ℕ → List ℕ
+strided stride zero bytes = []
+strided stride (suc n) bytes = getD bytes 0 0 ∷ strided stride n (drop stride bytes)
+
+-- m words
+unfoldable pub wordsAt : ℕ → List ℕ → List ℕ
+wordsAt zero bytes = []
+wordsAt (suc m) bytes = number (take 8 bytes) ∷ wordsAt m (drop 8 bytes)
+
+-- the words of n sessions
+unfoldable pub sessionWords : ℕ → ℕ → List ℕ → List ℕ
+sessionWords m zero bytes = []
+sessionWords m (suc n) bytes = wordsAt m (drop 2 bytes) ++ sessionWords m n (drop (2 + 8 * m) bytes)

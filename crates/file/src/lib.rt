@@ -1,0 +1,179 @@
+// The session file and its reader (trace.rs: `Trace` and `Operators`): a pass that judges the whole file and writes nothing, and then a pass that
+// writes.
+mod bytes;
+mod codes;
+mod fill;
+pub mod names;
+mod sessions;
+
+use bytes::Step;
+use bytes::byte_within;
+use codes::codes_section;
+use fill::fill_bytes;
+use fill::fill_words;
+use names::names_section;
+use sessions::sessions_section;
+ghost use mathlib.Core.Path.{_≡_};
+ghost use Prim.Native.Nat.{_+_, _<_};
+ghost use Rattle.file.specs.Reading.{said, after, lent, readOf};
+ghost use Rattle.file.specs.Inner.{tailOf, tailAt, answerOf};
+
+// Document 01's numbers for a file; for the contracts they are in specs/Numbers.antt. Those that it shares with the library have names of their own,
+// since a later request raises the library's alone.
+const SESSIONS: usize = session::SESSIONS;
+
+const PROPOSITIONS: usize = session::PROPOSITIONS;
+
+const BOUND: usize = session::BOUND;
+
+const NAME_LENGTH: usize = 16;
+
+// What a file is: its parts' numbers (sessions r, propositions m, the bytes of the names section, codes of each group, constants mark, bound B),
+// broken at an offset, or good with too little room lent.
+pub enum ReadAnswer {
+    Parts {
+        sessions: usize,
+        propositions: usize,
+        names: usize,
+        unary: usize,
+        binary: usize,
+        constants: u8,
+        bound: u8,
+    },
+    Broken(usize),
+    Room,
+}
+
+// What the settings are, or the offset that offends.
+enum Tail {
+    Read { constants: u8, bound: u8 },
+    Broken(usize),
+}
+
+// The settings, with nothing after them.
+fn tail_at(file: &[u8], at: usize) -> Tail
+    ensures { λ r. ⌜ r ≡ tailOf (tailAt (now (file .entry)) at) ⌝ }
+{
+    let count = byte_within(file, at, 2, 2);
+    match count {
+        Step::Read { value: _, next: a } => {
+            let mark = byte_within(file, a, 0, 1);
+            match mark {
+                Step::Read { value: _, next: b } => {
+                    let bound = byte_within(file, b, 1, crate::BOUND);
+                    match bound {
+                        Step::Read { value: _, next } => {
+                            if next == file.len() {
+                                Tail::Read {
+                                    constants: file[a],
+                                    bound: file[b],
+                                }
+                            } else {
+                                Tail::Broken(next)
+                            }
+                        }
+                        Step::Broken(o) => Tail::Broken(o),
+                    }
+                }
+                Step::Broken(o) => Tail::Broken(o),
+            }
+        }
+        Step::Broken(o) => Tail::Broken(o),
+    }
+}
+
+// The numbers of a good file's parts, or the offset that offends.
+fn judge(file: &[u8]) -> ReadAnswer
+    ensures { λ r. ⌜ r ≡ answerOf (now (file .entry)) ⌝ }
+{
+    let names = names_section(file, crate::PROPOSITIONS);
+    match names {
+        Step::Read { value: m, next: a } => {
+            let sessions = sessions_section(file, a, m);
+            match sessions {
+                Step::Read { value: r, next: b } => {
+                    let unary = codes_section(file, b, true);
+                    match unary {
+                        Step::Read { value: u, next: c } => {
+                            let binary = codes_section(file, c, false);
+                            match binary {
+                                Step::Read { value: v, next: d } => {
+                                    let tail = tail_at(file, d);
+                                    match tail {
+                                        Tail::Read { constants, bound } => ReadAnswer::Parts {
+                                            sessions: r,
+                                            propositions: m,
+                                            names: a,
+                                            unary: u,
+                                            binary: v,
+                                            constants,
+                                            bound,
+                                        },
+                                        Tail::Broken(o) => ReadAnswer::Broken(o),
+                                    }
+                                }
+                                Step::Broken(o) => ReadAnswer::Broken(o),
+                            }
+                        }
+                        Step::Broken(o) => ReadAnswer::Broken(o),
+                    }
+                }
+                Step::Broken(o) => ReadAnswer::Broken(o),
+            }
+        }
+        Step::Broken(o) => ReadAnswer::Broken(o),
+    }
+}
+
+pub fn read(
+    file: &[u8],
+    marks: &mut [u8],
+    lengths: &mut [u8],
+    words: &mut [u64],
+    unary: &mut [u8],
+    binary: &mut [u8],
+) -> ReadAnswer
+    ensures { λ r. ⌜ after (said r) (now (marks .exit)) (now (lengths .exit)) (now (words .exit)) (now (unary .exit)) (now (binary .exit))
+        ≡ readOf (now (file .entry)) (lent (now (marks .entry)) (now (lengths .entry)) (now (words .entry)) (now (unary .entry)) (now (binary .entry))) ⌝ }
+{
+    let answer = judge(file);
+    match answer {
+        ReadAnswer::Parts {
+            sessions: r,
+            propositions: m,
+            names,
+            unary: u,
+            binary: v,
+            constants: _,
+            bound: _,
+        } => {
+            if marks.len() < r {
+                return ReadAnswer::Room;
+            }
+            if lengths.len() < r {
+                return ReadAnswer::Room;
+            }
+            if words.len() < m * r {
+                return ReadAnswer::Room;
+            }
+            if unary.len() < u {
+                return ReadAnswer::Room;
+            }
+            if binary.len() < v {
+                return ReadAnswer::Room;
+            }
+            let stride = 2 + 8 * m;
+            let at = names + 1;
+            let codes = at + r * stride;
+            fill_bytes(marks, file, at, stride, r);
+            fill_bytes(lengths, file, at + 1, stride, r);
+            fill_words(words, file, at, m, r);
+            fill_bytes(unary, file, codes + 1, 1, u);
+            fill_bytes(binary, file, codes + u + 2, 1, v);
+            answer
+        }
+        ReadAnswer::Broken(o) => ReadAnswer::Broken(o),
+        // the judging pass is lent no room, so that it never says this
+        ReadAnswer::Room => ReadAnswer::Room,
+    }
+}

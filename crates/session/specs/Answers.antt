@@ -1,0 +1,14 @@
+-- What any operation answers, in document 01's terms, and what it leaves in a lent slice.
+-- Assumes nothing.
+use mathlib.Core.List.{List, _++_}
+use Prim.Native.Nat.{ℕ}
+use lib.ListN.{length, drop}
+
+-- an answer in document 01's terms: 0 and the values, or a refusal's number (and the offset for 8)
+pub record Said : Type 0 where
+  pub number : ℕ
+  pub values : List ℕ
+
+-- new contents at the front; "in any lent slice what no rule writes stays"
+abbrev pub over : List ℕ → List ℕ → List ℕ
+over new old = new ++ drop (length new) old

@@ -1,0 +1,6 @@
+pub mod Names
+pub mod Writing
+pub mod Texts
+pub mod Printing
+pub mod Answers
+pub mod Unique

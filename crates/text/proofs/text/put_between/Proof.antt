@@ -1,0 +1,28 @@
+-- `put_between` meets its contract.
+-- Assumes nothing.
+use native.Mathlib.Omega.{arith}
+use mathlib.Core.List.{[], _∷_}
+use Rattle.text.specs.Inner.{beforeLast}
+use Rattle.text.proofs.Writing.{wrote-both, wrote-length}
+use borrow.Author.Needs.{needs}
+use Rattle.text.proofs.text.put_between.Statement.{statement}
+use Rattle.text.proofs.text.put_between.Tie as tie
+
+slice-aggregate-put : tie.Need-slice-aggregate-put
+slice-aggregate-put c = search needs
+
+put-requires : tie.Need-put-requires
+put-requires c κs = search needs
+
+put-before-requires : tie.Need-put-before-requires
+put-before-requires c κs = let s = c .before .before .before .before .before .before .before in let w = c .before .before .before .put .ensures in (s .pre .0, omega (arith, s .pre .1, w .next, wrote-length (41 ∷ 32 ∷ []) w))
+
+same-length : tie.Need-same-length
+same-length c = search needs
+
+returns : tie.Need-returns
+returns c = wrote-both (41 ∷ 32 ∷ []) (beforeLast (c .before .before .before .before .before .before .before .before .before .before .args .operator)) (c .before .before .before .before .before .before .put .ensures) (c .before .before .put-before .ensures)
+
+pub put-between-spec : {M : Type 1} → statement M
+put-between-spec =
+    tie.close (tie.spec slice-aggregate-put put-requires put-before-requires same-length returns)
