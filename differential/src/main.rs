@@ -7,8 +7,10 @@ include!(concat!(env!("OUT_DIR"), "/the_rust.rs"));
 type HashType = u64;
 
 mod compare;
+mod damage;
 mod findings;
 mod formulas;
+mod judge;
 mod oracle;
 mod program;
 mod query;
@@ -21,6 +23,7 @@ const USAGE: &str = "differential: one of
   compare [RANDOM_WORDS]   the Rust's answers against our program's (default: 1000 random words a length)
   compare --short          the same with fewer edge pairs and 10 random words a length
   formulas [ROUNDS]        random formulas of each size 1 to 31: check and print against the Rust's eval and Display (default: 20 rounds)
+  damage [FILES]           damaged session files: the bench's whole output against a judge of its own (default: 100000 files)
   sample                   writes the stored answers anew: crates/replay/stdin and stdout, crates/settled/stdout
   findings                 what the Rust does outside document 01's domain";
 
@@ -37,6 +40,11 @@ fn main() {
         ["formulas"] => formulas::run(20),
         ["formulas", count] => match count.parse() {
             Ok(count) => formulas::run(count),
+            Err(_) => usage(),
+        },
+        ["damage"] => damage::run(100_000),
+        ["damage", count] => match count.parse() {
+            Ok(count) => damage::run(count),
             Err(_) => usage(),
         },
         ["sample"] => sample::run(),

@@ -10,6 +10,24 @@ pub fn root() -> PathBuf {
     PathBuf::from(project).join("..")
 }
 
+/// The words of the command that runs a program, for a caller that runs it many times.
+pub fn words(name: &str) -> Result<Vec<String>, String> {
+    let output = Command::new("sh")
+        .args(["differential/run-program", "--words", name])
+        .current_dir(root())
+        .output()
+        .map_err(|error| format!("{name} can't be started: {error}"))?;
+    if !output.status.success() || !root().join("target/bin").join(name).is_file() {
+        return Err(format!(
+            "there is no target/bin/{name}: rt check {name} proves and builds it"
+        ));
+    }
+    Ok(String::from_utf8_lossy(&output.stdout)
+        .lines()
+        .map(str::to_string)
+        .collect())
+}
+
 /// Everything that the program writes when it is given these bytes.
 pub fn output(name: &str, input: Vec<u8>) -> Result<Vec<u8>, String> {
     let mut child = Command::new("sh")

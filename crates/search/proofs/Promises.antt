@@ -126,7 +126,7 @@ same-where-read i j s x y t a b u v p q =
 
 -- ---- demand 3: the walk's end is the answer's
 
-found-end : (i : Input) (n : Node) (x y : ℕ) (e : Ending) (k : Table) (m : ℕ) → search i ≡ ended e k m → foundSaid (nodeOf n) x y ≡ endSaid e m (length k)
+pub found-end : (i : Input) (n : Node) (x y : ℕ) (e : Ending) (k : Table) (m : ℕ) → search i ≡ ended e k m → foundSaid (nodeOf n) x y ≡ endSaid e m (length k)
     → (search i ≡ ended (found (nodeOf n)) k x) × (length k ≡ y)
 found-end i n x y (found root) k m w q =
     let v = values q in
@@ -146,7 +146,7 @@ found-end i n x y (found root) k m w q =
 found-end i n x y (full s) k m w q = let v = values q in let z : _≡_ {A = ℕ} 0 1 = cc v in absurd (omega arith)
 found-end i n x y none k m w q = let v = values q in let z : _≡_ {A = ℕ} 0 1 = cc v in absurd (omega arith)
 
-none-end : (i : Input) (x y : ℕ) (e : Ending) (k : Table) (m : ℕ) → search i ≡ ended e k m → noneSaid x y ≡ endSaid e m (length k)
+pub none-end : (i : Input) (x y : ℕ) (e : Ending) (k : Table) (m : ℕ) → search i ≡ ended e k m → noneSaid x y ≡ endSaid e m (length k)
     → (search i ≡ ended none k x) × (length k ≡ y)
 none-end i x y (found root) k m w q = let v = values q in let z : _≡_ {A = ℕ} 0 1 = cc v in absurd (omega arith)
 none-end i x y (full s) k m w q = let v = values q in let z : _≡_ {A = ℕ} 0 1 = cc v in absurd (omega arith)
@@ -156,7 +156,7 @@ none-end i x y none k m w q =
     let g : y ≡ length k = cc v in
     (w ∙ ap (ended none k) (sym f), sym g)
 
-full-end : (i : Input) (s x y : ℕ) (e : Ending) (k : Table) (m : ℕ) → search i ≡ ended e k m → fullSaid s x y ≡ endSaid e m (length k)
+pub full-end : (i : Input) (s x y : ℕ) (e : Ending) (k : Table) (m : ℕ) → search i ≡ ended e k m → fullSaid s x y ≡ endSaid e m (length k)
     → (search i ≡ ended (full s) k x) × (length k ≡ y)
 full-end i s x y (found root) k m w q = let v = values q in let z : _≡_ {A = ℕ} 0 1 = cc v in absurd (omega arith)
 full-end i s x y (full s′) k m w q =

@@ -1,0 +1,2 @@
+-- What the bench's private functions say of what they read. Nothing public cites it.
+pub mod Input
