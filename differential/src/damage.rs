@@ -358,7 +358,8 @@ pub fn run(count: usize) -> i32 {
                     });
                 }
                 if (at + 1) % 10_000 == 0 {
-                    eprintln!("damage: {} files, {} s", at + 1, started.elapsed().as_secs());
+                    let differ = differences.lock().unwrap().len();
+                    eprintln!("damage: {} files, {differ} differ so far, {} s", at + 1, started.elapsed().as_secs());
                 }
             });
         }
