@@ -22,7 +22,7 @@ const LARGEST: usize = 4450;
 
 /// How many units of work (one operator on one session) a walk may cost, so that the run ends in reasonable time under an emulator. A
 /// few files are asked whatever they cost.
-const SHORT_WALK: u64 = 30_000;
+const SHORT_WALK: u64 = 3_000;
 const ANY_WALK: u64 = 40_000_000;
 
 /// How many programs run at a time.
@@ -358,7 +358,12 @@ pub fn run(count: usize) -> i32 {
                     });
                 }
                 if (at + 1) % 10_000 == 0 {
-                    eprintln!("damage: {} files, {} s", at + 1, started.elapsed().as_secs());
+                    let differ = differences.lock().unwrap().len();
+                    eprintln!(
+                        "damage: {} files, {differ} differ so far, {} s",
+                        at + 1,
+                        started.elapsed().as_secs()
+                    );
                 }
             });
         }

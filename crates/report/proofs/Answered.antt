@@ -1,14 +1,13 @@
 -- From a search's answer to the lines that are written for it.
 -- Assumes nothing.
-use mathlib.Core.Path.{_≡_, refl, sym, ap, _∙_, subst}
-use mathlib.Core.List.{List, [], _∷_, _++_, map}
+use mathlib.Core.Path.{_≡_, sym, ap, _∙_, subst}
+use mathlib.Core.List.{List, _++_, map}
 use Prim.Native.Nat.{ℕ, _+_, _≤_}
 use native.Mathlib.Omega.{arith}
 use lib.ListN.{length, take, drop, length-append, length-map}
 use lib.Seq.{length-take-le}
 use Rattle.file.specs.Format.{Parts}
 use Rattle.session.specs.Answers.{over}
-use Rattle.walk.specs.Formula.{Formula}
 use Rattle.walk.specs.Nodes.{Spells, codes}
 use Rattle.walk.specs.Nodes as walk
 use Rattle.walk.specs.Walk.{found}

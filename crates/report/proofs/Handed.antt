@@ -1,7 +1,7 @@
 -- What the reader hands out, as the input of a search, and from there to the lines of a file.
 -- Assumes nothing.
 use mathlib.Core.Path.{_≡_, refl, sym, ap, _∙_, subst}
-use mathlib.Core.Bool.{true, cond}
+use mathlib.Core.Bool.{true}
 use mathlib.Core.List.{List, [], _∷_, _++_}
 use Prim.Native.Nat.{ℕ, _+_, _*_, _≤_}
 use native.Mathlib.Nat.{mul-le-mul}
@@ -26,7 +26,7 @@ use Rattle.text.specs.Inner.{Wrote}
 use Rattle.search.specs.Search as searching
 use Rattle.report.specs.Line.{brokenLine}
 use Rattle.report.specs.Report.{inputOf, Says, Reports}
-use Rattle.report.specs.Inner.{Given, GivenBy, Written, WrittenFor}
+use Rattle.report.specs.Inner.{Given, GivenBy, WrittenFor}
 use Rattle.report.proofs.Digits.{broken-short}
 use Rattle.report.proofs.Shown.{front}
 

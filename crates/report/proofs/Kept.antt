@@ -5,7 +5,7 @@ use mathlib.Core.List.{List, [], _∷_, _++_, map, map-append, append-nil, appen
 use Prim.Native.Nat.{ℕ, zero, suc, _+_, _≤_, _<_}
 use native.Mathlib.Omega.{arith}
 use lib.ListN.{length, getD, length-append, length-map, List·getD-append}
-use lib.Seq.{ext-getD, getD-append-add}
+use lib.Seq.{ext-getD}
 use Rattle.walk.specs.Formula.{size, Leaf, proposition, constant, Formula, Language, LeafOffered, Offered, _∈_}
 use Rattle.walk.specs.Formula.Tree.{leaf, unary, binary}
 use Rattle.walk.specs.Nodes.{Node, nodeAt, Spells, codes}
@@ -16,7 +16,7 @@ use Rattle.walk.specs.Promises as walk
 use Rattle.walk.proofs.Trees.{spells-size}
 use Rattle.formula.specs.Kinds.{node, nodes}
 use Rattle.formula.specs.Rule.{Broken}
-use Rattle.formula.specs.Inner.{LeafIn, Fits, AllFit}
+use Rattle.formula.specs.Inner.{LeafIn, Fits}
 use Rattle.formula.specs.Inner.Fits.{leaf as a-leaf, unary as a-unary, binary as a-binary}
 use Rattle.formula.proofs.Listed.{length-nodes, node-at}
 use Rattle.formula.proofs.Faults.{fits-whole}

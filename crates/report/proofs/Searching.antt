@@ -2,8 +2,8 @@
 -- Assumes nothing.
 use mathlib.Core.Path.{_≡_, refl, sym, ap, _∙_, subst}
 use mathlib.Core.Logic.{inl, inr}
-use mathlib.Core.List.{List, [], _++_, append-nil}
-use Prim.Native.Nat.{ℕ, _*_, _≤_, _<_}
+use mathlib.Core.List.{List, [], append-nil}
+use Prim.Native.Nat.{ℕ, _*_, _≤_}
 use native.Mathlib.Nat.{mul-le-mul}
 use native.Mathlib.Omega.{arith}
 use lib.ListN.{length}
@@ -16,21 +16,20 @@ use Rattle.file.specs.Format.{Parts, Good}
 use Rattle.file.specs.Reading.{marksOf, lengthsOf, wordsOf}
 use Rattle.file.proofs.Theorems.{handed-out-passes, unary-pass, binary-pass, unary-once, binary-once}
 use Rattle.walk.specs.Formula.{_∈_}
-use Rattle.walk.specs.Walk.{Candidate, State, found, none, full, ended, kept}
-use Rattle.walk.specs.Input.{Input, Passes, offer, search, mostSize}
+use Rattle.walk.specs.Walk.{State, found, none, full, ended, kept}
+use Rattle.walk.specs.Input.{Input, offer, search}
 use Rattle.walk.specs.Promises.{Table, nodes}
 use Rattle.walk.proofs.Promises as walk
 use Rattle.walk.proofs.Reading.{lawful}
 use Rattle.formula.specs.declared.kinds.Node.{Node}
 use Rattle.formula.specs.Kinds.{nodeOf}
 use Rattle.formula.specs.Rule.{Broken}
-use Rattle.search.specs.declared.SearchAnswer.{SearchAnswer}
 use Rattle.search.specs.declared.SearchAnswer.the-variants.{Found, None, Full, Refused}
 use Rattle.search.specs.Table.{Cols, tableOver}
 use Rattle.search.specs.Refusals.{searchRows}
-use Rattle.search.specs.Search.{said, walkSaid, Searched}
+use Rattle.search.specs.Search.{walkSaid, Searched}
 use Rattle.search.proofs.Decide.{is-two, is-zero, settings-fine, room-fine, codes-fine}
-use Rattle.search.proofs.Promises.{passes-whole, found-end, none-end, full-end, found-smallest}
+use Rattle.search.proofs.Promises.{passes-whole, found-end, none-end, full-end}
 use Rattle.report.specs.Line.{noneLine, fullLine, refusedLine}
 use Rattle.report.specs.Report.{inputOf, GoodSays}
 use Rattle.report.proofs.Sizes.{walk-small}

@@ -2,7 +2,7 @@
 -- Assumes nothing.
 use mathlib.Core.Path.{_≡_, refl, sym, ap, _∙_, subst}
 use mathlib.Core.Logic.{inl, inr}
-use mathlib.Core.List.{List, [], _∷_, _++_, head-eq-of-cons-eq, nil≢cons}
+use mathlib.Core.List.{List, [], _++_, head-eq-of-cons-eq, nil≢cons}
 use Prim.Native.Nat.{ℕ, _+_, _≤_}
 use native.Mathlib.Omega.{arith}
 use lib.ListN.{length, getD, take, drop, length-append}
@@ -10,7 +10,7 @@ use lib.Seq.{take-append-seam}
 use Rattle.sequence.specs.Refusals.{Decided}
 use Rattle.file.specs.Numbers.{nameLength}
 use Rattle.file.specs.Offence.{Got, got, wholeNames}
-use Rattle.session.specs.Answers.{Said, over}
+use Rattle.session.specs.Answers.{over}
 use Rattle.walk.specs.Formula.{size, Formula}
 use Rattle.walk.specs.Nodes.{Node, Spells, codes}
 use Rattle.walk.specs.Input.{mostSize}
@@ -19,7 +19,7 @@ use Rattle.text.specs.declared.Printed.the-variants.{Text, Broken as NamesBroke
 use Rattle.formula.specs.Rule.{Broken}
 use Rattle.text.specs.Text.{text, mostText}
 use Rattle.text.specs.Print.{saidPrinted, printRows, PrintAnswer, PrintsBy, Prints}
-use Rattle.text.specs.Inner.{listed, namesIn, GoodNames}
+use Rattle.text.specs.Inner.{listed, namesIn}
 use Rattle.text.proofs.Names.{short-names}
 use Rattle.text.proofs.Texts.{text-fits}
 use Rattle.formula.proofs.Spelled.{list-spells}

@@ -1,14 +1,14 @@
 -- Each formula that the walk keeps is within the bound.
 -- Assumes nothing.
-use mathlib.Core.Path.{_≡_, refl, sym, subst}
+use mathlib.Core.Path.{_≡_, refl, subst}
 use mathlib.Core.Logic.{⊎-elim}
 use mathlib.Core.List.{List, List·Memᴰ·not-nil}
 use Prim.Native.Nat.{ℕ, zero, suc, _≤_}
 use native.Mathlib.Omega.{arith}
 use Rattle.walk.specs.Formula.{_∈_}
-use Rattle.walk.specs.Walk.{Offer, Candidate, State, going, ended, kept, finish, layer, consider, through, after, walk}
+use Rattle.walk.specs.Walk.{Offer, Candidate, State, going, ended, kept, finish, layer, through, after, walk}
 use Rattle.walk.proofs.Layers.{layer-fits}
-use Rattle.walk.proofs.Pass.{Grows, grows-from, grown}
+use Rattle.walk.proofs.Pass.{grows-from, grown}
 use Rattle.walk.proofs.Trees.{Lawful}
 
 module _ {L U B Mat : Type 0} (O : Offer L U B Mat) (law : Lawful O) (C : ℕ) where

@@ -1,9 +1,9 @@
 -- Any two results that the contract allows are equal, and the lines are within the text.
 -- Assumes nothing.
-use mathlib.Core.Path.{_≡_, refl, sym, ap, _∙_, subst}
+use mathlib.Core.Path.{_≡_, sym, ap, _∙_, subst}
 use mathlib.Core.Logic.{inl, inr}
 use mathlib.Core.List.{List, _++_}
-use Prim.Native.Nat.{ℕ, _≤_, _<_}
+use Prim.Native.Nat.{ℕ, _≤_}
 use native.Mathlib.Nat.{lt-of-not-le}
 use native.Mathlib.Decide.{decLe}
 use native.Mathlib.Omega.{arith}
@@ -14,13 +14,12 @@ use Rattle.file.specs.Format.{Parts}
 use Rattle.file.specs.Offence.{Got, got, bad, wholeFile}
 use Rattle.session.specs.Answers.{over}
 use Rattle.walk.specs.Formula.{Formula}
-use Rattle.walk.specs.Walk.{Ending, found, none, full, State, ended}
-use Rattle.walk.specs.Input.{search}
+use Rattle.walk.specs.Walk.{Ending, found, none, full, ended}
 use Rattle.walk.specs.Promises.{Table, nodes}
 use Rattle.text.specs.Text.{text}
 use Rattle.formula.proofs.Spelled.{spells-one}
 use Rattle.report.specs.Line.{newline, foundLine}
-use Rattle.report.specs.Report.{inputOf, EndSays, GoodSays, Says, Reports}
+use Rattle.report.specs.Report.{EndSays, GoodSays, Says, Reports}
 
 -- one end has its lines
 end-one : (names : List (List ℕ)) (e : Ending) (k : Table) (n : ℕ) (x y : List ℕ) → EndSays names e k n x → EndSays names e k n y → x ≡ y
