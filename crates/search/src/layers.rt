@@ -176,7 +176,7 @@ pub(crate) fn first_point() -> Point
     }
 }
 
-// The sizes up to the bound, from a point on.
+// The sizes up to the bound, from a point on (enum_aux in aux.rs).
 pub(crate) fn layers(
     given: Given,
     marks: &[u8],

@@ -141,7 +141,7 @@ fn agrees_at(x: u64, length: u8, mark: u8) -> bool
     if accepts { mark == 1 } else { mark != 1 }
 }
 
-// Whether exactly the sessions marked 1 accept.
+// Whether exactly the sessions marked 1 accept (is_equivalent in cm.rs).
 pub(crate) fn agrees(r: usize, marks: &[u8], lengths: &[u8], rows: &Matrix) -> bool
     requires { ⌜ (r ≤ sessions) × (r ≤ length (now marks)) × (r ≤ length (now lengths)) ⌝ }
     ensures { λ b. ⌜ b ≡ every (count 0 r) (agreesAt (now (marks .entry)) (now (lengths .entry)) (now (rows .entry))) ⌝ }
@@ -157,7 +157,7 @@ pub(crate) fn agrees(r: usize, marks: &[u8], lengths: &[u8], rows: &Matrix) -> b
     true
 }
 
-// Whether the matrix that starts at `from` is the same in every row.
+// Whether the matrix that starts at `from` is the same in every row (what the hash of cm.rs stands for).
 fn same_at(r: usize, matrices: &[u64], rows: &Matrix, from: usize) -> bool
     requires { ⌜ (r ≤ sessions) × (from + r ≤ length (now matrices)) ⌝ }
     ensures { λ b. ⌜ SameAt r (now (rows .entry)) (now (matrices .entry)) from b ⌝ }

@@ -44,7 +44,7 @@ pub enum Event {
     },
 }
 
-// One candidate.
+// One candidate: found, dropped, or to be kept (the body of enum_aux's loops in aux.rs).
 fn one(
     given: Given,
     marks: &[u8],
@@ -179,7 +179,7 @@ fn both(
     )
 }
 
-// The binary operators over a pair.
+// The binary operators over a pair (aux_search_binary in aux.rs).
 fn row(
     given: Given,
     marks: &[u8],
@@ -226,7 +226,7 @@ fn row(
     Event::Through(n)
 }
 
-// The right places up to `to`, under one left place.
+// The right places below `to`, under one left place.
 fn column(
     given: Given,
     marks: &[u8],
@@ -276,7 +276,7 @@ fn column(
     Event::Through(n)
 }
 
-// The left places up to `end`, each with the right places from `from` up to `to`.
+// The left places below `end`, each with the right places from `from` to below `to`.
 fn pairs(
     given: Given,
     marks: &[u8],
@@ -390,7 +390,7 @@ fn splits(
     Event::Through(n)
 }
 
-// The unary operators over a place.
+// The unary operators over a place (aux_search_unary in aux.rs).
 fn unary_row(
     given: Given,
     marks: &[u8],
@@ -438,7 +438,7 @@ fn unary_row(
     Event::Through(n)
 }
 
-// The unary operators over the places up to `to`.
+// The unary operators over the places below `to`.
 fn unary_places(
     given: Given,
     marks: &[u8],
@@ -549,7 +549,7 @@ fn seeds(
     Event::Through(n)
 }
 
-// The candidates of size s from a cursor on.
+// The candidates of size s from a cursor on, up to the first that decides or is to be kept (one size of enum_aux in aux.rs).
 pub(crate) fn scan(
     given: Given,
     marks: &[u8],
