@@ -12,6 +12,7 @@ use Rattle.walk.specs.Walk.{Candidate, found, going, ended, count, judge, consi
 use Rattle.walk.specs.Walk as walk
 use Rattle.walk.specs.Input.{Input, unaryOf, binaryOf, every, separating, offer}
 use Rattle.walk.specs.Promises.{Table}
+use Rattle.formula.specs.declared.kinds.Place.{Place}
 use Rattle.search.specs.declared.given.Given.{Given}
 use Rattle.search.specs.declared.scan.Cursor.{Cursor}
 use Rattle.search.specs.declared.scan.Event.the-variants.{Through, Found, New}
@@ -43,8 +44,14 @@ made-base {i} code left right st (Makes.binary a b c d) =
 
 -- ---- the program's tests
 
-module _ {g : Given} {marks lengths words matrices : List ℕ} {kept code left right tried : ℕ} {xs : List ℕ}
-    (ask : OneAsks g marks lengths words matrices kept code left right tried) (made-rows : RowsOf g lengths words matrices code left right xs) where
+module _ {g : Given} {marks lengths words matrices : List ℕ} {kept code : ℕ} {a b : Place} {tried : ℕ} {xs : List ℕ}
+    (ask : OneAsks g marks lengths words matrices kept code (a .0) (b .0) tried) (made-rows : RowsOf g lengths words matrices code (a .0) (b .0) xs) where
+  abbrev left : ℕ
+  left = a .0
+
+  abbrev right : ℕ
+  right = b .0
+
   module _ (unary binary : List ℕ) (k₀ k : Table) (st : Stands (input g marks lengths words unary binary) k₀ k matrices kept)
       (mk : Makes (g .propositions) (length k₀) code left right) where
     kept-makes : Makes (g .propositions) (length k) code left right
@@ -66,7 +73,7 @@ module _ {g : Given} {marks lengths words matrices : List ℕ} {kept code left r
         (subst (λ (n : ℕ). Known (g .sessions) xs matrices n b) (st .counted) w)
 
   pub one-found : {next : Cursor} → true ≡ every (count 0 (g .sessions)) (agreesAt marks lengths xs)
-      → OneDoes g marks lengths words matrices kept code left right next tried (Found (tried + 1) code left right)
+      → OneDoes g marks lengths words matrices kept code left right next tried (Found (tried + 1) code a b)
   one-found e = record {
     safe = record { says = (omega arith, ask .makes) };
     runs = λ unary binary k₀ k s st mk. record { says = con-found (input g marks lengths words unary binary) k tried _ (agreed unary binary k₀ k st mk true e) };
@@ -84,13 +91,15 @@ module _ {g : Given} {marks lengths words matrices : List ℕ} {kept code left r
   }
 
   pub one-new : {next : Cursor} → false ≡ every (count 0 (g .sessions)) (agreesAt marks lengths xs) → Known (g .sessions) xs matrices kept false
-      → OneDoes g marks lengths words matrices kept code left right next tried (New tried code left right next)
+      → OneDoes g marks lengths words matrices kept code left right next tried (New (tried + 1) code a b next)
   one-new e w = record {
     safe = record { says = (omega arith, ask .makes, refl) };
     runs = λ unary binary k₀ k s st mk. record {
-      says = (
-        record { is = refl },
-        record { rejected = agreed unary binary k₀ k st mk false e; unknown = found-already unary binary k₀ k st mk false w; rows = made-base code left right st mk },
-      );
+      says = record {
+        before = tried;
+        counted = refl;
+        onward = record { is = refl };
+        fresh = record { rejected = agreed unary binary k₀ k st mk false e; unknown = found-already unary binary k₀ k st mk false w; rows = made-base code left right st mk };
+      };
     };
   }

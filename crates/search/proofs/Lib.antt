@@ -13,6 +13,7 @@ pub mod Layer
 pub mod Table
 pub mod Driver
 pub mod Listing
+pub mod Rest
 pub mod Sizes
 pub mod Checks
 pub mod Decide

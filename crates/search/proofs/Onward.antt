@@ -72,23 +72,30 @@ module _ {i : Input} {k : Table} where
   stop-part {part = part} tail o e (Found t code left right) w p q f = record {
     says = split part tail o e ∙ ap (λ (st : State (List ℕ)). foldl (consider (offer i) (i .room)) st tail) (p .says) ∙ stays (offer i) (i .room) _ k t tail;
   }
-  stop-part {k₀ = k₀} {s = s} {part = part} {rest = rest} tail o e (New t code left right next) w p q f = record {
-    says = (
+  stop-part {k₀ = k₀} {s = s} {part = part} {rest = rest} tail o e (New t code left right next) w p q f =
+      let x = candidate i k₀ s code (left .0) (right .0) in
+      let b = p .says .before in
       record {
-        is = split part tail o e ∙ ap (λ (st : State (List ℕ)). foldl (consider (offer i) (i .room)) st tail) (p .says .0 .is)
-            ∙ sym (foldl-append (consider (offer i) (i .room)) (going k t) (candidate i k₀ s code left right ∷ rest next) tail)
-            ∙ ap (λ (ds : List (Candidate (List ℕ))). foldl (consider (offer i) (i .room)) (going k t) (candidate i k₀ s code left right ∷ ds)) (sym (f next (q .says .2)));
-      },
-      p .says .1,
-    );
-  }
+        says = record {
+          before = b;
+          counted = p .says .counted;
+          onward = record {
+            is = split part tail o e ∙ ap (λ (st : State (List ℕ)). foldl (consider (offer i) (i .room)) st tail) (p .says .onward .is)
+                ∙ sym (foldl-append (consider (offer i) (i .room)) (going k b) (x ∷ rest next) tail)
+                ∙ ap (λ (ds : List (Candidate (List ℕ))). foldl (consider (offer i) (i .room)) (going k b) (x ∷ ds)) (sym (f next (q .says .2)));
+          };
+          fresh = p .says .fresh;
+        };
+      }
 
   -- the last part, stopped in or not
   pub last-part : {k₀ : Table} {s n₀ n : ℕ} {all part : List (Candidate (List ℕ))} {rest : Cursor → List (Candidate (List ℕ))}
       → Onward i k n₀ all n part → (event : Event) → Scanned i k₀ k s n part rest event → Scanned i k₀ k s n₀ all rest event
   last-part o (Through t) p = record { says = record { is = o .is ∙ p .says .is } }
   last-part o (Found t code left right) p = record { says = o .is ∙ p .says }
-  last-part o (New t code left right next) p = record { says = (record { is = o .is ∙ p .says .0 .is }, p .says .1) }
+  last-part o (New t code left right next) p = record {
+    says = record { before = p .says .before; counted = p .says .counted; onward = record { is = o .is ∙ p .says .onward .is }; fresh = p .says .fresh };
+  }
 
   -- what is left after the candidate, said in another way
   pub relabel : {k₀ : Table} {s n m kept limit : ℕ} {cs : List (Candidate (List ℕ))} {rest rest′ : Cursor → List (Candidate (List ℕ))} {keeps : Cursor → Type 0}
@@ -97,7 +104,12 @@ module _ {i : Input} {k : Table} where
   relabel (Through t) p q f = record { says = p .says }
   relabel (Found t code left right) p q f = record { says = p .says }
   relabel {k₀ = k₀} {s = s} (New t code left right next) p q f = record {
-    says = (onward-as (p .says .0) (ap (λ (ds : List (Candidate (List ℕ))). candidate i k₀ s code left right ∷ ds) (sym (f next (q .says .2)))), p .says .1);
+    says = record {
+      before = p .says .before;
+      counted = p .says .counted;
+      onward = onward-as (p .says .onward) (ap (λ (ds : List (Candidate (List ℕ))). candidate i k₀ s code (left .0) (right .0) ∷ ds) (sym (f next (q .says .2))));
+      fresh = p .says .fresh;
+    };
   }
 
 -- ---- what is left of a loop

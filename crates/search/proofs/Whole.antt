@@ -16,17 +16,17 @@ use Rattle.sequence.specs.Refusals.{Decided}
 use Rattle.walk.specs.Walk.{none, State, kept, finish, after, walk}
 use Rattle.walk.specs.Input.{Input, Passes, lengthOf, markOf, wordOf, unaryOf, binaryOf, offer, search}
 use Rattle.search.specs.declared.given.Given.{Given}
-use Rattle.search.specs.declared.SearchAnswer.the-variants.{Found, None, Full}
 use Rattle.search.specs.declared.layers.Stand.{Stand}
-use Rattle.search.specs.declared.layers.Stand.the-variants as stand
+use Rattle.search.specs.declared.layers.Stand.the-variants.{Going, Found, Full}
 use Rattle.search.specs.Table.{Cols, tableOver}
 use Rattle.search.specs.Refusals.{searchRows}
 use Rattle.search.specs.Search.{Searched}
 use Rattle.search.specs.Matrix.{input}
 use Rattle.search.specs.Checks.{GoodCodes}
-use Rattle.search.specs.Layers.{stateOf, Stood, LayersAsks, LayersDoes}
+use Rattle.search.specs.Layers.{stateOf, answerOf, Stood, firstPoint, LayersAsks, LayersDoes}
 use Rattle.search.proofs.Matrices.{unary-code, binary-code}
 use Rattle.search.proofs.Checks.{unary-low, binary-in, at-position, good-once, unary-codes, binary-codes}
+use Rattle.search.proofs.Sizes.{first-long, first-below, whole-walk}
 use Rattle.search.proofs.Decide.{NoneOf, none-given, numbers-in, le-of-not-lt}
 
 -- ---- no row is given
@@ -91,7 +91,7 @@ module _ (i : Input) (t : Cols) (d : Decided (searchRows i t) 0) where
   }
 
 module _ {g : Given} {marks lengths words unary binary : List ℕ} {t : Cols} (d : Decided (searchRows (input g marks lengths words unary binary) t) 0) where
-  pub search-asks : LayersAsks g marks lengths words unary binary t
+  pub search-asks : LayersAsks g marks lengths words unary binary firstPoint t
   search-asks =
       let i = input g marks lengths words unary binary in
       let ok = search-passes i t d in
@@ -116,36 +116,34 @@ module _ {g : Given} {marks lengths words unary binary : List ℕ} {t : Cols} (d
           matrices = le-of-not-lt λ h. w .1 .1 .1 .0 (inr (inr (inr (inr h))));
         };
         bound-in = ok .bound-in .1;
+        size-in = (omega arith, omega arith);
+        starts-long = first-long;
+        starts-below = first-below;
+        kept-in = omega arith;
+        counts = omega arith;
       }
 
   -- ---- the answer
 
   module _ {t′ : Cols} where
-    found-end : (s : Stand) → (w : Stood (input g marks lengths words unary binary) t (after (offer (input g marks lengths words unary binary)) (g .room) (g .bound)) t′ s)
+    walk-end : (s : Stand) → (w : Stood (input g marks lengths words unary binary) t (after (offer (input g marks lengths words unary binary)) (g .room) (g .bound)) t′ s)
         → search (input g marks lengths words unary binary) ≡ finish (stateOf s (w .table))
     unfolding walk
-    found-end s w = ap finish (w .is)
+    walk-end s w = ap finish (w .is)
 
-    pub none-answer : {tried n : ℕ} → LayersDoes g marks lengths words unary binary t t′ (stand.Going tried n)
-        → Searched (input g marks lengths words unary binary) t (None tried n) t′
+    answered : (stand : Stand) → Stood (input g marks lengths words unary binary) t (after (offer (input g marks lengths words unary binary)) (g .room) (g .bound)) t′ stand
+        → Searched (input g marks lengths words unary binary) t (answerOf stand) t′
     unfolding finish
-    none-answer {tried} {n} v =
-        let w = v .runs (search-passes (input g marks lengths words unary binary) t d) in
-        let e = found-end (stand.Going tried n) w in
+    answered (Going tried n) w =
+        let e = walk-end (Going tried n) w in
+        record { decided = d; outcome = (rw (e, w .holds .counted), w .holds .are ∙ ap (λ (st : State (List ℕ)). tableOver (kept st) t) (sym e)) }
+    answered (Found root tried n) w =
+        let e = walk-end (Found root tried n) w in
+        record { decided = d; outcome = (rw (e, w .holds .counted), w .holds .are ∙ ap (λ (st : State (List ℕ)). tableOver (kept st) t) (sym e)) }
+    answered (Full size tried n) w =
+        let e = walk-end (Full size tried n) w in
         record { decided = d; outcome = (rw (e, w .holds .counted), w .holds .are ∙ ap (λ (st : State (List ℕ)). tableOver (kept st) t) (sym e)) }
 
-    pub found-answer : {code left right size tried n : ℕ} → LayersDoes g marks lengths words unary binary t t′ (stand.Found code left right size tried n)
-        → Searched (input g marks lengths words unary binary) t (Found (record { code = code; left = record { 0 = left }; right = record { 0 = right }; size = size }) tried n) t′
-    unfolding finish
-    found-answer {code} {left} {right} {size} {tried} {n} v =
-        let w = v .runs (search-passes (input g marks lengths words unary binary) t d) in
-        let e = found-end (stand.Found code left right size tried n) w in
-        record { decided = d; outcome = (rw (e, w .holds .counted), w .holds .are ∙ ap (λ (st : State (List ℕ)). tableOver (kept st) t) (sym e)) }
-
-    pub full-answer : {size tried n : ℕ} → LayersDoes g marks lengths words unary binary t t′ (stand.Full size tried n)
-        → Searched (input g marks lengths words unary binary) t (Full size tried n) t′
-    unfolding finish
-    full-answer {size} {tried} {n} v =
-        let w = v .runs (search-passes (input g marks lengths words unary binary) t d) in
-        let e = found-end (stand.Full size tried n) w in
-        record { decided = d; outcome = (rw (e, w .holds .counted), w .holds .are ∙ ap (λ (st : State (List ℕ)). tableOver (kept st) t) (sym e)) }
+    pub search-answers : (stand : Stand) → LayersDoes g marks lengths words unary binary firstPoint t t′ stand
+        → Searched (input g marks lengths words unary binary) t (answerOf stand) t′
+    search-answers stand v = answered stand (whole-walk search-asks v (search-passes (input g marks lengths words unary binary) t d))

@@ -29,9 +29,9 @@ perPairs = 16 * perSplit
 abbrev pub perUnary : ℕ
 perUnary = unaries * limits.room
 
--- the propositions' numbers are places' numbers too, and there are two constants
+-- the propositions' numbers are those of their kind, and there are two constants
 abbrev pub mostLeaves : ℕ
-mostLeaves = 65535
+mostLeaves = 255
 
 abbrev pub perSeeds : ℕ
 perSeeds = mostLeaves + 2

@@ -5,6 +5,7 @@ use mathlib.Core.Bool.{Bool, true, false, not, cond, Bool·beq}
 use mathlib.Core.List.{List, []}
 use Prim.Native.Nat.{ℕ, _+_, _*_, _≤_, _<_}
 use lib.ListN.{length, getD, take}
+use lib.Seq.{paste}
 use lib.Dec.{eqb, ltb}
 use Rattle.search.specs.Costs.{mostLeaves}
 use Rattle.sequence.specs.Limits as limits
@@ -117,6 +118,16 @@ pub record RowsOf (g : Given) (lengths words matrices : List ℕ) (code left rig
       → Stored (input g marks lengths words unary binary) k matrices
       → Makes (g .propositions) (length k) code left right
       → take (g .sessions) rows ≡ made (input g marks lengths words unary binary) k code left right
+
+-- the matrix of a candidate is written at a place
+pub record PutAsks (g : Given) (lengths words matrices : List ℕ) (place code left right : ℕ) : Type 0 where
+  pub asks : RowsAsk g lengths words matrices code left right
+  pub in-room : place * g .sessions + g .sessions ≤ length matrices
+
+pub record PutDoes (g : Given) (lengths words matrices : List ℕ) (place code left right : ℕ) (matrices′ : List ℕ) : Type 0 where
+  pub rows : List ℕ
+  pub made : RowsOf g lengths words matrices code left right rows
+  pub are : matrices′ ≡ paste matrices (place * g .sessions) rows (g .sessions)
 
 -- ---- acceptance and comparison
 

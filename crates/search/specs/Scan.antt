@@ -94,11 +94,17 @@ pub record Fresh (i : Input) (k : Table) (x : Candidate (List ℕ)) : Type 0 whe
   pub unknown : known (offer i) (x .matrix) k ≡ false
   pub rows : made i k (x .node .code) (x .node .left) (x .node .right) ≡ x .matrix
 
+-- they come to x, the t-th tried, which is to be kept, and then to ds
+pub record Waits (i : Input) (k : Table) (n : ℕ) (cs : List (Candidate (List ℕ))) (t : ℕ) (x : Candidate (List ℕ)) (ds : List (Candidate (List ℕ))) : Type 0 where
+  pub before : ℕ
+  pub counted : t ≡ before + 1
+  pub onward : Onward i k n cs before (x ∷ ds)
+  pub fresh : Fresh i k x
+
 abbrev pub ScannedBy : Input → Table → Table → ℕ → ℕ → List (Candidate (List ℕ)) → (Cursor → List (Candidate (List ℕ))) → Event → Type 0
 ScannedBy i k₀ k s n cs rest (Through t) = Onward i k n cs t []
-ScannedBy i k₀ k s n cs rest (Found t code left right) = foldl (consider (offer i) (i .room)) (going k n) cs ≡ ended (found (nodeOf s code left right)) k t
-ScannedBy i k₀ k s n cs rest (New t code left right next) =
-    Onward i k n cs t (candidate i k₀ s code left right ∷ rest next) × Fresh i k (candidate i k₀ s code left right)
+ScannedBy i k₀ k s n cs rest (Found t code left right) = foldl (consider (offer i) (i .room)) (going k n) cs ≡ ended (found (nodeOf s code (left .0) (right .0))) k t
+ScannedBy i k₀ k s n cs rest (New t code left right next) = Waits i k n cs t (candidate i k₀ s code (left .0) (right .0)) (rest next)
 
 pub record Scanned (i : Input) (k₀ k : Table) (s n : ℕ) (cs : List (Candidate (List ℕ))) (rest : Cursor → List (Candidate (List ℕ))) (event : Event) : Type 0 where
   pub says : ScannedBy i k₀ k s n cs rest event
@@ -106,8 +112,8 @@ pub record Scanned (i : Input) (k₀ k : Table) (s n : ℕ) (cs : List (Candidat
 -- and what holds whatever the table
 abbrev pub SafeBy : ℕ → ℕ → ℕ → (Cursor → Type 0) → Event → Type 0
 SafeBy m kept limit keeps (Through t) = t ≤ limit
-SafeBy m kept limit keeps (Found t code left right) = (t ≤ limit) × Makes m kept code left right
-SafeBy m kept limit keeps (New t code left right next) = (t < limit) × Makes m kept code left right × keeps next
+SafeBy m kept limit keeps (Found t code left right) = (t ≤ limit) × Makes m kept code (left .0) (right .0)
+SafeBy m kept limit keeps (New t code left right next) = (t ≤ limit) × Makes m kept code (left .0) (right .0) × keeps next
 
 pub record Safe (m kept limit : ℕ) (keeps : Cursor → Type 0) (event : Event) : Type 0 where
   pub says : SafeBy m kept limit keeps event

@@ -1,61 +1,61 @@
 // The sizes one after the other: what is to be kept is written at the next place, and the size goes on after it (aux.rs).
 use crate::given::Given;
-use crate::matrix::rows_of;
-use crate::matrix::store;
+use crate::matrix::put_rows;
 use crate::scan::Cursor;
 use crate::scan::Event;
 use crate::scan::scan;
+use formula::kinds::Node;
+use formula::kinds::Place;
 ghost use mathlib.Core.Path.{_≡_};
-ghost use lib.ListN.{set};
 ghost use Rattle.search.specs.Table.{cols};
-ghost use Rattle.search.specs.Layers.{NodeAsks, LayerAsks, LayerDoes, LayersAsks, LayersDoes};
+ghost use Rattle.search.specs.Layers.{KeepAsks, KeepDoes, LayerAsks, LayerDoes, firstPoint, LayersAsks, LayersDoes};
+
+// A point of the walk before a candidate: the size, where its candidates go on, the first place of each size up to it, the number kept and the
+// number tried.
+pub struct Point {
+    pub size: usize,
+    pub at: Cursor,
+    pub starts: [usize; session::BOUND + 2],
+    pub kept: usize,
+    pub tried: u64,
+}
 
 // Where the walk stands after some sizes.
 pub enum Stand {
-    Going {
-        tried: u64,
-        kept: usize,
-    },
-    Found {
-        code: u8,
-        left: u16,
-        right: u16,
-        size: u8,
-        tried: u64,
-        kept: usize,
-    },
-    Full {
-        size: u8,
-        tried: u64,
-        kept: usize,
-    },
+    Going { tried: u64, kept: usize },
+    Found { root: Node, tried: u64, kept: usize },
+    Full { size: u8, tried: u64, kept: usize },
 }
 
-// Writes a node at a place.
-fn put_node(
+// Writes a formula at a place: its node and its matrix.
+fn keep(
+    given: Given,
+    lengths: &[u8],
+    words: &[u64],
     codes: &mut [u8],
     lefts: &mut [u16],
     rights: &mut [u16],
     sizes: &mut [u8],
+    matrices: &mut [u64],
     place: usize,
     code: u8,
-    left: usize,
-    right: usize,
+    left: Place,
+    right: Place,
     size: usize,
 )
-    requires { ⌜ NodeAsks (cols (now codes) (now lefts) (now rights) (now sizes) (now sizes)) place left right size ⌝ }
-    ensures { λ u. ⌜ (now (codes .exit) ≡ set (now (codes .entry)) place code)
-        × (now (lefts .exit) ≡ set (now (lefts .entry)) place left)
-        × (now (rights .exit) ≡ set (now (rights .entry)) place right)
-        × (now (sizes .exit) ≡ set (now (sizes .entry)) place size) ⌝ }
+    requires { ⌜ KeepAsks given (now lengths) (now words) (cols (now codes) (now lefts) (now rights) (now sizes) (now matrices)) place code (left .0) (right .0) size ⌝ }
+    ensures { λ u. ⌜ KeepDoes given (now (lengths .entry)) (now (words .entry))
+        (cols (now (codes .entry)) (now (lefts .entry)) (now (rights .entry)) (now (sizes .entry)) (now (matrices .entry))) place code (left .0) (right .0) size
+        (cols (now (codes .exit)) (now (lefts .exit)) (now (rights .exit)) (now (sizes .exit)) (now (matrices .exit))) ⌝ }
 {
     codes[place] = code;
-    lefts[place] = left as u16;
-    rights[place] = right as u16;
+    lefts[place] = left.0;
+    rights[place] = right.0;
     sizes[place] = size as u8;
+    put_rows(given, lengths, words, matrices, place, code, left, right);
 }
 
-// The candidates of size s, over what is kept when that size begins.
+// The candidates of size s from a cursor on, over what was kept when that size began.
 fn layer(
     given: Given,
     marks: &[u8],
@@ -65,6 +65,7 @@ fn layer(
     binary: &[u8],
     starts: &[usize],
     s: usize,
+    from: Cursor,
     codes: &mut [u8],
     lefts: &mut [u16],
     rights: &mut [u16],
@@ -75,19 +76,12 @@ fn layer(
 ) -> Stand
     requires { ⌜ LayerAsks given (now marks) (now lengths) (now words) (now unary) (now binary) (now starts) s
         (cols (now codes) (now lefts) (now rights) (now sizes) (now matrices)) kept tried ⌝ }
-    ensures { λ stand. ⌜ LayerDoes given (now (marks .entry)) (now (lengths .entry)) (now (words .entry)) (now (unary .entry)) (now (binary .entry)) (now (starts .entry)) s
+    ensures { λ stand. ⌜ LayerDoes given (now (marks .entry)) (now (lengths .entry)) (now (words .entry)) (now (unary .entry)) (now (binary .entry)) (now (starts .entry)) s from
         (cols (now (codes .entry)) (now (lefts .entry)) (now (rights .entry)) (now (sizes .entry)) (now (matrices .entry))) kept tried
         (cols (now (codes .exit)) (now (lefts .exit)) (now (rights .exit)) (now (sizes .exit)) (now (matrices .exit))) stand ⌝ }
 {
-    let r = given.sessions;
     let room = given.room;
-    let mut at = Cursor {
-        split: 0,
-        left: starts[s - 1],
-        right: 0,
-        operator: 0,
-        second: false,
-    };
+    let mut at = from;
     let mut k = kept;
     let mut n = tried;
     loop {
@@ -116,10 +110,12 @@ fn layer(
                 right,
             } => {
                 return Stand::Found {
-                    code,
-                    left: left as u16,
-                    right: right as u16,
-                    size: s as u8,
+                    root: Node {
+                        code,
+                        left,
+                        right,
+                        size: s as u8,
+                    },
                     tried: t,
                     kept: k,
                 };
@@ -134,22 +130,53 @@ fn layer(
                 if room <= k {
                     return Stand::Full {
                         size: s as u8,
-                        tried: t + 1,
+                        tried: t,
                         kept: k,
                     };
                 }
-                let rows = rows_of(given, lengths, words, matrices, code, left, right);
-                put_node(codes, lefts, rights, sizes, k, code, left, right, s);
-                store(r, matrices, &rows, k * r);
+                keep(
+                    given,
+                    lengths,
+                    words,
+                    codes,
+                    lefts,
+                    rights,
+                    sizes,
+                    matrices,
+                    k,
+                    code,
+                    left,
+                    right,
+                    s,
+                );
                 k += 1;
-                n = t + 1;
+                n = t;
                 at = next;
             }
         }
     }
 }
 
-// The sizes from 1 to the bound.
+// The point before the first candidate.
+pub(crate) fn first_point() -> Point
+    ensures { λ p. ⌜ p ≡ firstPoint ⌝ }
+{
+    Point {
+        size: 1,
+        at: Cursor {
+            split: 0,
+            left: 0,
+            right: 0,
+            operator: 0,
+            second: false,
+        },
+        starts: [0usize; session::BOUND + 2],
+        kept: 0,
+        tried: 0,
+    }
+}
+
+// The sizes up to the bound, from a point on (enum_aux in aux.rs).
 pub(crate) fn layers(
     given: Given,
     marks: &[u8],
@@ -157,25 +184,26 @@ pub(crate) fn layers(
     words: &[u64],
     unary: &[u8],
     binary: &[u8],
+    from: Point,
     codes: &mut [u8],
     lefts: &mut [u16],
     rights: &mut [u16],
     sizes: &mut [u8],
     matrices: &mut [u64],
 ) -> Stand
-    requires { ⌜ LayersAsks given (now marks) (now lengths) (now words) (now unary) (now binary)
+    requires { ⌜ LayersAsks given (now marks) (now lengths) (now words) (now unary) (now binary) from
         (cols (now codes) (now lefts) (now rights) (now sizes) (now matrices)) ⌝ }
-    ensures { λ stand. ⌜ LayersDoes given (now (marks .entry)) (now (lengths .entry)) (now (words .entry)) (now (unary .entry)) (now (binary .entry))
+    ensures { λ stand. ⌜ LayersDoes given (now (marks .entry)) (now (lengths .entry)) (now (words .entry)) (now (unary .entry)) (now (binary .entry)) from
         (cols (now (codes .entry)) (now (lefts .entry)) (now (rights .entry)) (now (sizes .entry)) (now (matrices .entry)))
         (cols (now (codes .exit)) (now (lefts .exit)) (now (rights .exit)) (now (sizes .exit)) (now (matrices .exit))) stand ⌝ }
 {
     let bound = given.bound;
-    let mut starts = [0usize; session::BOUND + 1];
-    let mut k: usize = 0;
-    let mut n: u64 = 0;
-    let mut s: usize = 1;
+    let mut starts = from.starts;
+    let mut s = from.size;
+    let mut at = from.at;
+    let mut k = from.kept;
+    let mut n = from.tried;
     while s <= bound {
-        starts[s] = k;
         let stand = layer(
             given,
             marks,
@@ -185,6 +213,7 @@ pub(crate) fn layers(
             binary,
             &starts,
             s,
+            at,
             codes,
             lefts,
             rights,
@@ -198,7 +227,15 @@ pub(crate) fn layers(
         };
         n = tried;
         k = kept;
+        at = Cursor {
+            split: 0,
+            left: starts[s],
+            right: 0,
+            operator: 0,
+            second: false,
+        };
         s += 1;
+        starts[s] = k;
     }
     Stand::Going { tried: n, kept: k }
 }

@@ -8,8 +8,9 @@ mod scan;
 use crate::given::Given;
 use crate::layers::Stand;
 use formula::kinds::Node;
-use formula::kinds::Place;
+ghost use mathlib.Core.Path.{_≡_};
 ghost use Rattle.search.specs.Table.{cols};
+ghost use Rattle.search.specs.Layers.{answerOf};
 ghost use Rattle.search.specs.Search.{inputOf, Searched};
 
 // FOUND with the root node over the kept list, NONE, FULL at a size, each with the number tried and the number kept; or a refusal.
@@ -20,6 +21,21 @@ pub enum SearchAnswer {
     Refused(u8),
 }
 
+// The answer where the walk stands at its end: after the last candidate it is NONE.
+fn answer_of(stand: Stand) -> SearchAnswer
+    ensures { λ answer. ⌜ answer ≡ answerOf stand ⌝ }
+{
+    match stand {
+        Stand::Going { tried, kept } => SearchAnswer::None { tried, kept },
+        Stand::Found { root, tried, kept } => SearchAnswer::Found { root, tried, kept },
+        Stand::Full { size, tried, kept } => SearchAnswer::Full { size, tried, kept },
+    }
+}
+
+// The smallest formula that separates the sessions marked 1 from those marked 0. It takes r sessions and m propositions (marks, lengths, words m per
+// session), the bound B, the room C, the constants mark and the operator codes offered; it refuses with a number of document 01's table, in its
+// order, and then writes nothing. Else it answers FOUND, NONE or FULL, with the kept formulas' nodes and matrices in the five lent slices from
+// place 0 on; what stands after them stays.
 pub fn search(
     r: usize,
     m: usize,
@@ -70,6 +86,7 @@ pub fn search(
         room,
         constants,
     };
+    let first = layers::first_point();
     let stand = layers::layers(
         given,
         marks,
@@ -77,31 +94,12 @@ pub fn search(
         words,
         unary,
         binary,
+        first,
         codes,
         lefts,
         rights,
         sizes,
         matrices,
     );
-    match stand {
-        Stand::Going { tried, kept } => SearchAnswer::None { tried, kept },
-        Stand::Found {
-            code,
-            left,
-            right,
-            size,
-            tried,
-            kept,
-        } => SearchAnswer::Found {
-            root: Node {
-                code,
-                left: Place(left),
-                right: Place(right),
-                size,
-            },
-            tried,
-            kept,
-        },
-        Stand::Full { size, tried, kept } => SearchAnswer::Full { size, tried, kept },
-    }
+    answer_of(stand)
 }

@@ -1,7 +1,8 @@
 // A candidate's matrix, its acceptance against the marks, and its comparison with what is kept (cm.rs).
-// The rows of a candidate are computed once, into an array of the function that asks for them: a table that is full has no place for them,
-// and what is not kept must not be written.
+// The rows of a candidate are written into an array of the function that asks for them: a table that is full has no place for them, and what is
+// not kept must not be written.
 use crate::given::Given;
+use formula::kinds::Place;
 use sequence::CharSeq;
 use sequence::operators;
 ghost use mathlib.Core.Path.{_≡_};
@@ -12,13 +13,22 @@ ghost use lib.Dec.{eqb};
 ghost use Rattle.search.specs.Costs.{mostLeaves};
 ghost use Rattle.sequence.specs.Limits.{sessions};
 ghost use Rattle.walk.specs.Rows.{acceptsRow};
-ghost use Rattle.search.specs.Matrix.{UnaryAt, BinaryAt, LeafAt, UnaryRows, BinaryRows, LeafRows, RowsAsk, RowsOf, agreesAt, SameAt, Known};
+ghost use Rattle.search.specs.Matrix.{UnaryAt, BinaryAt, LeafAt, UnaryRows, BinaryRows, LeafRows, RowsAsk, RowsOf, PutAsks, PutDoes, agreesAt, SameAt, Known};
 ghost use Rattle.walk.specs.Walk.{count};
 ghost use Rattle.walk.specs.Input.{every};
 ghost use lib.Seq.{paste};
 
-// One word per session, 0 from the last session on.
+// One word per session; those after the last session are not looked at.
 pub type Matrix = [u64; session::SESSIONS];
+
+// Document 01, operator codes: the first binary one (the unary ones come before it), and the leaves.
+const BINARY: u8 = 5;
+
+pub(crate) const PROPOSITION: u8 = 16;
+
+pub(crate) const FALSE: u8 = 17;
+
+pub(crate) const TRUE: u8 = 18;
 
 fn unary_at(code: u8, x: u64, length: u8) -> u64
     ensures { λ w. ⌜ UnaryAt code x length w ⌝ }
@@ -35,26 +45,24 @@ fn binary_at(code: u8, x: u64, y: u64, length: u8) -> u64
 fn leaf_at(code: u8, x: u64, length: u8) -> u64
     ensures { λ w. ⌜ LeafAt code x length w ⌝ }
 {
-    if code == 16 {
+    if code == PROPOSITION {
         return x;
     }
-    if code == 17 {
+    if code == FALSE {
         return 0;
     }
     CharSeq::mask(length as usize)
 }
 
-fn unary_rows(r: usize, lengths: &[u8], matrices: &[u64], code: u8, from: usize) -> Matrix
-    requires { ⌜ (r ≤ sessions) × (r ≤ length (now lengths)) × (from + r ≤ length (now matrices)) ⌝ }
-    ensures { λ rows. ⌜ UnaryRows r (now (lengths .entry)) (now (matrices .entry)) code from rows ⌝ }
+fn unary_rows(r: usize, lengths: &[u8], matrices: &[u64], code: u8, from: usize, rows: &mut Matrix)
+    requires { ⌜ (r ≤ sessions) × (r ≤ length (now lengths)) × (from + r ≤ length (now matrices)) × (r ≤ length (now rows)) ⌝ }
+    ensures { λ u. ⌜ UnaryRows r (now (lengths .entry)) (now (matrices .entry)) code from (now (rows .exit)) ⌝ }
 {
-    let mut rows = [0u64; session::SESSIONS];
     let mut j: usize = 0;
     while j < r {
         rows[j] = unary_at(code, matrices[from + j], lengths[j]);
         j += 1;
     }
-    rows
 }
 
 fn binary_rows(
@@ -64,24 +72,30 @@ fn binary_rows(
     code: u8,
     left: usize,
     right: usize,
-) -> Matrix
-    requires { ⌜ (r ≤ sessions) × (r ≤ length (now lengths)) × (left + r ≤ length (now matrices)) × (right + r ≤ length (now matrices)) ⌝ }
-    ensures { λ rows. ⌜ BinaryRows r (now (lengths .entry)) (now (matrices .entry)) code left right rows ⌝ }
+    rows: &mut Matrix,
+)
+    requires { ⌜ (r ≤ sessions) × (r ≤ length (now lengths)) × (left + r ≤ length (now matrices)) × (right + r ≤ length (now matrices)) × (r ≤ length (now rows)) ⌝ }
+    ensures { λ u. ⌜ BinaryRows r (now (lengths .entry)) (now (matrices .entry)) code left right (now (rows .exit)) ⌝ }
 {
-    let mut rows = [0u64; session::SESSIONS];
     let mut j: usize = 0;
     while j < r {
         rows[j] = binary_at(code, matrices[left + j], matrices[right + j], lengths[j]);
         j += 1;
     }
-    rows
 }
 
-fn leaf_rows(r: usize, m: usize, lengths: &[u8], words: &[u64], code: u8, number: usize) -> Matrix
-    requires { ⌜ (r ≤ sessions) × (m ≤ mostLeaves) × (r ≤ length (now lengths)) × (number < m) × (m * r ≤ length (now words)) ⌝ }
-    ensures { λ rows. ⌜ LeafRows r m (now (lengths .entry)) (now (words .entry)) code number rows ⌝ }
+fn leaf_rows(
+    r: usize,
+    m: usize,
+    lengths: &[u8],
+    words: &[u64],
+    code: u8,
+    number: usize,
+    rows: &mut Matrix,
+)
+    requires { ⌜ (r ≤ sessions) × (m ≤ mostLeaves) × (r ≤ length (now lengths)) × (number < m) × (m * r ≤ length (now words)) × (r ≤ length (now rows)) ⌝ }
+    ensures { λ u. ⌜ LeafRows r m (now (lengths .entry)) (now (words .entry)) code number (now (rows .exit)) ⌝ }
 {
-    let mut rows = [0u64; session::SESSIONS];
     let mut j: usize = 0;
     let mut at = number;
     while j < r {
@@ -89,7 +103,6 @@ fn leaf_rows(r: usize, m: usize, lengths: &[u8], words: &[u64], code: u8, number
         at += m;
         j += 1;
     }
-    rows
 }
 
 // The matrix of the candidate with that code, left and right field.
@@ -99,20 +112,23 @@ pub(crate) fn rows_of(
     words: &[u64],
     matrices: &[u64],
     code: u8,
-    left: usize,
-    right: usize,
-) -> Matrix
-    requires { ⌜ RowsAsk given (now lengths) (now words) (now matrices) code left right ⌝ }
-    ensures { λ rows. ⌜ RowsOf given (now (lengths .entry)) (now (words .entry)) (now (matrices .entry)) code left right rows ⌝ }
+    left: Place,
+    right: Place,
+    rows: &mut Matrix,
+)
+    requires { ⌜ RowsAsk given (now lengths) (now words) (now matrices) code (left .0) (right .0) × (given .sessions ≤ length (now rows)) ⌝ }
+    ensures { λ u. ⌜ RowsOf given (now (lengths .entry)) (now (words .entry)) (now (matrices .entry)) code (left .0) (right .0) (now (rows .exit)) ⌝ }
 {
     let r = given.sessions;
-    if code < 5 {
-        return unary_rows(r, lengths, matrices, code, left * r);
+    let l = left.0 as usize;
+    let q = right.0 as usize;
+    if code < BINARY {
+        unary_rows(r, lengths, matrices, code, l * r, rows);
+    } else if code < PROPOSITION {
+        binary_rows(r, lengths, matrices, code, l * r, q * r, rows);
+    } else {
+        leaf_rows(r, given.propositions, lengths, words, code, l, rows);
     }
-    if code < 16 {
-        return binary_rows(r, lengths, matrices, code, left * r, right * r);
-    }
-    leaf_rows(r, given.propositions, lengths, words, code, left)
 }
 
 fn agrees_at(x: u64, length: u8, mark: u8) -> bool
@@ -125,7 +141,7 @@ fn agrees_at(x: u64, length: u8, mark: u8) -> bool
     if accepts { mark == 1 } else { mark != 1 }
 }
 
-// Whether exactly the sessions marked 1 accept.
+// Whether exactly the sessions marked 1 accept (is_equivalent in cm.rs).
 pub(crate) fn agrees(r: usize, marks: &[u8], lengths: &[u8], rows: &Matrix) -> bool
     requires { ⌜ (r ≤ sessions) × (r ≤ length (now marks)) × (r ≤ length (now lengths)) ⌝ }
     ensures { λ b. ⌜ b ≡ every (count 0 r) (agreesAt (now (marks .entry)) (now (lengths .entry)) (now (rows .entry))) ⌝ }
@@ -141,7 +157,7 @@ pub(crate) fn agrees(r: usize, marks: &[u8], lengths: &[u8], rows: &Matrix) -> b
     true
 }
 
-// Whether the matrix that starts at `from` is the same in every row.
+// Whether the matrix that starts at `from` is the same in every row (what the hash of cm.rs stands for).
 fn same_at(r: usize, matrices: &[u64], rows: &Matrix, from: usize) -> bool
     requires { ⌜ (r ≤ sessions) × (from + r ≤ length (now matrices)) ⌝ }
     ensures { λ b. ⌜ SameAt r (now (rows .entry)) (now (matrices .entry)) from b ⌝ }
@@ -174,7 +190,7 @@ pub(crate) fn known(r: usize, matrices: &[u64], kept: usize, rows: &Matrix) -> b
 }
 
 // Writes the rows from `from` on.
-pub(crate) fn store(r: usize, matrices: &mut [u64], rows: &Matrix, from: usize)
+fn store(r: usize, matrices: &mut [u64], rows: &Matrix, from: usize)
     requires { ⌜ (r ≤ length (now rows)) × (r ≤ sessions) × (from + r ≤ length (now matrices)) ⌝ }
     ensures { λ u. ⌜ now (matrices .exit) ≡ paste (now (matrices .entry)) from (now (rows .entry)) r ⌝ }
 {
@@ -183,4 +199,33 @@ pub(crate) fn store(r: usize, matrices: &mut [u64], rows: &Matrix, from: usize)
         matrices[from + j] = rows[j];
         j += 1;
     }
+}
+
+// Writes the matrix of a candidate at a place.
+pub(crate) fn put_rows(
+    given: Given,
+    lengths: &[u8],
+    words: &[u64],
+    matrices: &mut [u64],
+    place: usize,
+    code: u8,
+    left: Place,
+    right: Place,
+)
+    requires { ⌜ PutAsks given (now lengths) (now words) (now matrices) place code (left .0) (right .0) ⌝ }
+    ensures { λ u. ⌜ PutDoes given (now (lengths .entry)) (now (words .entry)) (now (matrices .entry)) place code (left .0) (right .0) (now (matrices .exit)) ⌝ }
+{
+    let r = given.sessions;
+    let mut rows = [0u64; session::SESSIONS];
+    rows_of(
+        given,
+        lengths,
+        words,
+        matrices,
+        code,
+        left,
+        right,
+        &mut rows,
+    );
+    store(r, matrices, &rows, place * r);
 }

@@ -111,7 +111,7 @@ fn has_room(
     true
 }
 
-// 0 where no row is given, or the number of the first that is.
+// The rows in document 01's order, 1, 2, 3, 3, the data's 4, 5 and 6, 7: the number of the first that is given, or 0 where none is.
 pub(crate) fn refusal(
     r: usize,
     m: usize,
@@ -137,22 +137,23 @@ pub(crate) fn refusal(
     if data == 1 {
         return 1;
     }
-    if settings_good(bound, room, constants) {
-        if data == 3 {
-            return 3;
-        }
-        if has_room(r, room, codes, lefts, rights, sizes, matrices) {
-            if data != 0 {
-                return data;
-            }
-            if codes_good(unary, true) {
-                if codes_good(binary, false) {
-                    return 0;
-                }
-            }
-            return 7;
-        }
+    if !settings_good(bound, room, constants) {
+        return 2;
+    }
+    if data == 3 {
         return 3;
     }
-    2
+    if !has_room(r, room, codes, lefts, rights, sizes, matrices) {
+        return 3;
+    }
+    if data != 0 {
+        return data;
+    }
+    if !codes_good(unary, true) {
+        return 7;
+    }
+    if !codes_good(binary, false) {
+        return 7;
+    }
+    0
 }

@@ -1,9 +1,14 @@
 // The candidates of a size, from any of them on, up to the first that decides or is to be kept. Each loop of aux.rs and cache.rs is a function
 // that starts where it is told, so what was cut anywhere goes on from there. Nothing is written here.
 use crate::given::Given;
+use crate::matrix::FALSE;
+use crate::matrix::PROPOSITION;
+use crate::matrix::TRUE;
 use crate::matrix::agrees;
 use crate::matrix::known;
 use crate::matrix::rows_of;
+use formula::kinds::Place;
+use formula::kinds::Proposition;
 use sequence::operators::operator_of;
 ghost use mathlib.Core.Path.{_≡_};
 ghost use Prim.Native.Nat.{_≤_};
@@ -21,25 +26,25 @@ pub struct Cursor {
 }
 
 // What the candidates from a cursor on came to: all dropped; one that separates; or one to be kept, with the cursor after it. `tried` counts all
-// that were tried, but not yet the one to be kept.
+// that were tried, that one too.
 pub enum Event {
     Through(u64),
     Found {
         tried: u64,
         code: u8,
-        left: usize,
-        right: usize,
+        left: Place,
+        right: Place,
     },
     New {
         tried: u64,
         code: u8,
-        left: usize,
-        right: usize,
+        left: Place,
+        right: Place,
         next: Cursor,
     },
 }
 
-// One candidate.
+// One candidate: found, dropped, or to be kept (the body of enum_aux's loops in aux.rs).
 fn one(
     given: Given,
     marks: &[u8],
@@ -48,16 +53,26 @@ fn one(
     matrices: &[u64],
     kept: usize,
     code: u8,
-    left: usize,
-    right: usize,
+    left: Place,
+    right: Place,
     next: Cursor,
     tried: u64,
 ) -> Event
-    requires { ⌜ OneAsks given (now marks) (now lengths) (now words) (now matrices) kept code left right tried ⌝ }
-    ensures { λ event. ⌜ OneDoes given (now (marks .entry)) (now (lengths .entry)) (now (words .entry)) (now (matrices .entry)) kept code left right next tried event ⌝ }
+    requires { ⌜ OneAsks given (now marks) (now lengths) (now words) (now matrices) kept code (left .0) (right .0) tried ⌝ }
+    ensures { λ event. ⌜ OneDoes given (now (marks .entry)) (now (lengths .entry)) (now (words .entry)) (now (matrices .entry)) kept code (left .0) (right .0) next tried event ⌝ }
 {
     let r = given.sessions;
-    let rows = rows_of(given, lengths, words, matrices, code, left, right);
+    let mut rows = [0u64; session::SESSIONS];
+    rows_of(
+        given,
+        lengths,
+        words,
+        matrices,
+        code,
+        left,
+        right,
+        &mut rows,
+    );
     if agrees(r, marks, lengths, &rows) {
         return Event::Found {
             tried: tried + 1,
@@ -70,7 +85,7 @@ fn one(
         return Event::Through(tried + 1);
     }
     Event::New {
-        tried,
+        tried: tried + 1,
         code,
         left,
         right,
@@ -95,6 +110,8 @@ fn both(
 {
     let l = at.left;
     let q = at.right;
+    let left = Place(l as u16);
+    let right = Place(q as u16);
     let commutes = operator_of(code).commutes;
     let halfway = Cursor {
         split: at.split,
@@ -119,8 +136,8 @@ fn both(
             matrices,
             kept,
             code,
-            l,
-            q,
+            left,
+            right,
             halfway,
             tried,
         );
@@ -138,8 +155,8 @@ fn both(
             matrices,
             kept,
             code,
-            q,
-            l,
+            right,
+            left,
             after,
             n,
         );
@@ -155,14 +172,14 @@ fn both(
         matrices,
         kept,
         code,
-        q,
-        l,
+        right,
+        left,
         after,
         tried,
     )
 }
 
-// The binary operators over a pair.
+// The binary operators over a pair (aux_search_binary in aux.rs).
 fn row(
     given: Given,
     marks: &[u8],
@@ -209,7 +226,7 @@ fn row(
     Event::Through(n)
 }
 
-// The right places up to `to`, under one left place.
+// The right places below `to`, under one left place.
 fn column(
     given: Given,
     marks: &[u8],
@@ -259,7 +276,7 @@ fn column(
     Event::Through(n)
 }
 
-// The left places up to `end`, each with the right places from `from` up to `to`.
+// The left places below `end`, each with the right places from `from` to below `to`.
 fn pairs(
     given: Given,
     marks: &[u8],
@@ -373,7 +390,7 @@ fn splits(
     Event::Through(n)
 }
 
-// The unary operators over a place.
+// The unary operators over a place (aux_search_unary in aux.rs).
 fn unary_row(
     given: Given,
     marks: &[u8],
@@ -407,8 +424,8 @@ fn unary_row(
             matrices,
             kept,
             unary[o],
-            place,
-            0,
+            Place(place as u16),
+            Place(0),
             next,
             n,
         );
@@ -421,7 +438,7 @@ fn unary_row(
     Event::Through(n)
 }
 
-// The unary operators over the places up to `to`.
+// The unary operators over the places below `to`.
 fn unary_places(
     given: Given,
     marks: &[u8],
@@ -457,15 +474,20 @@ fn leaf_code(m: usize, p: usize) -> u8
     ensures { λ r. ⌜ r ≡ leafCode m p ⌝ }
 {
     if p < m {
-        return 16;
+        return PROPOSITION;
     }
-    if p == m { 17 } else { 18 }
+    if p == m { FALSE } else { TRUE }
 }
 
-fn leaf_left(m: usize, p: usize) -> usize
-    ensures { λ r. ⌜ r ≡ leafLeft m p ⌝ }
+fn leaf_left(m: usize, p: usize) -> Place
+    requires { ⌜ m ≤ mostLeaves ⌝ }
+    ensures { λ r. ⌜ r .0 ≡ leafLeft m p ⌝ }
 {
-    if p < m { p } else { 0 }
+    if p < m {
+        Proposition(p as u8).to_left()
+    } else {
+        Place(0)
+    }
 }
 
 fn leaf_count(given: Given) -> usize
@@ -514,7 +536,7 @@ fn seeds(
             kept,
             leaf_code(m, p),
             leaf_left(m, p),
-            0,
+            Place(0),
             next,
             n,
         );
@@ -527,7 +549,7 @@ fn seeds(
     Event::Through(n)
 }
 
-// The candidates of size s from a cursor on.
+// The candidates of size s from a cursor on, up to the first that decides or is to be kept (one size of enum_aux in aux.rs).
 pub(crate) fn scan(
     given: Given,
     marks: &[u8],

@@ -1,6 +1,6 @@
 -- `binary_rows` meets its contract: the rows filled so far are the operator's.
 -- Assumes nothing.
-use mathlib.Core.Path.{_≡_, _∙_}
+use mathlib.Core.Path.{_≡_}
 use Prim.Native.Nat.{ℕ, _+_, _-_, _≤_, _<_}
 use native.Mathlib.Omega.{arith}
 use lib.ListN.{length, getD, length-set}
@@ -11,7 +11,7 @@ use Rattle.search.proofs.matrix.binary_rows.Statement.{statement}
 use Rattle.search.proofs.matrix.binary_rows.Tie as tie
 
 abbrev Inv-loop : tie.InvT-loop
-Inv-loop r lengths matrices code left right rows₀ j₀ rows j = (j ≤ r) × (length rows ≡ 32) × ((t : ℕ) → t < j → BinaryAt code (getD matrices (left + t) 0) (getD matrices (right + t) 0) (getD lengths t 0) (getD rows t 0))
+Inv-loop r lengths matrices code left right rows₀ j₀ rows j = (j ≤ r) × (r ≤ length rows) × ((t : ℕ) → t < j → BinaryAt code (getD matrices (left + t) 0) (getD matrices (right + t) 0) (getD lengths t 0) (getD rows t 0))
 
 abbrev μ-loop : tie.MeasureT-loop
 μ-loop r lengths matrices code left right rows₀ j₀ rows j = r - j
@@ -46,8 +46,8 @@ binary-at-requires c κs = search needs
 mul-rows : tie.Need-mul-rows Inv-loop μ-loop
 mul-rows c = search needs
 
-array-write-rows : tie.Need-array-write-rows Inv-loop μ-loop
-array-write-rows c = search needs
+element-write-rows : tie.Need-element-write-rows Inv-loop μ-loop
+element-write-rows c = search needs
 
 add-j : tie.Need-add-j Inv-loop μ-loop
 add-j c = search needs
@@ -60,7 +60,7 @@ loop-again c =
     let v = c .before .before .before .before .before .loop in
     let a = c .before .before .before .before .before .before .before .before .args in (
       omega arith,
-      length-set (v .rows) (v .j) _ ∙ v .inv .1,
+      simp length-set (v .inv .1),
       filled-more (λ t w. BinaryAt (a .code) (getD (a .matrices .now) (a .left + t) 0) (getD (a .matrices .now) (a .right + t) 0) (getD (a .lengths .now) t 0) w) (v .rows) (v .j) _ (omega (arith, v .inv .1)) (v .inv .2) (c .binary-at .ensures),
     )
 
@@ -83,7 +83,7 @@ binary-rows-spec =
     shared-slice-read-binary-at-3
     binary-at-requires
     mul-rows
-    array-write-rows
+    element-write-rows
     add-j
     loop-less
     loop-again

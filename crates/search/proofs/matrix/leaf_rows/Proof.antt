@@ -1,6 +1,6 @@
 -- `leaf_rows` meets its contract: the rows filled so far are the leaf's, and the running index is that of the next session's word.
 -- Assumes nothing.
-use mathlib.Core.Path.{_≡_, _∙_}
+use mathlib.Core.Path.{_≡_}
 use Prim.Native.Nat.{ℕ, _+_, _-_, _*_, _≤_, _<_}
 use native.Mathlib.Omega.{arith}
 use lib.ListN.{length, getD, length-set}
@@ -12,7 +12,7 @@ use Rattle.search.proofs.matrix.leaf_rows.Statement.{statement}
 use Rattle.search.proofs.matrix.leaf_rows.Tie as tie
 
 abbrev Inv-loop : tie.InvT-loop
-Inv-loop r m lengths words code number rows₀ j₀ at₀ rows j at = (j ≤ r) × (length rows ≡ 32) × (at ≡ j * m + number) × ((t : ℕ) → t < j → LeafAt code (getD words (t * m + number) 0) (getD lengths t 0) (getD rows t 0))
+Inv-loop r m lengths words code number rows₀ j₀ at₀ rows j at = (j ≤ r) × (r ≤ length rows) × (at ≡ j * m + number) × ((t : ℕ) → t < j → LeafAt code (getD words (t * m + number) 0) (getD lengths t 0) (getD rows t 0))
 
 abbrev μ-loop : tie.MeasureT-loop
 μ-loop r m lengths words code number rows₀ j₀ at₀ rows j at = r - j
@@ -35,8 +35,8 @@ leaf-at-requires c κs = search needs
 mul-rows : tie.Need-mul-rows Inv-loop μ-loop
 mul-rows c = search needs
 
-array-write-rows : tie.Need-array-write-rows Inv-loop μ-loop
-array-write-rows c = search needs
+element-write-rows : tie.Need-element-write-rows Inv-loop μ-loop
+element-write-rows c = search needs
 
 add-at : tie.Need-add-at Inv-loop μ-loop
 add-at c = let a = c .before .before .before .before .before .before .before .args in omega (arith, word-in (c .before .before .before .before .loop .j) (a .r) (a .m) (a .number) (omega arith) (omega arith))
@@ -53,7 +53,7 @@ loop-again c =
     let a = c .before .before .before .before .before .before .before .args in
     let e = v .inv .2 in (
       omega arith,
-      length-set (v .rows) (v .j) _ ∙ v .inv .1,
+      simp length-set (v .inv .1),
       omega (arith, next-row (v .j) (a .m)),
       filled-more (λ t w. LeafAt (a .code) (getD (a .words .now) (t * a .m + a .number) 0) (getD (a .lengths .now) t 0) w) (v .rows) (v .j) _ (omega (arith, v .inv .1)) (v .inv .3)
           (rw e at (c .leaf-at .ensures)),
@@ -74,7 +74,7 @@ leaf-rows-spec =
     shared-slice-read-leaf-at-2
     leaf-at-requires
     mul-rows
-    array-write-rows
+    element-write-rows
     add-at
     add-j
     loop-less

@@ -9,11 +9,17 @@ use Rattle.search.proofs.Both.{listed-commutes, first-asks, second-asks
 use Rattle.search.proofs.scan.both.Statement.{statement}
 use Rattle.search.proofs.scan.both.Tie as tie
 
+cast-t19 : tie.Need-cast-t19
+cast-t19 c = search needs
+
+cast-t19-2 : tie.Need-cast-t19-2
+cast-t19-2 c = search needs
+
 operator-of-requires : tie.Need-operator-of-requires
 operator-of-requires c κs = search needs
 
-add-t18 : tie.Need-add-t18
-add-t18 c = search needs
+add-t21 : tie.Need-add-t21
+add-t21 c = search needs
 
 one-requires : tie.Need-one-requires
 one-requires c κs = first-asks (c .before .before .before .before .before .before .before .before .pre) _ (omega arith)
@@ -49,8 +55,10 @@ pub both-spec : {M : Type 1} → statement M
 both-spec =
     tie.close
     (tie.spec
+    cast-t19
+    cast-t19-2
     operator-of-requires
-    add-t18
+    add-t21
     one-requires
     returns
     enum-known-event

@@ -12,23 +12,26 @@ rows-of-requires c κs = search needs
 agrees-requires : tie.Need-agrees-requires
 agrees-requires c κs = search needs
 
-add-t17 : tie.Need-add-t17
-add-t17 c = search needs
+add-t18 : tie.Need-add-t18
+add-t18 c = search needs
 
 returns : tie.Need-returns
-returns c = one-found (c .before .before .before .before .before .before .before .before .pre) (c .before .before .before .rows-of .ensures) (sym (c .if1 .taken) ∙ c .before .agrees .ensures)
+returns c = one-found (c .before .before .before .before .before .before .before .before .before .pre) (c .before .before .before .rows-of .ensures) (sym (c .if1 .taken) ∙ c .before .agrees .ensures)
 
 known-requires : tie.Need-known-requires
 known-requires c κs = search needs
 
-add-t20 : tie.Need-add-t20
-add-t20 c = search needs
+add-t21 : tie.Need-add-t21
+add-t21 c = search needs
 
 returns-2 : tie.Need-returns-2
-returns-2 c = one-known (c .before .before .before .before .before .before .before .before .before .before .before .pre) (c .before .before .before .before .before .before .rows-of .ensures) (sym (c .before .before .before .if1 .left) ∙ c .before .before .before .before .agrees .ensures) (rw (c .if2 .taken) at (c .before .known .ensures))
+returns-2 c = one-known (c .before .before .before .before .before .before .before .before .before .before .before .before .pre) (c .before .before .before .before .before .before .rows-of .ensures) (sym (c .before .before .before .if1 .left) ∙ c .before .before .before .before .agrees .ensures) (rw (c .if2 .taken) at (c .before .known .ensures))
+
+add-t22 : tie.Need-add-t22
+add-t22 c = search needs
 
 returns-3 : tie.Need-returns-3
-returns-3 c = one-new (c .before .before .before .before .before .before .before .before .before .before .before .pre) (c .before .before .before .before .before .before .rows-of .ensures) (sym (c .before .before .before .if1 .left) ∙ c .before .before .before .before .agrees .ensures) (rw (c .if2 .left) at (c .before .known .ensures))
+returns-3 c = one-new (c .before .before .before .before .before .before .before .before .before .before .before .before .pre) (c .before .before .before .before .before .before .rows-of .ensures) (sym (c .before .before .before .if1 .left) ∙ c .before .before .before .before .agrees .ensures) (rw (c .if2 .left) at (c .before .known .ensures))
 
 pub one-spec : {M : Type 1} → statement M
 one-spec =
@@ -36,9 +39,10 @@ one-spec =
     (tie.spec
     rows-of-requires
     agrees-requires
-    add-t17
+    add-t18
     returns
     known-requires
-    add-t20
+    add-t21
     returns-2
+    add-t22
     returns-3)

@@ -20,14 +20,14 @@ leaf-count-requires c κs = c .before .before .before .before .pre .asks .readab
 loop-holds : tie.Need-loop-holds Inv-loop μ-loop
 loop-holds c = seeds-start (c .before .before .before .before .before .pre)
 
-add-one : tie.Need-add-one Inv-loop μ-loop
-add-one c = omega (arith, c .before .loop .inv .within, count-most (c .before .before .before .before .before .before .before .args .given), c .before .before .leaf-count .ensures, c .before .before .before .before .before .before .before .pre .asks .readable .propositions-in)
+add-t17 : tie.Need-add-t17 Inv-loop μ-loop
+add-t17 c = omega (arith, c .before .loop .inv .within, count-most (c .before .before .before .before .before .before .before .args .given), c .before .before .leaf-count .ensures, c .before .before .before .before .before .before .before .pre .asks .readable .propositions-in)
 
 leaf-code-requires : tie.Need-leaf-code-requires Inv-loop μ-loop
 leaf-code-requires c κs = search needs
 
 leaf-left-requires : tie.Need-leaf-left-requires Inv-loop μ-loop
-leaf-left-requires c κs = search needs
+leaf-left-requires c κs = c .before .before .before .before .before .before .before .before .pre .asks .readable .propositions-in
 
 one-requires : tie.Need-one-requires Inv-loop μ-loop
 one-requires c κs = rw (c .before .leaf-code .ensures, c .leaf-left .ensures) (seeds-one (c .before .before .before .loop .inv) (c .before .before .before .before .before .before .before .before .before .pre) (rw (c .before .before .before .before .leaf-count .ensures) at (c .before .before .loop-test .taken)))
@@ -58,7 +58,7 @@ seeds-spec =
     μ-loop
     leaf-count-requires
     loop-holds
-    add-one
+    add-t17
     leaf-code-requires
     leaf-left-requires
     one-requires

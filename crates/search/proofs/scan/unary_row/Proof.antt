@@ -23,6 +23,9 @@ add-t16 c = search needs
 shared-slice-read-one : tie.Need-shared-slice-read-one Inv-loop μ-loop
 shared-slice-read-one c = search needs
 
+cast-t20 : tie.Need-cast-t20 Inv-loop μ-loop
+cast-t20 c = search needs
+
 one-requires : tie.Need-one-requires Inv-loop μ-loop
 one-requires c κs = unary-row-one (c .before .before .loop .inv) (c .before .before .before .before .before .before .before .before .pre) (c .before .loop-test .taken)
 
@@ -53,6 +56,7 @@ unary-row-spec =
     loop-holds
     add-t16
     shared-slice-read-one
+    cast-t20
     one-requires
     enum-known-event
     returns
