@@ -14,6 +14,7 @@ mod program;
 mod query;
 mod refusals;
 mod sample;
+mod search;
 mod settled;
 mod words;
 
@@ -21,6 +22,8 @@ const USAGE: &str = "differential: one of
   compare [RANDOM_WORDS]   the Rust's answers against our program's (default: 1000 random words a length)
   compare --short          the same with fewer edge pairs and 10 random words a length
   formulas [ROUNDS]        random formulas of each size 1 to 31: check and print against the Rust's eval and Display (default: 20 rounds)
+  searches [COUNT]         whole searches: every small one and random ones, against the Rust's own search (default: 200000 random ones)
+  searches --short         the same with fewer of both
   sample                   writes the stored answers anew: crates/replay/stdin and stdout, crates/settled/stdout
   findings                 what the Rust does outside document 01's domain";
 
@@ -39,6 +42,13 @@ fn main() {
             Ok(count) => formulas::run(count),
             Err(_) => usage(),
         },
+        ["searches"] => search::run(search::Extent::full(200_000)),
+        ["searches", "--short"] => search::run(search::Extent::short()),
+        ["searches", count] => match count.parse() {
+            Ok(count) => search::run(search::Extent::full(count)),
+            Err(_) => usage(),
+        },
+        ["speed"] => search::speed(),
         ["sample"] => sample::run(),
         ["findings"] => findings::run(),
         _ => usage(),

@@ -1,0 +1,14 @@
+//! Whole searches: the Rust's `enum_aux` over its own cache, document 01's walk by its prose, and our compiled library, on the same inputs.
+mod compare;
+mod counted;
+mod drawn;
+mod every;
+mod input;
+mod library;
+mod prose;
+mod refused;
+mod speed;
+mod tally;
+
+pub use compare::{run, Extent};
+pub use speed::run as speed;
