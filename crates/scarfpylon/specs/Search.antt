@@ -1,0 +1,53 @@
+-- scarfpylon_search: what it returns and leaves in the lent slices and in `out`, for every input.
+-- Assumes nothing.
+use mathlib.Core.Path.{_≡_}
+use mathlib.Core.List.{List, [], _∷_}
+use Prim.Native.Nat.{ℕ}
+use Rattle.sequence.specs.Refusals.{Row, Decided}
+use Rattle.session.specs.Data.{outsideNumbers, tooShort, tooLong, bitAbove, markWrong}
+use Rattle.walk.specs.Input.{Input}
+use Rattle.formula.specs.declared.kinds.Node.{Node}
+use Rattle.formula.specs.Kinds.{nodeOf}
+use Rattle.search.specs.declared.SearchAnswer.{SearchAnswer}
+use Rattle.search.specs.declared.SearchAnswer.the-variants.{Found, None, Full, Refused}
+use Rattle.search.specs.Table.{Cols}
+use Rattle.search.specs.Refusals.{settingWrong, noRoom, codeWrong}
+use Rattle.search.specs.Search.{Searched}
+use Rattle.scarfpylon.specs.Out.{outShort, Named, word, written}
+
+-- "out = case (1 found, 2 none, 3 full), size (found, full), tried, kept, and at found the root's code, left, right, size"
+abbrev pub searchWords : SearchAnswer → List Named
+searchWords (Found root tried kept) =
+    word 0 1
+    ∷ word 1 (root .size)
+    ∷ word 2 tried
+    ∷ word 3 kept
+    ∷ word 4 (root .code)
+    ∷ word 5 (root .left .0)
+    ∷ word 6 (root .right .0)
+    ∷ word 7 (root .size)
+    ∷ []
+searchWords (None tried kept) = word 0 2 ∷ word 2 tried ∷ word 3 kept ∷ []
+searchWords (Full size tried kept) = word 0 3 ∷ word 1 size ∷ word 2 tried ∷ word 3 kept ∷ []
+searchWords (Refused k) = []
+
+module _ (i : Input) (t : Cols) (old : List ℕ) where
+  -- the search's rows, with that of `out` "at the place that 3 has"; which of the rows with one number is given first can't be seen
+  abbrev pub searchRows : List Row
+  searchRows =
+      outsideNumbers (i .sessions) (i .propositions)
+      ∷ settingWrong i
+      ∷ outShort old
+      ∷ tooShort (i .sessions) (i .propositions) (i .marks) (i .lengths) (i .words)
+      ∷ noRoom i t
+      ∷ tooLong (i .sessions) (i .propositions) (i .marks) (i .lengths) (i .words)
+      ∷ bitAbove (i .sessions) (i .propositions) (i .marks) (i .lengths) (i .words)
+      ∷ markWrong (i .sessions) (i .propositions) (i .marks) (i .lengths) (i .words)
+      ∷ codeWrong i
+      ∷ []
+
+  -- "Every function returns a u64: 0 where it answered, else the refusal number ..; a refusal writes nothing"; an answer is the search's
+  pub record SearchDone (returned : ℕ) (t′ : Cols) (new : List ℕ) : Type 0 where
+    pub number : Decided searchRows returned
+    pub refused : (returned ≡ 0 → ⊥) → (t′ ≡ t) × (new ≡ old)
+    pub passed : returned ≡ 0 → (answer : SearchAnswer) × Searched i t answer t′ × (new ≡ written (searchWords answer) old)
