@@ -4,7 +4,7 @@ use std::rc::Rc;
 use super::counted::{leaves, traces};
 use super::input::Input;
 use crate::formula::tree::FormulaTree;
-use crate::ltl::Constant;
+use crate::ltl::{cm::CharMatrix, trace::Trace, Constant};
 use crate::oracle;
 use crate::words::Random;
 
@@ -164,29 +164,34 @@ fn sessions(random: &mut Random, input: &mut Input, kind: &Kind) {
 }
 
 /// Random marks, or those that a planted formula of the operators at hand gives, sometimes with one of them wrong.
-fn marks(random: &mut Random, input: &mut Input) {
+fn mark(random: &mut Random, input: &Input, traces: &[Trace]) -> Vec<u8> {
     let how = random.below(10);
-    if how < 2 {
-        input.marks = (0..input.r).map(|_| random.below(2) as u8).collect();
-        return;
+    if how < 3 {
+        return (0..input.r).map(|_| random.below(2) as u8).collect();
     }
-    // Marks that are all the same are mostly found at once, so some are thrown back.
-    for _ in 0..4 {
-        let size = match random.below(3) {
-            0 => 1 + random.below(4),
-            1 => 3 + random.below(7),
-            _ => 1 + random.below(input.bound as u64),
-        };
-        let planted = formula(random, input, size);
-        let accepted = planted.eval(&traces(input)).accepted_vec();
-        input.marks = accepted.into_iter().map(|b| b as u8).collect();
-        if input.marks.contains(&0) && input.marks.contains(&1) {
-            break;
+    let size = match random.below(3) {
+        0 => 1 + random.below(4),
+        1 => 3 + random.below(7),
+        _ => 1 + random.below(input.bound as u64),
+    };
+    let accepted = formula(random, input, size).eval(traces).accepted_vec();
+    let mut marks: Vec<u8> = accepted.into_iter().map(|b| b as u8).collect();
+    if how == 3 {
+        marks[random.below(input.r as u64) as usize] ^= 1;
+    }
+    marks
+}
+
+/// Marks that a leaf gives are found at once, so most of them are thrown back.
+fn marks(random: &mut Random, input: &mut Input) {
+    let traces = traces(input);
+    let at_once: Vec<CharMatrix> = leaves(input).iter().map(|leaf| leaf.eval(&traces)).collect();
+    for _ in 0..6 {
+        input.marks = mark(random, input, &traces);
+        let target: Vec<bool> = input.marks.iter().map(|mark| *mark == 1).collect();
+        if !at_once.iter().any(|leaf| leaf.is_equivalent(&target)) {
+            return;
         }
-    }
-    if how == 2 {
-        let at = random.below(input.r as u64) as usize;
-        input.marks[at] ^= 1;
     }
 }
 

@@ -97,17 +97,17 @@ fn code_outside(random: &mut Random, least: u8, most: u8) -> u8 {
     }
 }
 
-/// Breaks one thing. What is broken is judged by `number` afterwards, since an earlier fault may have taken its place away.
-fn break_one(random: &mut Random, input: &mut Input, lens: &mut Lens, first: usize) {
+/// Breaks one thing of an input that had r sessions and m propositions. What is broken is judged by `number` afterwards, since an earlier fault may have taken its place away.
+fn break_one(random: &mut Random, input: &mut Input, lens: &mut Lens, r: usize, m: usize) {
     let session = random.below(input.lengths.len().max(1) as u64) as usize;
-    match random.below(18) {
+    match random.below(20) {
         0 => input.r = outside(random, 32),
         1 => input.m = outside(random, 16),
         2 => input.bound = outside(random, 31),
         3 => input.room = outside(random, 4096),
         4 => input.constants = 2 + random.below(254) as u8,
-        5 => input.marks.truncate(below(random, first)),
-        6 => input.lengths.truncate(below(random, first)),
+        5 => input.marks.truncate(below(random, r)),
+        6 => input.lengths.truncate(below(random, r)),
         7 => {
             let asked = input.words.len();
             input.words.truncate(below(random, asked));
@@ -132,12 +132,12 @@ fn break_one(random: &mut Random, input: &mut Input, lens: &mut Lens, first: usi
         }
         13 | 14 => {
             let at = random.below(input.words.len().max(1) as u64) as usize;
-            let length = input.lengths.get(at / first.max(1)).copied().unwrap_or(0).min(63);
+            let length = input.lengths.get(at / m).copied().unwrap_or(0).min(63);
             if let Some(word) = input.words.get_mut(at) {
                 *word |= 1 << (length as u64 + random.below(64 - length as u64));
             }
         }
-        15 => {
+        15 | 16 => {
             let at = random.below(input.marks.len().max(1) as u64) as usize;
             if let Some(mark) = input.marks.get_mut(at) {
                 *mark = if random.below(2) == 0 {
@@ -175,9 +175,10 @@ pub fn draw(number: u64) -> (Input, Lens) {
     if random.below(3) == 0 {
         lengthen(random, &mut input, &mut lens);
     }
-    let first = input.r;
-    for _ in 0..1 + random.below(3) {
-        break_one(random, &mut input, &mut lens, first);
+    let (r, m) = (input.r, input.m);
+    let faults = if random.below(2) == 0 { 1 } else { 1 + random.below(3) };
+    for _ in 0..faults {
+        break_one(random, &mut input, &mut lens, r, m);
     }
     (input, lens)
 }
