@@ -6,6 +6,7 @@ include!(concat!(env!("OUT_DIR"), "/the_rust.rs"));
 /// As in the Rust's lib.rs.
 type HashType = u64;
 
+mod boundary;
 mod compare;
 mod findings;
 mod formulas;
@@ -18,12 +19,16 @@ mod search;
 mod settled;
 mod words;
 
+use boundary::Way;
+
 const USAGE: &str = "differential: one of
   compare [RANDOM_WORDS]   the Rust's answers against our program's (default: 1000 random words a length)
   compare --short          the same with fewer edge pairs and 10 random words a length
   formulas [ROUNDS]        random formulas of each size 1 to 31: check and print against the Rust's eval and Display (default: 20 rounds)
   searches [COUNT]         whole searches: every small one and random ones, against the Rust's own search (default: 200000 random ones)
   searches --short         the same with fewer of both
+  searches --archive ..    the same through the archive that ships, in a program of its own (default: 2000 random ones)
+  speed                    how fast our search runs beside the Rust's; only with --profile speed --features published-hash
   sample                   writes the stored answers anew: crates/replay/stdin and stdout, crates/settled/stdout
   findings                 what the Rust does outside document 01's domain";
 
@@ -42,18 +47,27 @@ fn main() {
             Ok(count) => formulas::run(count),
             Err(_) => usage(),
         },
-        ["searches"] => search::run(search::Extent::full(200_000)),
-        ["searches", "--short"] => search::run(search::Extent::short()),
-        ["searches", count] => match count.parse() {
-            Ok(count) => search::run(search::Extent::full(count)),
-            Err(_) => usage(),
-        },
+        ["searches", rest @ ..] => searches(rest),
         ["speed"] => search::speed(),
         ["sample"] => sample::run(),
         ["findings"] => findings::run(),
         _ => usage(),
     };
     std::process::exit(status);
+}
+
+fn searches(words: &[&str]) -> i32 {
+    let (way, most, extent, rest): (Way, u64, fn(u64) -> search::Extent, &[&str]) = match words {
+        ["--archive", rest @ ..] => (Way::Served, 2_000, search::Extent::thin, rest),
+        rest => (Way::Linked, 200_000, search::Extent::full, rest),
+    };
+    let extent = match rest {
+        [] => Some(extent(most)),
+        ["--short"] => Some(search::Extent::short()),
+        [count] => count.parse().ok().map(extent),
+        _ => None,
+    };
+    extent.map_or_else(usage, |extent| search::run(way, extent))
 }
 
 fn usage() -> i32 {

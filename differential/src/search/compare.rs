@@ -3,10 +3,11 @@ use super::counted;
 use super::drawn;
 use super::every;
 use super::input::{Ending, Input, Outcome};
-use super::library::{Lens, Lent, Library};
+use super::lent::{search, Lens, Lent};
 use super::prose;
 use super::refused;
 use super::tally::Tally;
+use crate::boundary::{self, Boundary, Way};
 use crate::words::Random;
 
 /// How much is compared.
@@ -22,6 +23,11 @@ impl Extent {
         Extent { random, stride: 1 }
     }
 
+    /// With fewer of the small inputs, for the slower way to our library.
+    pub fn thin(random: u64) -> Self {
+        Extent { random, stride: 10 }
+    }
+
     pub fn short() -> Self {
         Extent {
             random: 400,
@@ -34,7 +40,7 @@ impl Extent {
 const PROSE: u64 = 30_000;
 
 struct Comparison {
-    library: Library,
+    library: Box<dyn Boundary>,
     tally: Tally,
     random: Random,
     /// Altered answers that the comparison saw to be wrong, and those that it didn't.
@@ -124,7 +130,7 @@ impl Comparison {
         let before = Lent::new(lens, self.random.next());
         let mut lent = before.clone();
         let passed = given.clone();
-        let answer = self.library.search(&passed, &mut lent);
+        let answer = search(&mut *self.library, &passed, &mut lent);
         let mut expected = before.clone();
         expected.write(&outcome);
         let wrong = wrong.or_else(|| judge(answer, 0, &passed, &given, &lent, &expected));
@@ -151,14 +157,14 @@ impl Comparison {
         let before = Lent::new(lens, self.random.next());
         let mut lent = before.clone();
         let passed = given.clone();
-        let answer = self.library.search(&passed, &mut lent);
+        let answer = search(&mut *self.library, &passed, &mut lent);
         let wrong = judge(answer, due, &passed, &given, &lent, &before);
         self.tally.compared(&given, wrong);
     }
 }
 
-pub fn run(extent: Extent) -> i32 {
-    let library = match Library::load() {
+pub fn run(way: Way, extent: Extent) -> i32 {
+    let library = match boundary::open(way) {
         Ok(library) => library,
         Err(error) => {
             println!("searches not compared: {error}");

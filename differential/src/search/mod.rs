@@ -4,7 +4,7 @@ mod counted;
 mod drawn;
 mod every;
 mod input;
-mod library;
+mod lent;
 mod prose;
 mod refused;
 mod speed;

@@ -1,7 +1,7 @@
 //! Refusals of a search. The Rust has none, so the numbers, and which comes first, are the rows of document 01's table.
 use super::drawn;
 use super::input::Input;
-use super::library::Lens;
+use super::lent::Lens;
 use crate::query::Seq;
 use crate::words::Random;
 

@@ -4,13 +4,15 @@ use std::time::{Duration, Instant};
 
 use super::counted::Start;
 use super::input::Input;
-use super::library::{Lens, Lent, Library};
+use super::lent::{search, Lens, Lent};
+use crate::boundary::Linked;
 use crate::words::Random;
 
 /// Rounds; the median is reported.
-const ROUNDS: usize = 11;
+const ROUNDS: usize = 15;
 
-/// A set of inputs of one shape, with a room that is filled: two sessions are the same but for their mark, so nothing is ever found.
+/// A set of inputs of one shape, with three propositions, all operators and a room that is filled: two sessions are the same but for their mark,
+/// so nothing is ever found.
 struct Set {
     name: &'static str,
     inputs: u64,
@@ -19,56 +21,17 @@ struct Set {
     room: usize,
 }
 
-const SETS: [Set; 7] = [
-    Set {
-        name: "small",
-        inputs: 400,
-        r: 8,
-        length: 12,
-        room: 60,
-    },
-    Set {
-        name: "middle",
-        inputs: 60,
-        r: 8,
-        length: 12,
-        room: 500,
-    },
-    Set {
-        name: "large",
-        inputs: 8,
-        r: 8,
-        length: 12,
-        room: 4000,
-    },
-    Set {
-        name: "small, 32 sessions",
-        inputs: 200,
-        r: 32,
-        length: 64,
-        room: 60,
-    },
-    Set {
-        name: "middle, 32 sessions",
-        inputs: 30,
-        r: 32,
-        length: 64,
-        room: 500,
-    },
-    Set {
-        name: "large, 32 sessions",
-        inputs: 4,
-        r: 32,
-        length: 64,
-        room: 4000,
-    },
-    Set {
-        name: "large, 2 sessions",
-        inputs: 8,
-        r: 2,
-        length: 40,
-        room: 4000,
-    },
+#[rustfmt::skip]
+const SETS: [Set; 9] = [
+    Set { name: "2 sessions, room 200", inputs: 100, r: 2, length: 40, room: 200 },
+    Set { name: "2 sessions, room 1,000", inputs: 30, r: 2, length: 40, room: 1000 },
+    Set { name: "2 sessions, room 4,000", inputs: 8, r: 2, length: 40, room: 4000 },
+    Set { name: "8 sessions, room 200", inputs: 100, r: 8, length: 12, room: 200 },
+    Set { name: "8 sessions, room 1,000", inputs: 30, r: 8, length: 12, room: 1000 },
+    Set { name: "8 sessions, room 4,000", inputs: 8, r: 8, length: 12, room: 4000 },
+    Set { name: "32 sessions, room 200", inputs: 100, r: 32, length: 64, room: 200 },
+    Set { name: "32 sessions, room 1,000", inputs: 20, r: 32, length: 64, room: 1000 },
+    Set { name: "32 sessions, room 4,000", inputs: 5, r: 32, length: 64, room: 4000 },
 ];
 
 fn inputs(set: &Set) -> Vec<Input> {
@@ -132,7 +95,7 @@ impl Times {
     }
 }
 
-fn measure(library: &Library, set: &Set) -> bool {
+fn measure(library: &mut Linked, set: &Set) -> bool {
     let inputs = inputs(set);
     let mut lents: Vec<Lent> = inputs.iter().map(|input| Lent::new(Lens::asked(input), 1)).collect();
     let (mut rust, mut ours) = (vec![], vec![]);
@@ -150,7 +113,7 @@ fn measure(library: &Library, set: &Set) -> bool {
         rust.push(time);
         let began = Instant::now();
         for (input, lent) in inputs.iter().zip(&mut lents) {
-            library.search(input, lent);
+            search(library, input, lent);
         }
         ours.push(began.elapsed());
     }
@@ -162,7 +125,7 @@ fn measure(library: &Library, set: &Set) -> bool {
     let kept: u64 = lents.iter().map(|lent| lent.out[3]).sum();
     let (rust, ours) = (Times::new(rust), Times::new(ours));
     println!(
-        "{}: {} searches, on average {} tried and {} kept{}: the Rust {} a candidate, ours {}, ratio {:.2}",
+        "{}: {} searches, on average {} tried and {} kept{}: the Rust {} a candidate, ours {}, ratio {:.2} (of the least times {:.2})",
         set.name,
         inputs.len(),
         tried / set.inputs,
@@ -170,7 +133,8 @@ fn measure(library: &Library, set: &Set) -> bool {
         if alike { "" } else { " (COUNTS DIFFER)" },
         rust.show(tried),
         ours.show(tried),
-        ours.median.as_secs_f64() / rust.median.as_secs_f64()
+        ours.median.as_secs_f64() / rust.median.as_secs_f64(),
+        ours.least.as_secs_f64() / rust.least.as_secs_f64()
     );
     alike
 }
@@ -180,7 +144,7 @@ pub fn run() -> i32 {
         println!("speed: only with --profile speed --features published-hash: exact keys and checks are slow");
         return 2;
     }
-    let library = match Library::load() {
+    let mut library = match Linked::load() {
         Ok(library) => library,
         Err(error) => {
             println!("speed not measured: {error}");
@@ -188,6 +152,6 @@ pub fn run() -> i32 {
         }
     };
     println!("median of {ROUNDS} rounds for a candidate, in brackets the least and the most");
-    let alike = SETS.iter().fold(true, |alike, set| measure(&library, set) && alike);
+    let alike = SETS.iter().fold(true, |alike, set| measure(&mut library, set) && alike);
     (!alike) as i32
 }
