@@ -13,16 +13,16 @@ use crate::words::Random;
 
 /// Operator code, left place, right place, size.
 #[derive(Clone, Copy)]
-struct Node(u8, usize, usize, usize);
+pub struct Node(pub u8, pub usize, pub usize, pub usize);
 
-struct Formula {
-    listed: Vec<Node>,
-    root: Node,
-    tree: FormulaTree,
+pub struct Formula {
+    pub listed: Vec<Node>,
+    pub root: Node,
+    pub tree: FormulaTree,
 }
 
 /// A formula of just that size. Children are listed before their parent; a subtree is sometimes one that is listed already.
-fn formula(random: &mut Random, names: &[String], size: usize) -> Formula {
+pub fn formula(random: &mut Random, names: &[String], size: usize) -> Formula {
     let mut listed: Vec<(Node, Rc<FormulaTree>)> = Vec::new();
     let (root, tree) = grow(random, names, size, &mut listed);
     Formula {
@@ -101,18 +101,29 @@ fn nodes(f: &Formula) -> String {
     fields.join("/")
 }
 
+/// Names of several lengths, all different.
+pub fn names(m: usize) -> Vec<String> {
+    let name = |p: usize| {
+        let first = "pqXF_9aZ".chars().nth(p % 4).unwrap();
+        format!("{first}{}{p}", "x_7".repeat(p % 5))
+    };
+    (0..m).map(name).collect()
+}
+
+/// The names section of a session file.
+pub fn section(names: &[String]) -> Vec<u8> {
+    let mut bytes = vec![names.len() as u8];
+    for name in names {
+        bytes.push(name.len() as u8);
+        bytes.extend(name.bytes());
+    }
+    bytes
+}
+
 /// One formula, one session: the questions, each with the answer that the Rust's word, text and size ask for.
 fn questions(random: &mut Random, size: usize, length: u64) -> Vec<(String, String)> {
     let m = 1 + random.below(16) as usize;
-    let names: Vec<String> = (0..m)
-        .map(|p| {
-            format!(
-                "{}{}",
-                "pqXF_9aZ".chars().nth(p % 4).unwrap(),
-                "x_7".repeat(p % 5) + &p.to_string()
-            )
-        })
-        .collect();
+    let names = names(m);
     let f = formula(random, &names, size);
     assert_eq!(f.tree.size(), size);
     let words: Vec<u64> = (0..m).map(|_| random.word(length)).collect();
@@ -150,12 +161,7 @@ fn questions(random: &mut Random, size: usize, length: u64) -> Vec<(String, Stri
     }
 
     let text = f.tree.to_string();
-    let section = std::iter::once(m as u8).chain(
-        names
-            .iter()
-            .flat_map(|n| std::iter::once(n.len() as u8).chain(n.bytes())),
-    );
-    let section = numbers(section);
+    let section = numbers(section(&names));
     let more = random.below(5) as usize;
     let print = |room: usize| format!("p {section}/{}/{room}", nodes(&f));
     asked.push((

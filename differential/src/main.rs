@@ -7,6 +7,7 @@ include!(concat!(env!("OUT_DIR"), "/the_rust.rs"));
 type HashType = u64;
 
 mod boundary;
+mod calls;
 mod compare;
 mod findings;
 mod formulas;
@@ -28,6 +29,7 @@ const USAGE: &str = "differential: one of
   searches [COUNT]         whole searches: every small one and random ones, against the Rust's own search (default: 200000 random ones)
   searches --short         the same with fewer of both
   searches --archive ..    the same through the archive that ships, in a program of its own (default: 2000 random ones)
+  calls [ROUNDS]           operators, check, print and read of the C boundary (default: 20 rounds); with --archive before it, as above
   speed                    how fast our search runs beside the Rust's; only with --profile speed --features published-hash
   sample                   writes the stored answers anew: crates/replay/stdin and stdout, crates/settled/stdout
   findings                 what the Rust does outside document 01's domain";
@@ -48,6 +50,7 @@ fn main() {
             Err(_) => usage(),
         },
         ["searches", rest @ ..] => searches(rest),
+        ["calls", rest @ ..] => calls(rest),
         ["speed"] => search::speed(),
         ["sample"] => sample::run(),
         ["findings"] => findings::run(),
@@ -68,6 +71,19 @@ fn searches(words: &[&str]) -> i32 {
         _ => None,
     };
     extent.map_or_else(usage, |extent| search::run(way, extent))
+}
+
+fn calls(words: &[&str]) -> i32 {
+    let (way, rest) = match words {
+        ["--archive", rest @ ..] => (Way::Served, rest),
+        rest => (Way::Linked, rest),
+    };
+    let rounds = match rest {
+        [] => Some(20),
+        [count] => count.parse().ok(),
+        _ => None,
+    };
+    rounds.map_or_else(usage, |rounds| calls::run(way, rounds))
 }
 
 fn usage() -> i32 {

@@ -1,7 +1,7 @@
 //! Whole searches: the Rust's `enum_aux` over its own cache, document 01's walk by its prose, and our compiled library, on the same inputs.
 mod compare;
 mod counted;
-mod drawn;
+pub mod drawn;
 mod every;
 mod input;
 mod lent;
@@ -11,4 +11,5 @@ mod speed;
 mod tally;
 
 pub use compare::{run, Extent};
+pub use input::Input;
 pub use speed::run as speed;
