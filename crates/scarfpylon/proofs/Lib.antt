@@ -1,3 +1,7 @@
 -- The laws that the boundary's proofs cite, by subject.
+pub mod Operating
 pub mod Searching
+pub mod Checking
+pub mod Printing
+pub mod Reading
 pub mod Unique

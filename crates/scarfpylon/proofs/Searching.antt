@@ -66,12 +66,11 @@ module _ (i : Input) (t : Cols) (old : List ℕ) (h : outWords ≤ length old) w
     abbrev Does : SearchAnswer → Type 0
     Does a = Searched i t a u → new ≡ written (searchWords a) old → SearchDone i t old (said a .number) u new
 
-    done : (a : SearchAnswer) → said a .number ≡ 0 → Does a
-    done a z s e = record { number = answered-rows (said a .number) (s .decided); refused = λ f. absurd (f z); passed = λ _. (a, s, e) }
+    answered : (a : SearchAnswer) → said a .number ≡ 0 → Does a
+    answered a z s e = record { number = answered-rows (said a .number) (s .decided); refused = λ f. absurd (f z); passed = λ _. (a, s, e) }
 
     pub search-long : (a : SearchAnswer) → Does a
-    search-long (Found root tried kept) s e = done (Found root tried kept) refl s e
-    search-long (None tried kept) s e = done (None tried kept) refl s e
-    search-long (Full size tried kept) s e = done (Full size tried kept) refl s e
-    search-long (Refused k) s e =
-        record { number = answered-rows k (s .decided); refused = λ f. (s .outcome .1, e); passed = λ z. absurd (omega (arith, s .outcome .0)) }
+    search-long (Found root tried kept) s e = answered (Found root tried kept) refl s e
+    search-long (None tried kept) s e = answered (None tried kept) refl s e
+    search-long (Full size tried kept) s e = answered (Full size tried kept) refl s e
+    search-long (Refused k) s e = record { number = answered-rows k (s .decided); refused = λ _. (s .outcome .1, e); passed = λ _. (Refused k, s, e) }

@@ -6,8 +6,6 @@ use Prim.Native.Nat.{ℕ}
 use Rattle.sequence.specs.Refusals.{Row, Decided}
 use Rattle.session.specs.Data.{outsideNumbers, tooShort, tooLong, bitAbove, markWrong}
 use Rattle.walk.specs.Input.{Input}
-use Rattle.formula.specs.declared.kinds.Node.{Node}
-use Rattle.formula.specs.Kinds.{nodeOf}
 use Rattle.search.specs.declared.SearchAnswer.{SearchAnswer}
 use Rattle.search.specs.declared.SearchAnswer.the-variants.{Found, None, Full, Refused}
 use Rattle.search.specs.Table.{Cols}

@@ -1,7 +1,13 @@
 // Where `out` is too short for an answer: the number that the core gives when nothing is lent to it. It has to refuse then, with 3 at the latest,
 // and in its own order, so that none of its tests is repeated here.
+use crate::out::printed_number;
+use crate::out::read_number;
 use crate::out::search_number;
-ghost use Rattle.scarfpylon.specs.Inner.{SearchUnanswered};
+use formula::kinds::Node;
+ghost use mathlib.Core.Path.{_≡_};
+ghost use Rattle.session.specs.Offence.{wholeFile, wholeNames};
+ghost use Rattle.formula.specs.Kinds.{nodeOf, nodes};
+ghost use Rattle.scarfpylon.specs.Inner.{SearchUnanswered, CheckUnanswered, PrintUnanswered, readUnanswered};
 
 pub(crate) fn search(r: usize, m: usize, bound: usize, room: usize, constants: u8) -> u64
     ensures { λ k. ⌜ SearchUnanswered r m bound room constants k ⌝ }
@@ -24,4 +30,32 @@ pub(crate) fn search(r: usize, m: usize, bound: usize, room: usize, constants: u
         &mut [],
     );
     search_number(answer)
+}
+
+pub(crate) fn check(r: usize, m: usize) -> u64
+    ensures { λ k. ⌜ CheckUnanswered r m k ⌝ }
+{
+    session::data::test(r, m, &[], &[], &[]) as u64
+}
+
+pub(crate) fn print(
+    names: &[u8],
+    codes: &[u8],
+    lefts: &[u16],
+    rights: &[u16],
+    sizes: &[u8],
+    root: Node,
+) -> u64
+    ensures { λ k. ⌜ PrintUnanswered (wholeNames (now (names .entry)))
+        (nodes (now (codes .entry)) (now (lefts .entry)) (now (rights .entry)) (now (sizes .entry))) (nodeOf root) k ⌝ }
+{
+    let answer = formula::print(names, codes, lefts, rights, sizes, root, &mut []);
+    printed_number(answer)
+}
+
+pub(crate) fn read(file: &[u8]) -> u64
+    ensures { λ k. ⌜ k ≡ readUnanswered (wholeFile (now (file .entry))) ⌝ }
+{
+    let answer = session::file::read(file, &mut [], &mut [], &mut [], &mut [], &mut []);
+    read_number(answer)
 }

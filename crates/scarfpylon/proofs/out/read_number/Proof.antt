@@ -1,0 +1,40 @@
+-- `read_number` gives the number of the reader's answer: only number 8 has an offset to add, which fits by what is required.
+-- Assumes nothing.
+use borrow.Author.Needs.{needs}
+use mathlib.Core.Path.{ap}
+use Rattle.session.specs.Reading.{said}
+use Rattle.scarfpylon.proofs.out.read_number.Statement.{statement}
+use Rattle.scarfpylon.proofs.out.read_number.Tie as tie
+
+enum-told : tie.Need-enum-told
+enum-told c = search needs
+
+enum-known-answer : tie.Need-enum-known-answer
+enum-known-answer c = search needs
+
+broken-at-requires : tie.Need-broken-at-requires
+broken-at-requires c κs = c .before .before .before .pre _ (ap said (c .before .answer .given .1))
+
+enum-told-2 : tie.Need-enum-told-2
+enum-told-2 c = search needs
+
+returns : tie.Need-returns
+returns c = rw (c .enum-told .given .1)
+
+returns-2 : tie.Need-returns-2
+returns-2 c = rw (c .before .before .answer .given .1) (c .broken-at .ensures)
+
+returns-3 : tie.Need-returns-3
+returns-3 c = search needs
+
+pub read-number-spec : {M : Type 1} → statement M
+read-number-spec =
+    tie.close
+    (tie.spec
+    enum-told
+    enum-known-answer
+    broken-at-requires
+    enum-told-2
+    returns
+    returns-2
+    returns-3)
