@@ -14,13 +14,11 @@ void exit(int);
 #define S(t) const t *, u64
 #define M(t) t *, u64
 u64 scarfpylon_search(u64, u64, u64, u64, u8, S(u8), S(u8), S(u64), S(u8), S(u8), M(u8), M(u16), M(u16), M(u8), M(u64), M(u64));
-#ifdef ALL
 u64 scarfpylon_unary(u8, u64, u64, M(u64));
 u64 scarfpylon_binary(u8, u64, u64, u64, u64, M(u64));
 u64 scarfpylon_check(u64, u64, S(u8), S(u8), S(u64), S(u8), S(u16), S(u16), S(u8), u8, u16, u16, u8, M(u64));
 u64 scarfpylon_print(S(u8), S(u8), S(u16), S(u16), S(u8), u8, u16, u16, u8, M(u8), M(u64));
 u64 scarfpylon_read(S(u8), M(u8), M(u8), M(u64), M(u8), M(u8), M(u64));
-#endif
 
 /* Bytes of one number in each slice of each function. */
 static const u8 widths[7][11] = {
@@ -69,7 +67,6 @@ int main(void) {
             answer = scarfpylon_search(x[0], x[1], x[2], x[3], x[4], s[0], n[0], s[1], n[1], s[2], n[2], s[3], n[3], s[4], n[4], s[5], n[5],
                                        s[6], n[6], s[7], n[7], s[8], n[8], s[9], n[9], s[10], n[10]);
             break;
-#ifdef ALL
         case 2: answer = scarfpylon_unary(x[0], x[1], x[2], s[0], n[0]); break;
         case 3: answer = scarfpylon_binary(x[0], x[1], x[2], x[3], x[4], s[0], n[0]); break;
         case 4:
@@ -80,7 +77,6 @@ int main(void) {
             answer = scarfpylon_print(s[0], n[0], s[1], n[1], s[2], n[2], s[3], n[3], s[4], n[4], x[0], x[1], x[2], x[3], s[5], n[5], s[6], n[6]);
             break;
         case 6: answer = scarfpylon_read(s[0], n[0], s[1], n[1], s[2], n[2], s[3], n[3], s[4], n[4], s[5], n[5], s[6], n[6]); break;
-#endif
         default: return 1;
         }
         put(&answer, sizeof answer);

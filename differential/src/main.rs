@@ -31,6 +31,7 @@ const USAGE: &str = "differential: one of
   searches --archive ..    the same through the archive that ships, in a program of its own (default: 2000 random ones)
   calls [ROUNDS]           operators, check, print and read of the C boundary (default: 20 rounds); with --archive before it, as above
   speed                    how fast our search runs beside the Rust's; only with --profile speed --features published-hash
+  collision                an input on which the Rust's published hash loses a formula (with --features published-hash; without, exact keys)
   sample                   writes the stored answers anew: crates/replay/stdin and stdout, crates/settled/stdout
   findings                 what the Rust does outside document 01's domain";
 
@@ -51,6 +52,7 @@ fn main() {
         },
         ["searches", rest @ ..] => searches(rest),
         ["calls", rest @ ..] => calls(rest),
+        ["collision"] => search::collision(),
         ["speed"] => search::speed(),
         ["sample"] => sample::run(),
         ["findings"] => findings::run(),

@@ -1,4 +1,5 @@
 //! Whole searches: the Rust's `enum_aux` over its own cache, document 01's walk by its prose, and our compiled library, on the same inputs.
+mod collision;
 mod compare;
 mod counted;
 pub mod drawn;
@@ -10,6 +11,7 @@ mod refused;
 mod speed;
 mod tally;
 
+pub use collision::run as collision;
 pub use compare::{run, Extent};
 pub use input::Input;
 pub use speed::run as speed;
