@@ -25,7 +25,7 @@ impl Extent {
 
     /// With fewer of the small inputs, for the slower way to our library.
     pub fn thin(random: u64) -> Self {
-        Extent { random, stride: 10 }
+        Extent { random, stride: 11 }
     }
 
     pub fn short() -> Self {
