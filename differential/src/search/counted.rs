@@ -169,10 +169,10 @@ pub fn leaves(input: &Input) -> Vec<FormulaTree> {
 
 /// What the Rust is handed: all that is made before its search begins.
 pub struct Start {
-    bound: usize,
-    operators: Operators,
-    target: Vec<bool>,
-    seeds: Vec<LtlFormula>,
+    pub bound: usize,
+    pub operators: Operators,
+    pub target: Vec<bool>,
+    pub seeds: Vec<LtlFormula>,
     count: Rc<Count>,
 }
 
