@@ -10,6 +10,7 @@ mod outside;
 mod prose;
 mod refused;
 mod speed;
+pub mod stored;
 mod tally;
 
 pub use collision::run as collision;
