@@ -77,6 +77,9 @@ fn read(file: &Path) -> String {
 
 fn module(name: &str, file: &Path) -> String {
     assert!(file.is_file(), "{} is missing", file.display());
-    println!("cargo:rerun-if-changed={}", file.display());
+    // What this script writes itself is no reason to run it again.
+    if !file.starts_with(env::var("OUT_DIR").unwrap()) {
+        println!("cargo:rerun-if-changed={}", file.display());
+    }
     format!("    #[path = {file:?}]\n    pub(crate) mod {name};\n")
 }
