@@ -1,4 +1,5 @@
--- What a reader must believe of the C boundary: what its functions have in common, and what each one does.
+-- What a reader must believe of the C boundary: what its functions have in common, and what each one does. The sentences in quotes are those of
+-- docs/DECISIONS.md, "The C boundary", and of document 01.
 -- `Inner` is only for private functions: no exported contract cites it.
 pub mod Out
 pub mod Operators

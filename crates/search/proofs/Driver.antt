@@ -8,6 +8,8 @@ use native.Mathlib.Numerals.{add-one}
 use lib.ListN.{length, getD, set, length-set}
 use lib.Seq.{paste, length-paste}
 use borrow.Author.Tests.{le-leb, lt-leb}
+use Rattle.search.specs.Costs.{perSize, perTurn}
+use Rattle.sequence.specs.Limits as limits
 use Rattle.walk.specs.Walk.{Candidate, full, State, going, ended, judge, consider}
 use Rattle.walk.specs.Input.{Input, Passes, offer}
 use Rattle.walk.specs.Promises.{Table}
@@ -54,7 +56,7 @@ pub record Reached (i : Input) (t₀ : Cols) (k₀ : Table) (st : State (List �
   pub is : st ≡ foldl (consider (offer i) (i .room)) (going table n) rest
 
 pub record LayerLoop (g : Given) (marks lengths words unary binary starts : List ℕ) (s : ℕ) (t : Cols) (kept tried : ℕ) (t′ : Cols) (at : Cursor) (k n : ℕ) : Type 0 where
-  pub within : n + 4294967297 * (4097 - k) ≤ tried + 35184372088832
+  pub within : n + perTurn * (limits.room + 1 - k) ≤ tried + perSize
   pub up : kept ≤ k
   pub kept-in : k ≤ g .room
   pub long : SameLengths t t′

@@ -6,6 +6,7 @@ use Prim.Native.Nat.{ℕ, zero, suc, _+_, _-_, _≤_}
 use native.Mathlib.Omega.{arith}
 use lib.ListN.{getD}
 use borrow.Author.Tests.{eq-eqb, ne-eqb}
+use Rattle.search.specs.Costs.{perUnary}
 use Rattle.walk.specs.Walk.{Candidate}
 use Rattle.walk.specs.Input.{Input}
 use Rattle.walk.specs.Promises.{Table}
@@ -45,7 +46,7 @@ module _ {g : Given} {marks lengths words unary binary matrices : List ℕ} {kep
   pub scan-unary-asks : UnaryAsks g marks lengths words unary matrices kept (getD starts s 0) at tried
   scan-unary-asks = record { asks = asks-less (a .asks) (omega arith); codes = a .unary-codes; to-in = a .starts-in .below s (omega arith) }
 
-  pub scan-splits-asks : (b : Cursor) (n : ℕ) → 1 ≤ b .split → n ≤ tried + 20480 → SplitsAsks g marks lengths words binary matrices kept starts s b n
+  pub scan-splits-asks : (b : Cursor) (n : ℕ) → 1 ≤ b .split → n ≤ tried + perUnary → SplitsAsks g marks lengths words binary matrices kept starts s b n
   scan-splits-asks b n h l = record {
     asks = asks-less (a .asks) (omega arith);
     codes = a .binary-codes;

@@ -17,4 +17,5 @@ pub mod Sizes
 pub mod Checks
 pub mod Decide
 pub mod Whole
+pub mod Passing
 pub mod Promises

@@ -8,6 +8,7 @@ use native.Mathlib.Omega.{arith}
 use native.Mathlib.Numerals.{add-one}
 use lib.ListN.{length, getD, drop, drop-of-length-le}
 use lib.Seq.{drop-cons, drop-append-le, drop-nil}
+use Rattle.search.specs.Costs.{perSplit, perColumn, perPair}
 use Rattle.walk.specs.Walk.{Candidate, each}
 use Rattle.walk.specs.Input.{Input}
 use Rattle.walk.specs.Promises.{Table}
@@ -57,7 +58,7 @@ module _ (i : Input) (k : Table) (s l q : ℕ) where
 
 -- the loop's head
 pub record RowLoop (g : Given) (marks lengths words binary matrices : List ℕ) (kept : ℕ) (at : Cursor) (tried o : ℕ) (second : Bool) (n : ℕ) : Type 0 where
-  pub within : n + 2 * (length binary - o) ≤ tried + 12
+  pub within : n + 2 * (length binary - o) ≤ tried + perPair
   pub runs : (unary : List ℕ) (k₀ k : Table) (s : ℕ) → Stands (input g marks lengths words unary binary) k₀ k matrices kept
       → at .left < length k₀ → at .right < length k₀
       → Onward (input g marks lengths words unary binary) k tried
@@ -119,7 +120,7 @@ abbrev pub rightAt : Cursor → ℕ → ℕ → Bool → Cursor
 rightAt at q o second = record { split = at .split; left = at .left; right = q; operator = o; second = second }
 
 pub record ColumnLoop (g : Given) (marks lengths words binary matrices : List ℕ) (kept to : ℕ) (at : Cursor) (tried q o : ℕ) (second : Bool) (n : ℕ) : Type 0 where
-  pub within : n + 12 * (to - q) ≤ tried + 49152
+  pub within : n + perPair * (to - q) ≤ tried + perColumn
   pub runs : (unary : List ℕ) (k₀ k : Table) (s : ℕ) → Stands (input g marks lengths words unary binary) k₀ k matrices kept
       → at .left < length k₀ → to ≤ length k₀
       → Onward (input g marks lengths words unary binary) k tried
@@ -172,7 +173,7 @@ abbrev pub leftAt : Cursor → ℕ → ℕ → ℕ → Bool → Cursor
 leftAt at l q o second = record { split = at .split; left = l; right = q; operator = o; second = second }
 
 pub record PairsLoop (g : Given) (marks lengths words binary matrices : List ℕ) (kept end from to : ℕ) (at : Cursor) (tried l q o : ℕ) (second : Bool) (n : ℕ) : Type 0 where
-  pub within : n + 49152 * (end - l) ≤ tried + 201326592
+  pub within : n + perColumn * (end - l) ≤ tried + perSplit
   pub runs : (unary : List ℕ) (k₀ k : Table) (s : ℕ) → Stands (input g marks lengths words unary binary) k₀ k matrices kept
       → end ≤ length k₀ → to ≤ length k₀
       → Onward (input g marks lengths words unary binary) k tried

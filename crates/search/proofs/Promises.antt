@@ -1,17 +1,19 @@
 -- What follows of every answer of the search, from its contract and the walk's promises: one result for an input, demand 3 over the reading, and
 -- larger bounds and rooms.
 -- Assumes nothing.
-use mathlib.Core.Path.{_≡_, refl, sym, ap, ap₂, _∙_}
+use mathlib.Core.Path.{_≡_, refl, sym, ap, ap₂, _∙_, subst}
 use mathlib.Core.List.{List}
 use Prim.Native.Nat.{ℕ}
 use native.Mathlib.Omega.{arith}
 use lib.ListN.{length}
+use Rattle.sequence.specs.Refusals.{Decided}
 use Rattle.sequence.proofs.Refusals.{decided-unique}
 use Rattle.session.specs.Reading.{Said}
 use Rattle.walk.specs.Walk.{Ending, found, full, none, State, ended, kept}
 use Rattle.walk.specs.Input.{Input, Passes, search}
-use Rattle.walk.specs.Promises.{Table, again}
+use Rattle.walk.specs.Promises.{Table}
 use Rattle.walk.proofs.Promises as walk
+use Rattle.walk.proofs.Same.{same-where-read as walk-same}
 use Rattle.walk.proofs.Steady.{found-stays}
 use Rattle.formula.specs.declared.kinds.Node.{Node}
 use Rattle.formula.specs.Kinds.{nodeOf}
@@ -20,8 +22,9 @@ use Rattle.search.specs.declared.SearchAnswer.the-variants.{Found, None,
 use Rattle.search.specs.Table.{Cols, tableOver}
 use Rattle.search.specs.Refusals.{searchRows}
 use Rattle.search.specs.Search.{said, walkSaid, endSaid, foundSaid, noneSaid, fullSaid, Searched}
-use Rattle.search.specs.Promises.{Unique, PassesWhole, Holding, FoundSmallest, NoneMeansNone, FullNeedsRoom, LargerSame}
+use Rattle.search.specs.Promises.{Unique, PassesWhole, SameWhereRead, Holding, FoundSmallest, NoneMeansNone, FullNeedsRoom, LargerSame}
 use Rattle.search.proofs.Whole.{search-passes}
+use Rattle.search.proofs.Passing.{not-refused, room-there, decided-same}
 
 -- ---- any two results for the same input are equal
 
@@ -96,7 +99,30 @@ pub search-unique : Unique
 search-unique i t a b u v p q = unique a b u v p q
 
 pub passes-whole : PassesWhole
-passes-whole i t d = search-passes i t d
+passes-whole i t = (λ d. (search-passes i t d, room-there i t d), λ w. not-refused i t (w .0) (w .1))
+
+-- the answers to two inputs whose walks are one, where neither is a refusal
+same-answers : (i j : Input) (t : Cols) (a b : SearchAnswer) (u v : Cols) → search i ≡ search j → said a .number ≡ 0 → said b .number ≡ 0
+    → Searched i t a u → Searched j t b v → (a ≡ b) × (u ≡ v)
+same-answers i j t a b u v e f g p q =
+    let x = answered {i = i} a u f p in
+    let y = answered {i = j} b v g q in (
+      said-same a b (x .0 ∙ ap walkSaid e ∙ sym (y .0)),
+      x .1 ∙ ap (λ (st : State (List ℕ)). tableOver (kept st) t) e ∙ sym (y .1),
+    )
+
+pub same-where-read : SameWhereRead
+same-where-read i j s x y t a b u v p q =
+    go a b p q (decided-unique (searchRows j t) _ _ (decided-same i j s x y t _ (p .decided)) (q .decided))
+  where
+    go : (a b : SearchAnswer) → Searched i t a u → Searched j t b v → said a .number ≡ said b .number → (a ≡ b) × (u ≡ v)
+    go (Refused k) (Refused l) p q e = (ap Refused e, p .outcome .1 ∙ sym (q .outcome .1))
+    go (Refused k) (Found n x y) p q e = absurd (omega (arith, p .outcome .0))
+    go (Refused k) (None x y) p q e = absurd (omega (arith, p .outcome .0))
+    go (Refused k) (Full n x y) p q e = absurd (omega (arith, p .outcome .0))
+    go (Found n x y) b p q e = same-answers i j t (Found n x y) b u v (walk-same i j s) refl (sym e) p q
+    go (None x y) b p q e = same-answers i j t (None x y) b u v (walk-same i j s) refl (sym e) p q
+    go (Full n x y) b p q e = same-answers i j t (Full n x y) b u v (walk-same i j s) refl (sym e) p q
 
 -- ---- demand 3: the walk's end is the answer's
 
@@ -171,11 +197,16 @@ full-needs-room i t u s x y w =
     (k, holding i t u y (full s) k x ok p l (w .outcome .1), walk.full-needs-room i ok s k x p)
 
 pub larger-same : LargerSame
-larger-same i t u root x y w b c hb hc t′ a v z e =
+larger-same i j wide t u root x y w t′ a v z e =
     let (d, k, m, q) = walk.walk-ends i in
     let (p, l) = found-end i root x y d k m q (w .outcome .0 ∙ ap walkSaid q) in
-    let later = found-stays i b c hb hc (nodeOf root) k x p in
-    let r = answered {i = again i b c} {t = t′} a v e z in (
-      said-same a (Found root x y) (r .0 ∙ ap walkSaid later ∙ ap (foundSaid (nodeOf root) x) l),
-      (k, w .outcome .1 ∙ ap (λ (st : State (List ℕ)). tableOver (kept st) t) p, r .1 ∙ ap (λ (st : State (List ℕ)). tableOver (kept st) t′) later),
+    let later = found-stays i j wide (nodeOf root) k x p in
+    let (r, h) = answered {i = j} {t = t′} a v e z in
+    let passes = search-passes j t′ (subst (Decided (searchRows j t′)) e (z .decided)) in (
+      said-same a (Found root x y) (r ∙ ap walkSaid later ∙ ap (foundSaid (nodeOf root) x) l),
+      (
+        k,
+        holding i t u y (found (nodeOf root)) k x (search-passes i t (w .decided)) p l (w .outcome .1),
+        holding j t′ v y (found (nodeOf root)) k x passes later l h,
+      ),
     )

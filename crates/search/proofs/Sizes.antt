@@ -10,6 +10,7 @@ use lib.ListN.{length, getD, set, length-set, length-append, List·getD-append, 
 use lib.Seq.{getD-append-add, getD-set-same, getD-set-other}
 use denote.Enum.Declared.{tagOf}
 use types.Run.{OneOf}
+use Rattle.search.specs.Costs.{perSize, inAll}
 use Rattle.search.proofs.layers.Stand.{the-type}
 use Rattle.walk.specs.Formula.{_∈_}
 use Rattle.walk.specs.Walk.{Candidate, State, going, ended, kept, layer, consider, through, after}
@@ -119,7 +120,7 @@ pub record Sized (i : Input) (t t′ : Cols) (starts : List ℕ) (s k n : ℕ) :
 pub record SizesLoop (g : Given) (marks lengths words unary binary : List ℕ) (t t′ : Cols) (starts : List ℕ) (s k n : ℕ) : Type 0 where
   pub above : 1 ≤ s
   pub below : s ≤ g .bound + 1
-  pub within : n + 35184372088832 * (32 - s) ≤ 1125899906842624
+  pub within : n + perSize * (32 - s) ≤ inAll
   pub kept-in : k ≤ g .room
   pub long : SameLengths t t′
   pub starts-long : length starts ≡ 32

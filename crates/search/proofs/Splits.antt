@@ -6,6 +6,7 @@ use mathlib.Core.List.{List}
 use Prim.Native.Nat.{ℕ, _+_, _-_, _*_, _/_, _≤_, _<_}
 use native.Mathlib.Omega.{arith}
 use lib.ListN.{length, getD}
+use Rattle.search.specs.Costs.{perPairs, perSplit}
 use Rattle.walk.specs.Walk.{Candidate}
 use Rattle.walk.specs.Input.{Input}
 use Rattle.walk.specs.Promises.{Table}
@@ -34,7 +35,7 @@ split-fresh i k s starts t q e =
 
 pub record SplitsLoop (g : Given) (marks lengths words binary matrices : List ℕ) (kept : ℕ) (starts : List ℕ) (s : ℕ) (at : Cursor) (tried t l q o : ℕ) (second : Bool) (n : ℕ) : Type 0 where
   pub some : 1 ≤ t
-  pub within : n + 201326592 * ((s + 1) / 2 - t) ≤ tried + 3221225472
+  pub within : n + perSplit * ((s + 1) / 2 - t) ≤ tried + perPairs
   pub runs : (unary : List ℕ) (k₀ k : Table) → Stands (input g marks lengths words unary binary) k₀ k matrices kept → Starts starts s (length k₀)
       → Onward (input g marks lengths words unary binary) k tried
       (splitsRest (input g marks lengths words unary binary) k₀ s starts at) n

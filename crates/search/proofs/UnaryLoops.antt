@@ -10,6 +10,7 @@ use lib.ListN.{length, getD, drop, drop-of-length-le}
 use lib.Seq.{drop-cons}
 use lib.Dec.{eqb, ltb}
 use borrow.Author.Tests.{ltb-true}
+use Rattle.search.specs.Costs.{perUnary, perSeeds, unaries}
 use Rattle.walk.specs.Walk.{count}
 use Rattle.walk.specs.Input.{Input}
 use Rattle.walk.specs.Promises.{Table}
@@ -36,7 +37,7 @@ module _ (i : Input) (k : Table) (s place : ℕ) where
   unary-end o h = rw (drop-of-length-le (i .unary) {i = o} h)
 
 pub record UnaryRowLoop (g : Given) (marks lengths words unary matrices : List ℕ) (kept place from tried o n : ℕ) : Type 0 where
-  pub within : n + (length unary - o) ≤ tried + 5
+  pub within : n + (length unary - o) ≤ tried + unaries
   pub runs : (binary : List ℕ) (k₀ k : Table) (s : ℕ) → Stands (input g marks lengths words unary binary) k₀ k matrices kept → place < length k₀
       → Onward (input g marks lengths words unary binary) k tried
       (unaryRow (input g marks lengths words unary binary) k₀ s place (drop from unary)) n
@@ -84,7 +85,7 @@ abbrev pub placeAt : Cursor → ℕ → ℕ → Cursor
 placeAt at p o = record { split = at .split; left = p; right = at .right; operator = o; second = at .second }
 
 pub record UnaryLoop (g : Given) (marks lengths words unary matrices : List ℕ) (kept to : ℕ) (at : Cursor) (tried p o n : ℕ) : Type 0 where
-  pub within : n + 5 * (to - p) ≤ tried + 20480
+  pub within : n + unaries * (to - p) ≤ tried + perUnary
   pub runs : (binary : List ℕ) (k₀ k : Table) (s : ℕ) → Stands (input g marks lengths words unary binary) k₀ k matrices kept → to ≤ length k₀
       → Onward (input g marks lengths words unary binary) k tried
       (unaryRest (input g marks lengths words unary binary) k₀ s to at) n
@@ -153,7 +154,7 @@ count-most g = go (eqb (g .constants) 1)
     go false = omega arith
 
 pub record SeedsLoop (g : Given) (marks lengths words matrices : List ℕ) (kept from tried p n : ℕ) : Type 0 where
-  pub within : n + (leafCount g - p) ≤ tried + 65537
+  pub within : n + (leafCount g - p) ≤ tried + perSeeds
   pub runs : (unary binary : List ℕ) (k₀ k : Table) (s : ℕ) → Stands (input g marks lengths words unary binary) k₀ k matrices kept
       → Onward (input g marks lengths words unary binary) k tried
       (seedsRest (input g marks lengths words unary binary) k₀ s from (leafCount g)) n

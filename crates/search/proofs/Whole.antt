@@ -67,7 +67,7 @@ module _ (i : Input) (t : Cols) (d : Decided (searchRows i t) 0) where
   short : (j : ℕ) → j < i .sessions → lengthOf i j ≤ width
   short j h = le-of-not-lt λ l. given .1 .1 .1 .1 .0 (j, h, l)
 
-  -- "A refusal .. is given in no other case": where none is, the input passes the walk's checks
+  -- where none is, the input passes the walk's checks
   pub search-passes : Passes i
   search-passes = record {
     sessions-in = (numbers .0, numbers .1);

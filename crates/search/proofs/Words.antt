@@ -28,11 +28,11 @@ pub binary-same : (a b : Binary) → binaryCode a ≡ binaryCode b → a ≡ b
 binary-same a b e = sym (binary-of a) ∙ ap binaryOf e ∙ binary-of b
 
 pub unary-at : {code x n m w : ℕ} → Mask n m → UnaryWord code x m w → UnaryAt code x n w
-unary-at {x = x} {n = n} k (UnaryWord.word o eo p) op e wf = unary-row-only o x (unary-cut o k wf p) ∙ ap (λ (a : Unary). unaryRow a n x) (unary-same o op (eo ∙ sym e))
+unary-at {x = x} {n = n} k (UnaryWord.word o eo p) op e wf = unary-row-only o _ _ x (unary-cut o k wf p) ∙ ap (λ (a : Unary). unaryRow a n x) (unary-same o op (eo ∙ sym e))
 unary-at k (UnaryWord.nothing h z) op e wf = absurd (h op e)
 
 pub binary-at : {code x y n m w : ℕ} → Mask n m → BinaryWord code x y m w → BinaryAt code x y n w
-binary-at {x = x} {y = y} {n = n} k (BinaryWord.word o eo p) op e wx wy = binary-row-only o x y (binary-cut o k wx wy p) ∙ ap (λ (a : Binary). binaryRow a n x y) (binary-same o op (eo ∙ sym e))
+binary-at {x = x} {y = y} {n = n} k (BinaryWord.word o eo p) op e wx wy = binary-row-only o _ _ x y (binary-cut o k wx wy p) ∙ ap (λ (a : Binary). binaryRow a n x y) (binary-same o op (eo ∙ sym e))
 binary-at k (BinaryWord.nothing h z) op e wx wy = absurd (h op e)
 
 pub leaf-word : (code x n : ℕ) → code ≡ 16 → LeafAt code x n x

@@ -5,6 +5,8 @@ use mathlib.Core.Bool.{false}
 use mathlib.Core.List.{List, foldl}
 use Prim.Native.Nat.{ℕ, _+_, _-_, _*_, _^_, _≤_, _<_}
 use lib.ListN.{length, getD}
+use Rattle.search.specs.Costs.{perSize, mostLeaves}
+use Rattle.sequence.specs.Limits as limits
 use Rattle.walk.specs.Walk.{found, full, State, going, ended, consider, after}
 use Rattle.walk.specs.Input.{Input, Passes, offer}
 use Rattle.walk.specs.Promises.{Table}
@@ -32,10 +34,10 @@ pub record Room (g : Given) (t : Cols) : Type 0 where
 
 -- what every size asks
 pub record Sound (g : Given) (marks lengths words unary binary : List ℕ) : Type 0 where
-  pub sessions-in : g .sessions ≤ 32
-  pub propositions-in : g .propositions ≤ 65535
+  pub sessions-in : g .sessions ≤ limits.sessions
+  pub propositions-in : g .propositions ≤ mostLeaves
   pub some : 1 ≤ g .propositions
-  pub room-in : g .room ≤ 4096
+  pub room-in : g .room ≤ limits.room
   pub marks-there : g .sessions ≤ length marks
   pub lengths-there : g .sessions ≤ length lengths
   pub words-there : g .propositions * g .sessions ≤ length words
@@ -85,11 +87,11 @@ pub record LayerAsks (g : Given) (marks lengths words unary binary starts : List
   pub room : Room g t
   pub kept-in : kept ≤ g .room
   pub starts-in : Starts starts s kept
-  pub size-in : (1 ≤ s) × (s ≤ 31)
-  pub counts : tried + 35184372088832 < 2 ^ 64
+  pub size-in : (1 ≤ s) × (s ≤ limits.size)
+  pub counts : tried + perSize < 2 ^ 64
 
 pub record LayerDoes (g : Given) (marks lengths words unary binary starts : List ℕ) (s : ℕ) (t : Cols) (kept tried : ℕ) (t′ : Cols) (stand : Stand) : Type 0 where
-  pub tried-in : triedOf stand ≤ tried + 35184372088832
+  pub tried-in : triedOf stand ≤ tried + perSize
   pub up : kept ≤ keptOf stand
   pub kept-in : keptOf stand ≤ g .room
   pub runs : (t₀ : Cols) (k₀ : Table) → Passes (input g marks lengths words unary binary) → Room g t₀ → Holds (input g marks lengths words unary binary) k₀ t₀ t kept
@@ -103,7 +105,7 @@ pub record LayerDoes (g : Given) (marks lengths words unary binary starts : List
 pub record LayersAsks (g : Given) (marks lengths words unary binary : List ℕ) (t : Cols) : Type 0 where
   pub sound : Sound g marks lengths words unary binary
   pub room : Room g t
-  pub bound-in : g .bound ≤ 31
+  pub bound-in : g .bound ≤ limits.size
 
 pub record LayersDoes (g : Given) (marks lengths words unary binary : List ℕ) (t t′ : Cols) (stand : Stand) : Type 0 where
   pub runs : Passes (input g marks lengths words unary binary)

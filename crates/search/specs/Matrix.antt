@@ -6,6 +6,8 @@ use mathlib.Core.List.{List, []}
 use Prim.Native.Nat.{ℕ, _+_, _*_, _≤_, _<_}
 use lib.ListN.{length, getD, take}
 use lib.Dec.{eqb, ltb}
+use Rattle.search.specs.Costs.{mostLeaves}
+use Rattle.sequence.specs.Limits as limits
 use Rattle.words.specs.Word.{width, Wf}
 use Rattle.sequence.specs.Operators.{Unary, Binary, unaryCode, binaryCode}
 use Rattle.walk.specs.Formula.{Leaf, proposition, constant}
@@ -98,8 +100,8 @@ pub data Makes (m kept code left right : ℕ) : Type 0 where
 
 -- what is asked, so that no index is out of range
 pub record Readable (g : Given) (lengths words matrices : List ℕ) (kept : ℕ) : Type 0 where
-  pub sessions-in : g .sessions ≤ 32
-  pub propositions-in : g .propositions ≤ 65535
+  pub sessions-in : g .sessions ≤ limits.sessions
+  pub propositions-in : g .propositions ≤ mostLeaves
   pub lengths-there : g .sessions ≤ length lengths
   pub words-there : g .propositions * g .sessions ≤ length words
   pub matrices-there : kept * g .sessions ≤ length matrices

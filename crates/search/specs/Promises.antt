@@ -1,14 +1,16 @@
--- What is promised of every answer of the search, whatever the input: demand 3, in terms of the reading. `u` is what the lent slices hold after the
--- search, `t` what they held before. Each is proved under its name in proofs/Promises: search-unique, found-smallest and so on.
+-- What is promised of every answer of the search, whatever the input: the mission's demand 3, in terms of the reading. `u` is what the lent slices
+-- hold after the search, `t` what they held before. Each is proved under its name in proofs/Promises: search-unique, passes-whole,
+-- found-smallest and so on.
 -- Assumes nothing.
 use mathlib.Core.Path.{_≡_}
-use Prim.Native.Nat.{ℕ, _+_, _≤_}
+use mathlib.Core.Logic.{_↔_}
+use Prim.Native.Nat.{ℕ, _+_, _*_, _≤_}
 use lib.ListN.{length}
 use Rattle.formula.specs.declared.kinds.Node.{Node}
 use Rattle.formula.specs.Kinds.{nodeOf}
 use Rattle.sequence.specs.Refusals.{Decided}
 use Rattle.walk.specs.Input.{Input, Passes}
-use Rattle.walk.specs.Promises.{Table, NoneBelow, Kept, again}
+use Rattle.walk.specs.Promises.{Table, NoneBelow, Kept, AgreeWhereRead, Wider}
 use Rattle.walk.specs.Promises as walk
 use Rattle.search.specs.declared.SearchAnswer.{SearchAnswer}
 use Rattle.search.specs.declared.SearchAnswer.the-variants.{Found, None, Full}
@@ -16,38 +18,63 @@ use Rattle.search.specs.Table.{Cols, tableOver}
 use Rattle.search.specs.Refusals.{searchRows}
 use Rattle.search.specs.Search.{said, Searched}
 
--- "Any pair of results allowed for the same input is shown equal"
+-- document 01's "Any pair of results allowed for the same input is shown equal"
 abbrev pub Unique : Type 0
 Unique = (i : Input) (t : Cols) (a b : SearchAnswer) (u v : Cols) → Searched i t a u → Searched i t b v → (a ≡ b) × (u ≡ v)
 
--- "A refusal .. is given in no other case": what is not refused passes the walk's checks
-abbrev pub PassesWhole : Type 0
-PassesWhole = (i : Input) (t : Cols) → Decided (searchRows i t) 0 → Passes i
+-- ---- the mission's "input that passes the checks"
 
--- a table of that many formulas, each of which doesn't separate and no two alike, is what the slices hold
+-- the table's lent slices are no shorter than document 01's "C x r, C" ask
+pub record RoomThere (i : Input) (t : Cols) : Type 0 where
+  pub codes : i .room ≤ length (t .codes)
+  pub lefts : i .room ≤ length (t .lefts)
+  pub rights : i .room ≤ length (t .rights)
+  pub sizes : i .room ≤ length (t .sizes)
+  pub matrices : i .room * i .sessions ≤ length (t .matrices)
+
+-- no row is given exactly where the input passes the walk's checks and the lent slices have room
+abbrev pub PassesWhole : Type 0
+PassesWhole = (i : Input) (t : Cols) → Decided (searchRows i t) 0 ↔ (Passes i × RoomThere i t)
+
+-- marks, lengths and words are as long as they are read
+pub record DataThere (i : Input) : Type 0 where
+  pub marks : i .sessions ≤ length (i .marks)
+  pub lengths : i .sessions ≤ length (i .lengths)
+  pub words : i .propositions * i .sessions ≤ length (i .words)
+
+-- what lies beyond is not looked at: inputs that agree where they are read have one result, a refusal too
+abbrev pub SameWhereRead : Type 0
+SameWhereRead = (i j : Input) → AgreeWhereRead i j → DataThere i → DataThere j → (t : Cols) (a b : SearchAnswer) (u v : Cols)
+    → Searched i t a u → Searched j t b v → (a ≡ b) × (u ≡ v)
+
+-- ---- the mission's demand 3
+
+-- the number kept is the length of a table of formulas, each of which doesn't separate and no two alike, and that table is what the slices hold
 pub record Holding (i : Input) (t u : Cols) (kept : ℕ) (k : Table) : Type 0 where
   pub as-many : length k ≡ kept
   pub holds : u ≡ tableOver k t
   pub formulas : Kept i k
 
--- FOUND: the root node over the table is a formula of what was offered, within the bound; it separates, and no smaller one does
+-- "a formula found uses only what was offered, keeps to the bound, separates the sessions, and no smaller one over what was offered does": it is
+-- the root node over the table
 abbrev pub FoundSmallest : Type 0
 FoundSmallest = (i : Input) (t u : Cols) (root : Node) (tried kept : ℕ) → Searched i t (Found root tried kept) u
     → (k : Table) × Holding i t u kept k × walk.Found i (nodeOf root) k
 
--- NONE: no formula of what was offered, up to the bound, separates
+-- ""None" only where no such formula within the bound separates"
 abbrev pub NoneMeansNone : Type 0
 NoneMeansNone = (i : Input) (t u : Cols) (tried kept : ℕ) → Searched i t (None tried kept) u
     → (k : Table) × Holding i t u kept k × NoneBelow i (i .bound + 1)
 
--- FULL at a size: the walk needed a place beyond C, and no smaller formula separates
+-- ""Full at size s" only where the walk needs a place beyond the table's room, and then no such formula smaller than s separates": with any larger
+-- room the walk keeps the same table and one formula more, of that size
 abbrev pub FullNeedsRoom : Type 0
 FullNeedsRoom = (i : Input) (t u : Cols) (size tried kept : ℕ) → Searched i t (Full size tried kept) u
     → (k : Table) × Holding i t u kept k × walk.Full i size k
 
--- "with the same sessions, operators in the same order and choice of constants, a larger bound or a larger room never changes a formula found":
--- the whole answer is the same, and so is the table
+-- "With the same sessions, operators in the same order and choice of constants, a larger bound or table never changes a formula found": where a
+-- search of j, which is i with a larger or equal bound and room, isn't refused, its whole answer is the same, and its slices hold the same table
 abbrev pub LargerSame : Type 0
-LargerSame = (i : Input) (t u : Cols) (root : Node) (tried kept : ℕ) → Searched i t (Found root tried kept) u
-    → (b c : ℕ) → i .bound ≤ b → i .room ≤ c → (t′ : Cols) (a : SearchAnswer) (v : Cols) → Searched (again i b c) t′ a v → said a .number ≡ 0
-    → (a ≡ Found root tried kept) × ((k : Table) × (u ≡ tableOver k t) × (v ≡ tableOver k t′))
+LargerSame = (i j : Input) → Wider i j → (t u : Cols) (root : Node) (tried kept : ℕ) → Searched i t (Found root tried kept) u
+    → (t′ : Cols) (a : SearchAnswer) (v : Cols) → Searched j t′ a v → said a .number ≡ 0
+    → (a ≡ Found root tried kept) × ((k : Table) × Holding i t u kept k × Holding j t′ v kept k)

@@ -6,6 +6,8 @@ use mathlib.Core.List.{List, [], _∷_, _++_, map, foldl}
 use Prim.Native.Nat.{ℕ, _+_, _-_, _/_, _^_, _≤_, _<_}
 use lib.ListN.{length, getD, drop}
 use lib.Dec.{eqb, ltb}
+use Rattle.search.specs.Costs.{perScan, perPairs, perSplit, perColumn, perUnary, perSeeds, perPair, unaries, binaries}
+use Rattle.sequence.specs.Limits as limits
 use Rattle.sequence.specs.Operators.{commutes}
 use Rattle.walk.specs.Nodes.{Node}
 use Rattle.walk.specs.Walk.{Candidate, found, going, ended, each, count, consider, known}
@@ -121,7 +123,7 @@ pub record Stands (i : Input) (k₀ k : Table) (matrices : List ℕ) (kept : ℕ
 pub record Asks (g : Given) (marks lengths words matrices : List ℕ) (kept tried cost : ℕ) : Type 0 where
   pub readable : Readable g lengths words matrices kept
   pub marks-there : g .sessions ≤ length marks
-  pub few : kept ≤ 4096
+  pub few : kept ≤ limits.room
   pub counts : tried + cost < 2 ^ 64
 
 -- ---- one candidate
@@ -177,19 +179,19 @@ pub record Codes (low high most : ℕ) (codes : List ℕ) : Type 0 where
   pub short : length codes ≤ most
 
 abbrev pub BinaryCodes : List ℕ → Type 0
-BinaryCodes codes = Codes 5 11 6 codes
+BinaryCodes codes = Codes 5 11 binaries codes
 
 abbrev pub UnaryCodes : List ℕ → Type 0
-UnaryCodes codes = Codes 0 5 5 codes
+UnaryCodes codes = Codes 0 5 unaries codes
 
 pub record RowAsks (g : Given) (marks lengths words binary matrices : List ℕ) (kept : ℕ) (at : Cursor) (tried : ℕ) : Type 0 where
-  pub asks : Asks g marks lengths words matrices kept tried 12
+  pub asks : Asks g marks lengths words matrices kept tried perPair
   pub codes : BinaryCodes binary
   pub left-in : at .left < kept
   pub right-in : at .right < kept
 
 pub record RowDoes (g : Given) (marks lengths words binary matrices : List ℕ) (kept : ℕ) (at : Cursor) (tried : ℕ) (event : Event) : Type 0 where
-  pub safe : Safe (g .propositions) kept (tried + 12) (SamePair at) event
+  pub safe : Safe (g .propositions) kept (tried + perPair) (SamePair at) event
   pub runs : (unary : List ℕ) (k₀ k : Table) (s : ℕ) → Stands (input g marks lengths words unary binary) k₀ k matrices kept
       → at .left < length k₀ → at .right < length k₀
       → Scanned (input g marks lengths words unary binary) k₀ k s tried
@@ -203,13 +205,13 @@ pub record SameLeft (at next : Cursor) : Type 0 where
   pub left : next .left ≡ at .left
 
 pub record ColumnAsks (g : Given) (marks lengths words binary matrices : List ℕ) (kept to : ℕ) (at : Cursor) (tried : ℕ) : Type 0 where
-  pub asks : Asks g marks lengths words matrices kept tried 49152
+  pub asks : Asks g marks lengths words matrices kept tried perColumn
   pub codes : BinaryCodes binary
   pub left-in : at .left < kept
   pub to-in : to ≤ kept
 
 pub record ColumnDoes (g : Given) (marks lengths words binary matrices : List ℕ) (kept to : ℕ) (at : Cursor) (tried : ℕ) (event : Event) : Type 0 where
-  pub safe : Safe (g .propositions) kept (tried + 49152) (SameLeft at) event
+  pub safe : Safe (g .propositions) kept (tried + perColumn) (SameLeft at) event
   pub runs : (unary : List ℕ) (k₀ k : Table) (s : ℕ) → Stands (input g marks lengths words unary binary) k₀ k matrices kept
       → at .left < length k₀ → to ≤ length k₀
       → Scanned (input g marks lengths words unary binary) k₀ k s tried
@@ -219,13 +221,13 @@ pub record ColumnDoes (g : Given) (marks lengths words binary matrices : List �
 -- ---- the pairs of a split
 
 pub record PairsAsks (g : Given) (marks lengths words binary matrices : List ℕ) (kept leftTo from to : ℕ) (at : Cursor) (tried : ℕ) : Type 0 where
-  pub asks : Asks g marks lengths words matrices kept tried 201326592
+  pub asks : Asks g marks lengths words matrices kept tried perSplit
   pub codes : BinaryCodes binary
   pub left-in : leftTo ≤ kept
   pub to-in : to ≤ kept
 
 pub record PairsDoes (g : Given) (marks lengths words binary matrices : List ℕ) (kept leftTo from to : ℕ) (at : Cursor) (tried : ℕ) (event : Event) : Type 0 where
-  pub safe : Safe (g .propositions) kept (tried + 201326592) (λ next. next .split ≡ at .split) event
+  pub safe : Safe (g .propositions) kept (tried + perSplit) (λ next. next .split ≡ at .split) event
   pub runs : (unary : List ℕ) (k₀ k : Table) (s : ℕ) → Stands (input g marks lengths words unary binary) k₀ k matrices kept
       → leftTo ≤ length k₀ → to ≤ length k₀
       → Scanned (input g marks lengths words unary binary) k₀ k s tried
@@ -239,14 +241,14 @@ pub record Starts (starts : List ℕ) (s most : ℕ) : Type 0 where
   pub below : (t : ℕ) → t ≤ s → getD starts t 0 ≤ most
 
 pub record SplitsAsks (g : Given) (marks lengths words binary matrices : List ℕ) (kept : ℕ) (starts : List ℕ) (s : ℕ) (at : Cursor) (tried : ℕ) : Type 0 where
-  pub asks : Asks g marks lengths words matrices kept tried 3221225472
+  pub asks : Asks g marks lengths words matrices kept tried perPairs
   pub codes : BinaryCodes binary
   pub starts-in : Starts starts s kept
-  pub size-in : s ≤ 31
+  pub size-in : s ≤ limits.size
   pub split-in : 1 ≤ at .split
 
 pub record SplitsDoes (g : Given) (marks lengths words binary matrices : List ℕ) (kept : ℕ) (starts : List ℕ) (s : ℕ) (at : Cursor) (tried : ℕ) (event : Event) : Type 0 where
-  pub safe : Safe (g .propositions) kept (tried + 3221225472) (λ next. 1 ≤ next .split) event
+  pub safe : Safe (g .propositions) kept (tried + perPairs) (λ next. 1 ≤ next .split) event
   pub runs : (unary : List ℕ) (k₀ k : Table) → Stands (input g marks lengths words unary binary) k₀ k matrices kept → Starts starts s (length k₀)
       → Scanned (input g marks lengths words unary binary) k₀ k s tried
       (splitsRest (input g marks lengths words unary binary) k₀ s starts at)
@@ -255,7 +257,7 @@ pub record SplitsDoes (g : Given) (marks lengths words binary matrices : List �
 -- ---- the unary operators
 
 pub record UnaryRowAsks (g : Given) (marks lengths words unary matrices : List ℕ) (kept place from tried : ℕ) : Type 0 where
-  pub asks : Asks g marks lengths words matrices kept tried 5
+  pub asks : Asks g marks lengths words matrices kept tried unaries
   pub codes : UnaryCodes unary
   pub place-in : place < kept
 
@@ -264,19 +266,19 @@ pub record AtPlace (place : ℕ) (next : Cursor) : Type 0 where
   pub left : next .left ≡ place
 
 pub record UnaryRowDoes (g : Given) (marks lengths words unary matrices : List ℕ) (kept place from tried : ℕ) (event : Event) : Type 0 where
-  pub safe : Safe (g .propositions) kept (tried + 5) (AtPlace place) event
+  pub safe : Safe (g .propositions) kept (tried + unaries) (AtPlace place) event
   pub runs : (binary : List ℕ) (k₀ k : Table) (s : ℕ) → Stands (input g marks lengths words unary binary) k₀ k matrices kept → place < length k₀
       → Scanned (input g marks lengths words unary binary) k₀ k s tried
       (unaryRow (input g marks lengths words unary binary) k₀ s place (drop from unary))
       (λ next. unaryRow (input g marks lengths words unary binary) k₀ s place (drop (next .operator) unary)) event
 
 pub record UnaryAsks (g : Given) (marks lengths words unary matrices : List ℕ) (kept to : ℕ) (at : Cursor) (tried : ℕ) : Type 0 where
-  pub asks : Asks g marks lengths words matrices kept tried 20480
+  pub asks : Asks g marks lengths words matrices kept tried perUnary
   pub codes : UnaryCodes unary
   pub to-in : to ≤ kept
 
 pub record UnaryDoes (g : Given) (marks lengths words unary matrices : List ℕ) (kept to : ℕ) (at : Cursor) (tried : ℕ) (event : Event) : Type 0 where
-  pub safe : Safe (g .propositions) kept (tried + 20480) (λ next. next .split ≡ 0) event
+  pub safe : Safe (g .propositions) kept (tried + perUnary) (λ next. next .split ≡ 0) event
   pub runs : (binary : List ℕ) (k₀ k : Table) (s : ℕ) → Stands (input g marks lengths words unary binary) k₀ k matrices kept → to ≤ length k₀
       → Scanned (input g marks lengths words unary binary) k₀ k s tried
       (unaryRest (input g marks lengths words unary binary) k₀ s to at)
@@ -285,11 +287,11 @@ pub record UnaryDoes (g : Given) (marks lengths words unary matrices : List ℕ)
 -- ---- the leaves
 
 pub record SeedsAsks (g : Given) (marks lengths words matrices : List ℕ) (kept from tried : ℕ) : Type 0 where
-  pub asks : Asks g marks lengths words matrices kept tried 65537
+  pub asks : Asks g marks lengths words matrices kept tried perSeeds
   pub some : 1 ≤ g .propositions
 
 pub record SeedsDoes (g : Given) (marks lengths words matrices : List ℕ) (kept from tried : ℕ) (event : Event) : Type 0 where
-  pub safe : Safe (g .propositions) kept (tried + 65537) (λ next. next .split ≡ 0) event
+  pub safe : Safe (g .propositions) kept (tried + perSeeds) (λ next. next .split ≡ 0) event
   pub runs : (unary binary : List ℕ) (k₀ k : Table) (s : ℕ) → Stands (input g marks lengths words unary binary) k₀ k matrices kept
       → Scanned (input g marks lengths words unary binary) k₀ k s tried
       (seedsRest (input g marks lengths words unary binary) k₀ s from (leafCount g))
@@ -309,15 +311,15 @@ module _ (i : Input) (k : Table) (s : ℕ) where
       (cond (eqb (at .split) 0) (unaryRest i k s (getD starts s 0) at ++ splitsRest i k s starts (firstPair starts s)) (splitsRest i k s starts at))
 
 pub record ScanAsks (g : Given) (marks lengths words unary binary matrices : List ℕ) (kept : ℕ) (starts : List ℕ) (s : ℕ) (at : Cursor) (tried : ℕ) : Type 0 where
-  pub asks : Asks g marks lengths words matrices kept tried 4294967296
+  pub asks : Asks g marks lengths words matrices kept tried perScan
   pub some : 1 ≤ g .propositions
   pub unary-codes : UnaryCodes unary
   pub binary-codes : BinaryCodes binary
   pub starts-in : Starts starts s kept
-  pub size-in : (1 ≤ s) × (s ≤ 31)
+  pub size-in : (1 ≤ s) × (s ≤ limits.size)
 
 pub record ScanDoes (g : Given) (marks lengths words unary binary matrices : List ℕ) (kept : ℕ) (starts : List ℕ) (s : ℕ) (at : Cursor) (tried : ℕ) (event : Event) : Type 0 where
-  pub safe : Safe (g .propositions) kept (tried + 4294967296) (λ next. Unit {0}) event
+  pub safe : Safe (g .propositions) kept (tried + perScan) (λ next. Unit {0}) event
   pub runs : (k₀ k : Table) → Stands (input g marks lengths words unary binary) k₀ k matrices kept → Starts starts s (length k₀)
       → Scanned (input g marks lengths words unary binary) k₀ k s tried
       (layerRest (input g marks lengths words unary binary) k₀ s starts (leafCount g) at)

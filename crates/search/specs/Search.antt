@@ -30,8 +30,9 @@ inputOf r m bound room constants marks lengths words unary binary = record {
   binary = binary;
 }
 
--- ---- document 01's number and values of each case: 0 and the case (1 FOUND, 2 NONE, 3 FULL), the size of FOUND and FULL, the number tried, the
--- number kept, and FOUND's root node; or a refusal's number and nothing else
+-- ---- the number and values of each case: 0 and the case, the size of FOUND and FULL, the number tried, the number kept, and FOUND's root node; or
+-- document 01's number of a refusal and nothing else. The cases' numbers are our own, those of the C boundary: 1 FOUND, 2 NONE,
+-- 3 FULL
 
 abbrev pub foundSaid : Node → ℕ → ℕ → Said
 foundSaid root tried kept = record { number = 0; values = 1 ∷ root .size ∷ tried ∷ kept ∷ root .code ∷ root .left ∷ root .right ∷ root .size ∷ [] }

@@ -170,7 +170,7 @@ pub(crate) fn layers(
         (cols (now (codes .exit)) (now (lefts .exit)) (now (rights .exit)) (now (sizes .exit)) (now (matrices .exit))) stand ⌝ }
 {
     let bound = given.bound;
-    let mut starts = [0usize; 32];
+    let mut starts = [0usize; session::BOUND + 1];
     let mut k: usize = 0;
     let mut n: u64 = 0;
     let mut s: usize = 1;

@@ -9,6 +9,8 @@ ghost use mathlib.Core.Bool.{Bool, Bool·beq};
 ghost use Prim.Native.Nat.{ℕ, _+_, _*_, _≤_, _<_};
 ghost use lib.ListN.{length, take, drop};
 ghost use lib.Dec.{eqb};
+ghost use Rattle.search.specs.Costs.{mostLeaves};
+ghost use Rattle.sequence.specs.Limits.{sessions};
 ghost use Rattle.walk.specs.Rows.{acceptsRow};
 ghost use Rattle.search.specs.Matrix.{UnaryAt, BinaryAt, LeafAt, UnaryRows, BinaryRows, LeafRows, RowsAsk, RowsOf, agreesAt, SameAt, Known};
 ghost use Rattle.walk.specs.Walk.{count};
@@ -16,7 +18,7 @@ ghost use Rattle.walk.specs.Input.{every};
 ghost use lib.Seq.{paste};
 
 // One word per session, 0 from the last session on.
-pub type Matrix = [u64; 32];
+pub type Matrix = [u64; session::SESSIONS];
 
 fn unary_at(code: u8, x: u64, length: u8) -> u64
     ensures { λ w. ⌜ UnaryAt code x length w ⌝ }
@@ -43,10 +45,10 @@ fn leaf_at(code: u8, x: u64, length: u8) -> u64
 }
 
 fn unary_rows(r: usize, lengths: &[u8], matrices: &[u64], code: u8, from: usize) -> Matrix
-    requires { ⌜ (r ≤ 32) × (r ≤ length (now lengths)) × (from + r ≤ length (now matrices)) ⌝ }
+    requires { ⌜ (r ≤ sessions) × (r ≤ length (now lengths)) × (from + r ≤ length (now matrices)) ⌝ }
     ensures { λ rows. ⌜ UnaryRows r (now (lengths .entry)) (now (matrices .entry)) code from rows ⌝ }
 {
-    let mut rows = [0u64; 32];
+    let mut rows = [0u64; session::SESSIONS];
     let mut j: usize = 0;
     while j < r {
         rows[j] = unary_at(code, matrices[from + j], lengths[j]);
@@ -63,10 +65,10 @@ fn binary_rows(
     left: usize,
     right: usize,
 ) -> Matrix
-    requires { ⌜ (r ≤ 32) × (r ≤ length (now lengths)) × (left + r ≤ length (now matrices)) × (right + r ≤ length (now matrices)) ⌝ }
+    requires { ⌜ (r ≤ sessions) × (r ≤ length (now lengths)) × (left + r ≤ length (now matrices)) × (right + r ≤ length (now matrices)) ⌝ }
     ensures { λ rows. ⌜ BinaryRows r (now (lengths .entry)) (now (matrices .entry)) code left right rows ⌝ }
 {
-    let mut rows = [0u64; 32];
+    let mut rows = [0u64; session::SESSIONS];
     let mut j: usize = 0;
     while j < r {
         rows[j] = binary_at(code, matrices[left + j], matrices[right + j], lengths[j]);
@@ -76,10 +78,10 @@ fn binary_rows(
 }
 
 fn leaf_rows(r: usize, m: usize, lengths: &[u8], words: &[u64], code: u8, number: usize) -> Matrix
-    requires { ⌜ (r ≤ 32) × (m ≤ 65535) × (r ≤ length (now lengths)) × (number < m) × (m * r ≤ length (now words)) ⌝ }
+    requires { ⌜ (r ≤ sessions) × (m ≤ mostLeaves) × (r ≤ length (now lengths)) × (number < m) × (m * r ≤ length (now words)) ⌝ }
     ensures { λ rows. ⌜ LeafRows r m (now (lengths .entry)) (now (words .entry)) code number rows ⌝ }
 {
-    let mut rows = [0u64; 32];
+    let mut rows = [0u64; session::SESSIONS];
     let mut j: usize = 0;
     let mut at = number;
     while j < r {
@@ -125,7 +127,7 @@ fn agrees_at(x: u64, length: u8, mark: u8) -> bool
 
 // Whether exactly the sessions marked 1 accept.
 pub(crate) fn agrees(r: usize, marks: &[u8], lengths: &[u8], rows: &Matrix) -> bool
-    requires { ⌜ (r ≤ 32) × (r ≤ length (now marks)) × (r ≤ length (now lengths)) ⌝ }
+    requires { ⌜ (r ≤ sessions) × (r ≤ length (now marks)) × (r ≤ length (now lengths)) ⌝ }
     ensures { λ b. ⌜ b ≡ every (count 0 r) (agreesAt (now (marks .entry)) (now (lengths .entry)) (now (rows .entry))) ⌝ }
 {
     let mut j: usize = 0;
@@ -141,7 +143,7 @@ pub(crate) fn agrees(r: usize, marks: &[u8], lengths: &[u8], rows: &Matrix) -> b
 
 // Whether the matrix that starts at `from` is the same in every row.
 fn same_at(r: usize, matrices: &[u64], rows: &Matrix, from: usize) -> bool
-    requires { ⌜ (r ≤ 32) × (from + r ≤ length (now matrices)) ⌝ }
+    requires { ⌜ (r ≤ sessions) × (from + r ≤ length (now matrices)) ⌝ }
     ensures { λ b. ⌜ SameAt r (now (rows .entry)) (now (matrices .entry)) from b ⌝ }
 {
     let mut j: usize = 0;
@@ -156,7 +158,7 @@ fn same_at(r: usize, matrices: &[u64], rows: &Matrix, from: usize) -> bool
 
 // Whether one of the kept matrices is the same.
 pub(crate) fn known(r: usize, matrices: &[u64], kept: usize, rows: &Matrix) -> bool
-    requires { ⌜ (r ≤ 32) × (kept * r ≤ length (now matrices)) ⌝ }
+    requires { ⌜ (r ≤ sessions) × (kept * r ≤ length (now matrices)) ⌝ }
     ensures { λ b. ⌜ Known r (now (rows .entry)) (now (matrices .entry)) kept b ⌝ }
 {
     let mut p: usize = 0;
@@ -173,7 +175,7 @@ pub(crate) fn known(r: usize, matrices: &[u64], kept: usize, rows: &Matrix) -> b
 
 // Writes the rows from `from` on.
 pub(crate) fn store(r: usize, matrices: &mut [u64], rows: &Matrix, from: usize)
-    requires { ⌜ (r ≤ length (now rows)) × (r ≤ 32) × (from + r ≤ length (now matrices)) ⌝ }
+    requires { ⌜ (r ≤ length (now rows)) × (r ≤ sessions) × (from + r ≤ length (now matrices)) ⌝ }
     ensures { λ u. ⌜ now (matrices .exit) ≡ paste (now (matrices .entry)) from (now (rows .entry)) r ⌝ }
 {
     let mut j: usize = 0;

@@ -3,6 +3,7 @@ use sequence::operators::Group;
 use sequence::operators::operator_of;
 ghost use Prim.Native.Nat.{_≤_};
 ghost use lib.ListN.{length};
+ghost use Rattle.sequence.specs.Limits.{sessions, room as mostRoom};
 ghost use Rattle.sequence.specs.Refusals.{Decided};
 ghost use Rattle.search.specs.Table.{cols};
 ghost use Rattle.search.specs.Refusals.{searchRows};
@@ -88,7 +89,7 @@ fn has_room(
     sizes: &[u8],
     matrices: &[u64],
 ) -> bool
-    requires { ⌜ (r ≤ 32) × (room ≤ 4096) ⌝ }
+    requires { ⌜ (r ≤ sessions) × (room ≤ mostRoom) ⌝ }
     ensures { λ b. ⌜ RoomTold r room
         (cols (now (codes .entry)) (now (lefts .entry)) (now (rights .entry)) (now (sizes .entry)) (now (matrices .entry))) b ⌝ }
 {

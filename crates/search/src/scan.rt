@@ -7,6 +7,7 @@ use crate::matrix::rows_of;
 use sequence::operators::operator_of;
 ghost use mathlib.Core.Path.{_≡_};
 ghost use Prim.Native.Nat.{_≤_};
+ghost use Rattle.search.specs.Costs.{mostLeaves};
 ghost use Rattle.search.specs.Scan.{OneAsks, OneDoes, BothAsks, BothDoes, RowAsks, RowDoes, ColumnAsks, ColumnDoes, PairsAsks, PairsDoes, SplitsAsks, SplitsDoes, UnaryRowAsks, UnaryRowDoes, UnaryAsks, UnaryDoes, leafCode, leafLeft, leafCount, SeedsAsks, SeedsDoes, ScanAsks, ScanDoes};
 
 // Where a size's candidates go on: the split (0 before the pairs), the left place, or the number of a leaf, the right place, the operator's
@@ -468,7 +469,7 @@ fn leaf_left(m: usize, p: usize) -> usize
 }
 
 fn leaf_count(given: Given) -> usize
-    requires { ⌜ given .propositions ≤ 65535 ⌝ }
+    requires { ⌜ given .propositions ≤ mostLeaves ⌝ }
     ensures { λ r. ⌜ r ≡ leafCount given ⌝ }
 {
     if given.constants == 1 {

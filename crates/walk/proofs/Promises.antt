@@ -4,7 +4,7 @@ use mathlib.Core.Path.{_≡_, refl, sym, ap, _∙_, subst}
 use mathlib.Core.Logic.{_⊎_, ⊎-elim}
 use mathlib.Core.Bool.{true≢false}
 use mathlib.Core.List.{List, [], _∷_, _++_, List·Memᴰ·head, List·Memᴰ·tail, List·Memᴰ·not-nil, List·Memᴰ·cases-cons}
-use Prim.Native.Nat.{ℕ, suc, _+_, _≤_}
+use Prim.Native.Nat.{ℕ, suc, _+_, _≤_, _<_}
 use native.Mathlib.Omega.{arith}
 use lib.ListN.{length}
 use Rattle.words.specs.Word.{Means}
@@ -12,11 +12,12 @@ use Rattle.walk.specs.Formula.{Formula, size, Holds, Separates, Offered,
 use Rattle.walk.specs.Nodes.{Node, codes}
 use Rattle.walk.specs.Walk.{Candidate, Ending, found, full, none, State, going, ended, finish, after, walk}
 use Rattle.walk.specs.Input.{Input, Passes, session, sessions, language, lengthOf, row, separating, offer, search}
-use Rattle.walk.specs.Promises.{Table, nodes, NoneBelow, Alike, Apart, Found, Full, Keeps, KeepsAll, Kept, FoundSmallest, NoneMeansNone, FullNeedsRoom, KeptDistinct, WalkEnds}
+use Rattle.walk.specs.Promises.{Table, nodes, NoneBelow, Alike, Apart, Found, KeepsNext, Full, Keeps, KeepsAll, Kept, FoundSmallest, NoneMeansNone, FullNeedsRoom, KeptDistinct, WalkEnds}
 use Rattle.walk.proofs.Trees.{Is, is-size, spells-size, Ordered}
 use Rattle.walk.proofs.Pass.{Rejected, Distinct, Tidy}
 use Rattle.walk.proofs.Smallest.{Needs, Ours, Smallest, Spills, EndsWell, Says, walk-says}
-use Rattle.walk.proofs.Reading.{lawful, from-offered, offered-from, row-means, agrees-separates, alike-matrix}
+use Rattle.walk.proofs.Reading.{lawful, from-offered, offered-from, row-means, agrees-separates, length-matrix, alike-matrix}
+use Rattle.walk.proofs.Steady.{keeps-next}
 
 module _ (i : Input) (ok : Passes i) where
   needs-below : (s : ℕ) → Needs (offer i) s → NoneBelow i s
@@ -59,6 +60,7 @@ module _ (i : Input) (ok : Passes i) where
       record {
         spelled = w .spelled;
         offered = o;
+        long = ap length (w .rows) ∙ length-matrix i ok t;
         means = λ j l. subst (λ (m : List ℕ). Means (lengthOf i j) (row m j) (Holds (session i j .trace) t)) (sym (w .rows)) (row-means i ok t o j l);
         failed = failed x c t w r;
       }
@@ -100,12 +102,14 @@ module _ (i : Input) (ok : Passes i) where
   }
 
   -- the kept formulas and the one more
-  full-one : (s : ℕ) (k : Table) → Tidy (offer i) (i .room) k → Ours (offer i) k → Spills (offer i) (i .room) (i .bound) s k → Full i s k
-  full-one s k d (o, f) w =
+  full-one : (s : ℕ) (k : Table) → Tidy (offer i) (i .room) k → Ours (offer i) k → Spills (offer i) (i .room) (i .bound) s k
+      → ((c : ℕ) → i .room < c → KeepsNext i s k c) → Full i s k
+  full-one s k d (o, f) w next =
       let extra = w .formula .0 in
       let rest = spelled [] k o f in
       record {
         all-kept = w .as-many;
+        needs = next;
         formulas = extra ∷ rest .formulas;
         beyond = omega (arith, rest .as-many, w .as-many);
         ours = λ t m. ⊎-elim
@@ -135,7 +139,7 @@ none-means-none i ok k n q = needs-below i ok (i .bound + 1) (λ t f a. let h = 
 
 -- (3)
 pub full-needs-room : FullNeedsRoom
-full-needs-room i ok s k n q = let w = said i ok (full s) k n q in full-one i ok s k (w .0) (w .1) (w .2)
+full-needs-room i ok s k n q = let w = said i ok (full s) k n q in full-one i ok s k (w .0) (w .1) (w .2) (keeps-next i s k n q)
 
 -- (5)
 pub kept-distinct : KeptDistinct

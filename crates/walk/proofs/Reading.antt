@@ -176,7 +176,7 @@ module _ (i : Input) (ok : Passes i) where
 
   -- ---- alike
 
-  length-matrix : (t : Formula) → length (matrix (offer i) t) ≡ i .sessions
+  pub length-matrix : (t : Formula) → length (matrix (offer i) t) ≡ i .sessions
   length-matrix (leaf c) = length-rows 0 (i .sessions) (leafRow i c)
   length-matrix (unary op t) = length-rows 0 (i .sessions) (λ j. unaryRow op (lengthOf i j) (row (matrix (offer i) t) j))
   length-matrix (binary op l r) =

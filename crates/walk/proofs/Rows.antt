@@ -214,18 +214,11 @@ binary-row-means op {n} x y h =
     (binary-agree op n (On (isOn x)) (At x) (On (isOn y)) (At y) (is-on x n) (is-on y n))
 
 -- whatever word has that meaning is the row: so the operators' contracts fix the same word
-pub unary-row-only : (op : Unary) {n r : ℕ} (x : ℕ) → Means n r (unaryReading op n (At x)) → r ≡ unaryRow op n x
-unary-row-only op x m = means-unique m (unary-row-means op x (m .wf .short))
+pub unary-row-only : UnaryRowOnly
+unary-row-only op n r x m = means-unique m (unary-row-means op x (m .wf .short))
 
-pub binary-row-only : (op : Binary) {n r : ℕ} (x y : ℕ) → Means n r (binaryReading op n (At x) (At y)) → r ≡ binaryRow op n x y
-binary-row-only op x y m = means-unique m (binary-row-means op x y (m .wf .short))
-
--- the same as promises, which have no argument left out
-pub unary-only : UnaryRowOnly
-unary-only op n r x m = unary-row-only op x m
-
-pub binary-only : BinaryRowOnly
-binary-only op n r x y m = binary-row-only op x y m
+pub binary-row-only : BinaryRowOnly
+binary-row-only op n r x y m = means-unique m (binary-row-means op x y (m .wf .short))
 
 pub constant-row-means : (b : Bool) {n : ℕ} → n ≤ width → Means n (constantRow b n) (λ i. b ≡ true)
 unfolding constantRow

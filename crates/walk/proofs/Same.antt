@@ -100,7 +100,7 @@ every-same [] f g h = refl
 every-same (j ∷ js) f g h = ap₂ (λ (a b : Bool). a && b) (h j (List·Memᴰ·head refl)) (every-same js f g (λ k m. h k (List·Memᴰ·tail m)))
 
 -- the words lie m per session
-inside : (m r q p : ℕ) → q < r → p < m → q * m + p < m * r
+pub inside : (m r q p : ℕ) → q < r → p < m → q * m + p < m * r
 inside m r q p h l = omega (arith, suc-mul q m, mul-le-mul-right m h, mul-comm m r)
 
 module _ (r m b room constants : ℕ) (us bs : List ℕ) where

@@ -1,11 +1,11 @@
 -- A larger bound or more room never changes what was found: an ended walk stays as it is through the sizes after, and two walks with different
--- room are the same until the smaller room is full.
+-- room are the same until the smaller room is full; then the other keeps the formula for which there was no place.
 -- Assumes nothing.
-use mathlib.Core.Path.{_≡_, refl, sym, ap, _∙_}
+use mathlib.Core.Path.{_≡_, refl, sym, ap, _∙_, subst}
 use mathlib.Core.Logic.{_⊎_, inl, inr, ⊎-elim}
 use mathlib.Core.Bool.{Bool, true, false}
-use mathlib.Core.List.{List, [], _∷_, foldl}
-use Prim.Native.Nat.{ℕ, zero, suc, _≤_}
+use mathlib.Core.List.{List, [], _∷_, _++_, foldl, append-assoc}
+use Prim.Native.Nat.{ℕ, zero, suc, _≤_, _<_}
 use native.Mathlib.Omega.{arith}
 use native.Mathlib.Nat.{eq-or-lt-of-le}
 use lib.ListN.{length}
@@ -13,9 +13,13 @@ use lib.Dec.{leb}
 use borrow.Author.Tests.{leb-true, leb-false}
 use Rattle.walk.specs.Nodes.{Node}
 use Rattle.walk.specs.Walk.{Offer, Candidate, Ending, found, full, State, going, ended, kept, known, judge, layer, consider, through, after, finish, walk}
-use Rattle.walk.specs.Input.{Input, separating, offer}
-use Rattle.walk.specs.Promises.{again, LargerBoundSame, LargerRoomSame, FoundStays}
-use Rattle.walk.proofs.Pass.{stays}
+use Rattle.walk.specs.Input.{Input, separating, offer, search}
+use Rattle.walk.specs.Promises.{Table, again, KeepsNext, LargerBoundSame, LargerRoomSame, FoundStays}
+use Rattle.walk.proofs.Trees.{Lawful}
+use Rattle.walk.proofs.Pass.{stays, grown, Tidy, tidy}
+use Rattle.walk.proofs.Smallest.{Says, walk-says}
+use Rattle.walk.proofs.Reading.{lawful}
+use Rattle.walk.proofs.Same.{same-where-read}
 
 module _ {L U B Mat : Type 0} (O : Offer L U B Mat) where
   module _ (C : ℕ) where
@@ -43,49 +47,84 @@ module _ {L U B Mat : Type 0} (O : Offer L U B Mat) where
 
   -- ---- more room
 
-  abbrev IsFull : State Mat → Type 0
-  IsFull st = (s : ℕ) × (k : List (Candidate Mat)) × (n : ℕ) × (st ≡ ended (full s) k n)
+  -- all of k is kept and, at the place after them, one of size s
+  abbrev pub Next : ℕ → List (Candidate Mat) → State Mat → Type 0
+  Next s k y = (d : Candidate Mat) × (more : List (Candidate Mat)) × (d .node .size ≡ s) × (kept y ≡ k ++ (d ∷ more))
 
-  module _ (C D : ℕ) (le : C ≤ D) where
+  module _ (Z : Lawful O) (C D : ℕ) (le : C ≤ D) where
+    -- the first walk was full; then the second, where it has more room, kept the one for which there was no place
+    abbrev Parts : State Mat → State Mat → Type 0
+    Parts x y = (s : ℕ) × (k : List (Candidate Mat)) × (n : ℕ) × (x ≡ ended (full s) k n) × (C < D → Next s k y)
+
     -- the same, unless the first was full
     abbrev SameUnlessFull : State Mat → State Mat → Type 0
-    SameUnlessFull x y = (y ≡ x) ⊎ IsFull x
+    SameUnlessFull x y = (y ≡ x) ⊎ Parts x y
 
-    same-judge : (a b : Bool) (c : Candidate Mat) (k : List (Candidate Mat)) (n : ℕ) → (r r′ : Bool) → leb C (length k) ≡ r → leb D (length k) ≡ r′
-        → SameUnlessFull (judge O a b r c k n) (judge O a b r′ c k n)
+    same-judge : (a b : Bool) (c : Candidate Mat) (k : List (Candidate Mat)) (n : ℕ) → length k ≤ C
+        → (r r′ : Bool) → leb C (length k) ≡ r → leb D (length k) ≡ r′ → SameUnlessFull (judge O a b r c k n) (judge O a b r′ c k n)
     unfolding judge
-    same-judge true b c k n r r′ e f = inl refl
-    same-judge false true c k n r r′ e f = inl refl
-    same-judge false false c k n true r′ e f = inr (c .node .size, k, n, refl)
-    same-judge false false c k n false true e f = absurd (omega (arith, leb-false C (length k) e, leb-true D (length k) f))
-    same-judge false false c k n false false e f = inl refl
+    same-judge true b c k n l r r′ e f = inl refl
+    same-judge false true c k n l r r′ e f = inl refl
+    same-judge false false c k n l true true e f = inr (c .node .size, k, n, refl, λ h. absurd (omega (arith, leb-true D (length k) f)))
+    same-judge false false c k n l true false e f = inr (c .node .size, k, n, refl, λ h. (c, [], refl, refl))
+    same-judge false false c k n l false true e f = absurd (omega (arith, leb-false C (length k) e, leb-true D (length k) f))
+    same-judge false false c k n l false false e f = inl refl
 
-    same-consider : (st : State Mat) (c : Candidate Mat) → SameUnlessFull (consider O C st c) (consider O D st c)
+    same-consider : (st : State Mat) (c : Candidate Mat) → length (kept st) ≤ C → SameUnlessFull (consider O C st c) (consider O D st c)
     unfolding consider
-    same-consider (going k n) c = same-judge (O .agrees (c .matrix)) (known O (c .matrix) k) c k (suc n) (leb C (length k)) (leb D (length k)) refl refl
-    same-consider (ended e k n) c = inl refl
+    same-consider (going k n) c l = same-judge (O .agrees (c .matrix)) (known O (c .matrix) k) c k (suc n) l (leb C (length k)) (leb D (length k)) refl refl
+    same-consider (ended e k n) c l = inl refl
 
-    still-full : (cs : List (Candidate Mat)) (st : State Mat) → IsFull st → IsFull (foldl (consider O C) st cs)
-    still-full cs st (s, k, n, e) = (s, k, n, ap (λ (x : State Mat). foldl (consider O C) x cs) e ∙ stays O C (full s) k n cs)
+    -- whatever comes, what was kept stays
+    still-full : (cs ds : List (Candidate Mat)) (x y : State Mat) → Parts x y → Parts (foldl (consider O C) x cs) (foldl (consider O D) y ds)
+    still-full cs ds x y (s, k, n, e, w) = (
+      s,
+      k,
+      n,
+      ap (λ (z : State Mat). foldl (consider O C) z cs) e ∙ stays O C (full s) k n cs,
+      λ h. let (d, more, size, keeps) = w h in
+          let g = grown O D Z ds y in
+          (d, more ++ g .new, size, g .longer ∙ ap (λ (z : List (Candidate Mat)). z ++ g .new) keeps ∙ append-assoc k (d ∷ more) (g .new)),
+    )
 
-    same-fold : (cs : List (Candidate Mat)) (st : State Mat) → SameUnlessFull (foldl (consider O C) st cs) (foldl (consider O D) st cs)
-    same-fold [] st = inl refl
-    same-fold (c ∷ cs) st =
+    same-fold : (cs : List (Candidate Mat)) (st : State Mat) → Tidy O C (kept st) → SameUnlessFull (foldl (consider O C) st cs) (foldl (consider O D) st cs)
+    same-fold [] st t = inl refl
+    same-fold (c ∷ cs) st t =
         ⊎-elim
-        (λ e. ⊎-elim (λ f. inl (ap (λ (s : State Mat). foldl (consider O D) s cs) e ∙ f)) inr (same-fold cs (consider O C st c)))
-        (λ h. inr (still-full cs (consider O C st c) h)) (same-consider st c)
+        (λ e. ⊎-elim
+        (λ f. inl (ap (λ (s : State Mat). foldl (consider O D) s cs) e ∙ f))
+        (λ h. inr (subst (λ (s : State Mat). Parts (foldl (consider O C) (consider O C st c) cs) (foldl (consider O D) s cs)) (sym e) h))
+        (same-fold cs (consider O C st c) (tidy O C Z (c ∷ []) st t)))
+        (λ h. inr (still-full cs cs (consider O C st c) (consider O D st c) h)) (same-consider st c (t .0))
+
+    tidy-after : (b : ℕ) → Tidy O C (kept (after O C b))
+    unfolding after through
+    tidy-after zero = (omega arith, tt)
+    tidy-after (suc b) = tidy O C Z (layer O (suc b) (kept (after O C b))) (after O C b) (tidy-after b)
 
     same-after : (b : ℕ) → SameUnlessFull (after O C b) (after O D b)
     unfolding after through
     same-after zero = inl refl
     same-after (suc b) =
         ⊎-elim
-        (λ e. ⊎-elim (λ f. inl (ap (through O D (suc b)) e ∙ f)) inr (same-fold (layer O (suc b) (kept (after O C b))) (after O C b)))
-        (λ h. inr (still-full (layer O (suc b) (kept (after O C b))) (after O C b) h)) (same-after b)
+        (λ e. ⊎-elim
+        (λ f. inl (ap (through O D (suc b)) e ∙ f))
+        (λ h. inr (subst (λ (s : State Mat). Parts (through O C (suc b) (after O C b)) (through O D (suc b) s)) (sym e) h))
+        (same-fold (layer O (suc b) (kept (after O C b))) (after O C b) (tidy-after b)))
+        (λ h. inr (still-full (layer O (suc b) (kept (after O C b))) (layer O (suc b) (kept (after O D b))) (after O C b) (after O D b) h)) (same-after b)
+
+    kept-finish : (st : State Mat) → kept (finish st) ≡ kept st
+    unfolding finish
+    kept-finish (going k n) = refl
+    kept-finish (ended e k n) = refl
 
     pub larger-room : (b : ℕ) → SameUnlessFull (walk O C b) (walk O D b)
     unfolding walk finish
-    larger-room b = ⊎-elim (λ e. inl (ap finish e)) (λ h. inr (h .0, h .1, h .2, ap finish (h .3))) (same-after b)
+    larger-room b =
+        ⊎-elim
+        (λ e. inl (ap finish e))
+        (λ (s, k, n, e, w). inr (s, k, n, ap finish e, λ h. let (d, more, size, keeps) = w h in (d, more, size, kept-finish (after O D b) ∙ keeps)))
+        (same-after b)
 
 -- the offer has nothing of bound and room
 again-offer : (i : Input) (b c : ℕ) → offer (again i b c) ≡ offer i
@@ -96,10 +135,41 @@ again-offer i b c = refl
 pub larger-bound-same : LargerBoundSame
 larger-bound-same i b h root k n q = rw again-offer (larger-bound (offer i) (i .room) (i .bound) b h root k n q)
 
-pub found-stays : FoundStays
-found-stays i b c hb hc root k n q =
-    rw again-offer (larger-bound (offer i) c (i .bound) b hb root k n
-    (⊎-elim (λ e. e ∙ q) (λ f. let z : _≡_ {A = ℕ} 0 1 = cc (f .3) in absurd (omega arith)) (larger-room (offer i) (i .room) c hc (i .bound))))
-
 pub larger-room-same : LargerRoomSame
-larger-room-same i c h = rw again-offer (larger-room (offer i) (i .room) c h (i .bound))
+larger-room-same i c h =
+    rw again-offer (⊎-elim inl (λ (s, k, n, e, w). inr (s, k, n, e)) (larger-room (offer i) (lawful i) (i .room) c h (i .bound)))
+
+found-again : (i : Input) (b c : ℕ) → i .bound ≤ b → i .room ≤ c → (root : Node) (k : Table) (n : ℕ)
+    → search i ≡ ended (found root) k n → search (again i b c) ≡ ended (found root) k n
+found-again i b c hb hc root k n q =
+    rw again-offer (larger-bound (offer i) c (i .bound) b hb root k n
+    (⊎-elim (λ e. e ∙ q) (λ f. let z : _≡_ {A = ℕ} 0 1 = cc (f .3) in absurd (omega arith)) (larger-room (offer i) (lawful i) (i .room) c hc (i .bound))))
+
+pub found-stays : FoundStays
+found-stays i j w root k n q =
+    sym (same-where-read (again i (j .bound) (j .room)) j (w .same)) ∙ found-again i (j .bound) (j .room) (w .bound) (w .room) root k n q
+
+-- a full walk has kept as many as there is room for
+full-long : {L U B Mat : Type 0} (O : Offer L U B Mat) (Z : Lawful O) (C b s : ℕ) (k : List (Candidate Mat)) (n : ℕ) → walk O C b ≡ ended (full s) k n
+    → length k ≡ C
+full-long O Z C b s k n q = subst (Says O C Z b) q (walk-says O C Z b) .2 .as-many
+
+-- (3): where a walk is full, with any larger room it keeps the same and one more
+pub keeps-next : (i : Input) (s : ℕ) (k : Table) (n : ℕ) → search i ≡ ended (full s) k n → (c : ℕ) → i .room < c → KeepsNext i s k c
+keeps-next i s k n q c h =
+    ⊎-elim
+    (λ e. absurd (omega (
+      arith,
+      full-long (offer i) (lawful i) (i .room) (i .bound) s k n q,
+      full-long (offer i) (lawful i) c (i .bound) s k n (e ∙ q),
+    )))
+    (λ (s′, k′, n′, e, w). let (d, more, size, keeps) = w h in
+    let es : s′ ≡ s = cc in
+    let ek : k′ ≡ k = cc in
+    record {
+      next = d;
+      sized = size ∙ es;
+      more = more;
+      keeps = rw again-offer (keeps ∙ ap (λ (l : Table). l ++ (d ∷ more)) ek);
+    })
+    (larger-room (offer i) (lawful i) (i .room) c (omega arith) (i .bound))

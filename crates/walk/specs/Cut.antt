@@ -15,7 +15,7 @@ pub data Cut (Mat : Type 0) : Type 0 where
 module _ {L U B Mat : Type 0} (O : Offer L U B Mat) (C b : ℕ) where
   -- the cut walk at size s after j of its candidates, where d sizes are left, s among them. An ended walk is at its end. One that goes on
   -- stands before the next candidate of size s; if there is none, before the first candidate of the next size that has any; and if no size
-  -- has any, "a walk with no candidate left has ended"
+  -- has any, request E7's "a walk with no candidate left has ended"
   unfoldable pub settle : ℕ → ℕ → ℕ → State Mat → Cut Mat
   settle d s j (ended e k n) = over e k n
   settle zero s j (going k n) = over none k n

@@ -1,6 +1,6 @@
 -- What is promised of every answer of the walk, for every input that passes the checks. Each is proved under its name, in proofs/: found-smallest
--- and so on (Promises), larger-bound-same (Steady), tried-is-position (Position), cut-resume (Resume), row-means (Reading),
--- unary-only and binary-only (Rows), same-where-read (Same), one-formula (Nodes).
+-- and so on (Promises), larger-bound-same, found-stays (Steady), tried-is-position (Position), cut-resume (Resume), row-means (Reading),
+-- unary-row-only and binary-row-only (Rows), same-where-read (Same), one-formula (Nodes).
 -- Assumes nothing.
 use mathlib.Core.Path.{_≡_}
 use mathlib.Core.Logic.{_↔_, _⊎_}
@@ -12,7 +12,7 @@ use Rattle.words.specs.Word.{At, Means}
 use Rattle.sequence.specs.Operators.{Unary, Binary, unaryReading, binaryReading}
 use Rattle.walk.specs.Formula.{Formula, size, Holds, Separates, Offered, _∈_}
 use Rattle.walk.specs.Nodes.{Node, Spells, codes}
-use Rattle.walk.specs.Walk.{Candidate, Ending, found, full, none, going, ended, tried, matrix, leftSizes, consider, trail}
+use Rattle.walk.specs.Walk.{Candidate, Ending, found, full, none, going, ended, kept, tried, matrix, leftSizes, consider, trail}
 use Rattle.walk.specs.Rows.{unaryRow, binaryRow}
 use Rattle.walk.specs.Input.{Input, Passes, session, sessions, language, lengthOf, row, separating, offer, search}
 use Rattle.walk.specs.Cut.{Cut, more, over, start, turn}
@@ -23,6 +23,21 @@ Table = List (Candidate (List ℕ))
 
 abbrev pub nodes : Table → List Node
 nodes k = map (λ c. c .node) k
+
+-- the same input but for bound and room
+abbrev pub again : Input → ℕ → ℕ → Input
+again i b c = record {
+  sessions = i .sessions;
+  propositions = i .propositions;
+  bound = b;
+  room = c;
+  constants = i .constants;
+  marks = i .marks;
+  lengths = i .lengths;
+  words = i .words;
+  unary = i .unary;
+  binary = i .binary;
+}
 
 module _ (i : Input) where
   -- ---- in terms of the reading
@@ -53,10 +68,19 @@ module _ (i : Input) where
     pub separates : Separates (sessions i) formula
     pub smallest : NoneBelow (size formula)
 
-  -- "FULL at size s": the walk needed a place beyond C, for there are C + 1 formulas of size up to s of which none separates and no two
-  -- are alike; and no formula smaller than s separates
+  -- with room c the walk keeps all of k and, at the place after them, a formula of size s
+  pub record KeepsNext (s : ℕ) (k : Table) (c : ℕ) : Type 0 where
+    pub next : Candidate (List ℕ)
+    pub sized : next .node .size ≡ s
+    pub more : Table
+    pub keeps : kept (search (again i (i .bound) c)) ≡ k ++ (next ∷ more)
+
+  -- the mission's ""Full at size s" only where the walk needs a place beyond the table's room, and then no such formula smaller than s
+  -- separates": C are kept, and with any larger room the walk keeps the same and, at place C, one more, of size s. So there are C + 1 formulas
+  -- of a size up to s, of which none separates and no two are alike
   pub record Full (s : ℕ) (k : Table) : Type 0 where
     pub all-kept : length k ≡ i .room
+    pub needs : (c : ℕ) → i .room < c → KeepsNext s k c
     pub formulas : List Formula
     pub beyond : length formulas ≡ i .room + 1
     pub ours : (t : Formula) → t ∈ formulas → Offered (language i) t × (size t ≤ s) × (Separates (sessions i) t → ⊥)
@@ -64,10 +88,12 @@ module _ (i : Input) where
     pub within : s ≤ i .bound
     pub smaller : NoneBelow s
 
-  -- a kept formula: its node, over those kept before it, and row j of its matrix, which has bit p set exactly where the formula holds at p
+  -- a kept formula: its node, over those kept before it, and its matrix of r words, of which row j has bit p set exactly where the formula
+  -- holds at p of session j
   pub record Keeps (before : Table) (c : Candidate (List ℕ)) (t : Formula) : Type 0 where
     pub spelled : Spells codes (nodes before) (c .node) t
     pub offered : Offered (language i) t
+    pub long : length (c .matrix) ≡ i .sessions
     pub means : (j : ℕ) → j < i .sessions → Means (lengthOf i j) (row (c .matrix) j) (Holds (session i j .trace) t)
     pub failed : Separates (sessions i) t → ⊥
 
@@ -114,23 +140,8 @@ NoneMeansNone = (i : Input) → Passes i → (k : Table) (n : ℕ) → search i 
 abbrev pub FullNeedsRoom : Type 0
 FullNeedsRoom = (i : Input) → Passes i → (s : ℕ) (k : Table) (n : ℕ) → search i ≡ ended (full s) k n → Full i s k
 
--- ---- (4): "with the same sessions, operators in the same order and choice of constants, a larger bound or a larger room never changes a
--- formula found"
-
--- the same input but for bound and room
-abbrev pub again : Input → ℕ → ℕ → Input
-again i b c = record {
-  sessions = i .sessions;
-  propositions = i .propositions;
-  bound = b;
-  room = c;
-  constants = i .constants;
-  marks = i .marks;
-  lengths = i .lengths;
-  words = i .words;
-  unary = i .unary;
-  binary = i .binary;
-}
+-- ---- (4): the mission's "With the same sessions, operators in the same order and choice of constants, a larger bound or table never changes
+-- a formula found"
 
 abbrev pub LargerBoundSame : Type 0
 LargerBoundSame = (i : Input) (b : ℕ) → i .bound ≤ b → (root : Node) (k : Table) (n : ℕ)
@@ -140,10 +151,6 @@ LargerBoundSame = (i : Input) (b : ℕ) → i .bound ≤ b → (root : Node) (k 
 abbrev pub LargerRoomSame : Type 0
 LargerRoomSame = (i : Input) (c : ℕ) → i .room ≤ c
     → (search (again i (i .bound) c) ≡ search i) ⊎ ((s : ℕ) × (k : Table) × (n : ℕ) × (search i ≡ ended (full s) k n))
-
-abbrev pub FoundStays : Type 0
-FoundStays = (i : Input) (b c : ℕ) → i .bound ≤ b → i .room ≤ c → (root : Node) (k : Table) (n : ℕ)
-    → search i ≡ ended (found root) k n → search (again i b c) ≡ ended (found root) k n
 
 -- the two inputs agree where they are looked at: of marks, lengths and words below r, r and m x r
 pub record AgreeWhereRead (i j : Input) : Type 0 where
@@ -161,6 +168,15 @@ pub record AgreeWhereRead (i j : Input) : Type 0 where
 -- so "the same sessions" are the same where they are looked at, whatever lies beyond
 abbrev pub SameWhereRead : Type 0
 SameWhereRead = (i j : Input) → AgreeWhereRead i j → search i ≡ search j
+
+-- j has the sessions, the operators in the same order and the choice of constants of i, and a larger or equal bound and room
+pub record Wider (i j : Input) : Type 0 where
+  pub same : AgreeWhereRead (again i (j .bound) (j .room)) j
+  pub bound : i .bound ≤ j .bound
+  pub room : i .room ≤ j .room
+
+abbrev pub FoundStays : Type 0
+FoundStays = (i j : Input) → Wider i j → (root : Node) (k : Table) (n : ℕ) → search i ≡ ended (found root) k n → search j ≡ ended (found root) k n
 
 -- ---- (5): the count, the kept formulas, the end
 

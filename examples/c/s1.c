@@ -1,0 +1,68 @@
+/* Reads a session file, searches it with a room of 200, prints the formula that is found and checks it. The file is example S1 of document 01: one
+ * proposition p, and two sessions of two snapshots, the good one with p at snapshot 1 and the bad one with p nowhere. */
+#include <stdio.h>
+
+#include "scarfpylon.h"
+
+enum { SESSIONS = 32, NAMES = 16, ROOM = 200, TEXT = 391, OUT = 8 };
+
+static const uint8_t file[] = {
+    0x01, 0x01, 0x70,                                                             /* one name: p */
+    0x02, 0x01, 0x02, 0x02, 0x00, 0x00, 0x00, 0x00, 0x00, 0x00, 0x00,             /* two sessions: good, 2 snapshots, word 2; */
+    0x00, 0x02, 0x00, 0x00, 0x00, 0x00, 0x00, 0x00, 0x00, 0x00,                   /* bad, 2 snapshots, word 0 */
+    0x05, 0x00, 0x01, 0x02, 0x03, 0x04,                                           /* all unary operators */
+    0x06, 0x05, 0x06, 0x07, 0x08, 0x09, 0x0A,                                     /* all binary ones */
+    0x02, 0x00, 0x04,                                                             /* no constants, sizes up to 4 */
+};
+
+static uint8_t marks[SESSIONS], lengths[SESSIONS], unary[5], binary[6];
+static uint64_t words[SESSIONS * NAMES];
+static uint8_t codes[ROOM], sizes[ROOM], text[TEXT];
+static uint16_t lefts[ROOM], rights[ROOM];
+static uint64_t matrices[ROOM * SESSIONS];
+
+static int refused(const char *by, uint64_t result) {
+    if (result == 0) return 0;
+    printf("%s: refused %d", by, (int)(result & 255));
+    if ((result & 255) == 8) printf(" at %llu", (unsigned long long)(result >> 8));
+    printf("\n");
+    return 1;
+}
+
+int main(void) {
+    uint64_t parts[OUT], answer[OUT], written[OUT], verdict[OUT];
+
+    if (refused("read", scarfpylon_read(file, sizeof file, marks, SESSIONS, lengths, SESSIONS, words, SESSIONS * NAMES, unary, 5, binary, 6, parts, OUT)))
+        return 1;
+    size_t r = parts[0], m = parts[1];
+
+    if (refused("search", scarfpylon_search(r, m, parts[6], ROOM, (uint8_t)parts[5], marks, r, lengths, r, words, m * r, unary, parts[3], binary, parts[4],
+                                            codes, ROOM, lefts, ROOM, rights, ROOM, sizes, ROOM, matrices, ROOM * SESSIONS, answer, OUT)))
+        return 1;
+    unsigned long long tried = answer[2], kept = answer[3];
+    if (answer[0] != 1) {
+        if (answer[0] == 2)
+            printf("none tried %llu kept %llu\n", tried, kept);
+        else
+            printf("full size %llu tried %llu kept %llu\n", (unsigned long long)answer[1], tried, kept);
+        return 0;
+    }
+    printf("found size %llu tried %llu kept %llu\n", (unsigned long long)answer[1], tried, kept);
+
+    uint8_t code = (uint8_t)answer[4], size = (uint8_t)answer[7];
+    uint16_t left = (uint16_t)answer[5], right = (uint16_t)answer[6];
+
+    /* the names section is the file's first bytes; the nodes are those that the search kept */
+    if (refused("print", scarfpylon_print(file, parts[2], codes, kept, lefts, kept, rights, kept, sizes, kept, code, left, right, size, text, TEXT, written, OUT)))
+        return 1;
+    printf("%.*s\n", (int)written[0], (const char *)text);
+
+    if (refused("check", scarfpylon_check(r, m, marks, r, lengths, r, words, m * r, codes, kept, lefts, kept, rights, kept, sizes, kept,
+                                          code, left, right, size, verdict, OUT)))
+        return 1;
+    if (verdict[0] == 1)
+        printf("check: separates\n");
+    else
+        printf("check: session %llu disagrees\n", (unsigned long long)verdict[1]);
+    return 0;
+}

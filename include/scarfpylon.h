@@ -1,0 +1,167 @@
+/*
+ * Scarfpylon: learns temporal patterns from recorded sessions.
+ *
+ * Link with target/staticlib/libscarfpylon.a, which `rt staticlib scarfpylon` writes (x86-64 Linux). The library keeps nothing between calls, takes
+ * no memory but the stack, and of the C library needs only memcpy and memset. Every function is defined for every input: what it returns and what it
+ * writes are proved (crates/scarfpylon). examples/c/s1.c is a whole program.
+ *
+ * WHAT IT WORKS ON
+ *
+ * A session is a recording of 0 to 64 snapshots. For each proposition (a fact that a snapshot shows or doesn't) it has one 64-bit word: bit i is set
+ * where the proposition holds at snapshot i, and no bit at or above the session's length is set. A session is marked 1 (good) or 0 (bad).
+ *
+ * A formula says something of a session's snapshots. Its operators have codes:
+ *
+ *     unary    0 `!` not            1 `X` at the next snapshot, if there is one       2 `X[!]` there is a next snapshot, and at it
+ *              3 `F` at some snapshot from here on                                    4 `G` at every snapshot from here on
+ *     binary   5 `|` or             6 `&` and            9 `->` implies              10 `<->` equivalent
+ *              7 `U` f U g: g at some snapshot from here on, and f at every one before that
+ *              8 `R` f R g: g at every snapshot from here on up to the first with f, that one included; without such a one, to the end
+ *     leaves  16 a proposition     17 false             18 true
+ *
+ * A session accepts a formula if it has a snapshot and the formula holds at the first one. A formula separates the sessions if every good one
+ * accepts it and no bad one does.
+ *
+ * A formula is handed over as a list of nodes and one root node over it. The list is four slices of one length: at each place a code, a left and a right
+ * place, and a size. Where the slices differ in length, their count is the shortest one's. A child's place is below its node's own; the root stands
+ * outside the list, and its children may be at any place of it. A proposition has its number (from 0) as its left place, and a field that is not used
+ * is 0: the right place but for binary operators, the left place of false and true. A leaf's size is 1, an operator's 1 plus its children's; no size
+ * is above 31. A list has at most 4,096 nodes.
+ *
+ * WHAT EVERY FUNCTION DOES
+ *
+ * A slice is a pointer and the number of its elements. The pointer is aligned for its type and not NULL, even where the number is 0. A slice that
+ * is written overlaps no other slice of the call.
+ *
+ * Every function returns 0 where it answered. Else it returns the number of a refusal, and has written nothing. The function names the refusals that it
+ * gives, in the order in which it tests for them: the first that applies is given, and it is given in no other case.
+ *
+ *      1   the number of sessions is not 1 to 32, or that of propositions not 1 to 16
+ *      2   the bound is not 1 to 31, the room not 1 to 4,096, or the constants mark not 0 or 1
+ *      3   a slice is shorter than the function asks. Where it asks for a length, a longer slice is good, and what is beyond is not looked at
+ *      4   a length above 64
+ *      5   a bit set at or above the length
+ *      6   a mark other than 0 or 1
+ *      7   a code that is not of its group, or stands twice in its list
+ *      8   a session file or a names section is broken; 256 times the offset of the first offending byte is added
+ *      9   a node list or its root is not as said above
+ *     10   two sequences of unequal length
+ *
+ * So `result & 255` is the number, and for number 8 `result >> 8` is the offset.
+ *
+ * Answers are written to the last slice, `out`, which has at least 8 words; a shorter one is refused with 3. A function names the words that it
+ * writes; the others stay as they were.
+ */
+#ifndef SCARFPYLON_H
+#define SCARFPYLON_H
+
+#include <stddef.h>
+#include <stdint.h>
+
+#ifdef __cplusplus
+extern "C" {
+#endif
+
+/*
+ * One unary operator on one sequence: a length and a word.
+ *
+ * Writes out[0]: the word of the result, which has the same length.
+ * Refuses with 7, 4, 5, then 3 (`out`).
+ */
+uint64_t scarfpylon_unary(uint8_t code, uint64_t length, uint64_t word, uint64_t *out, size_t out_count);
+
+/*
+ * One binary operator on two sequences of one length.
+ *
+ * Writes out[0]: the word of the result.
+ * Refuses with 7, then 4 and 5 of the left sequence, 4 and 5 of the right one, 10, then 3 (`out`).
+ */
+uint64_t scarfpylon_binary(uint8_t code, uint64_t left_length, uint64_t left_word, uint64_t right_length, uint64_t right_word,
+                           uint64_t *out, size_t out_count);
+
+/*
+ * The smallest formula of size up to `bound` that separates the sessions, over the propositions, the constants false and true if `constants` is 1, and the
+ * operators of the two lists. Candidates are tried in a fixed order, by size. Of those that hold at the same snapshots of every session only the first
+ * is kept, and at most `room` are kept.
+ *
+ * Reads marks[sessions], lengths[sessions] and words[propositions * sessions], where the word of proposition p in session i is at i * propositions + p;
+ * and the whole of unary and binary, which may be empty.
+ * Asks for room: codes, lefts, rights and sizes of `room` elements each, matrices of room * sessions words.
+ *
+ * Writes the kept formulas in the order in which they were kept: a node in codes, lefts, rights and sizes, and one word per session in matrices
+ * (place * sessions + session). What is beyond them stays as it was. And
+ *     out[0]  1 found, 2 none, 3 the room is full
+ *     out[1]  found: the formula's size; full: the size at which a place was lacking; none: not written
+ *     out[2]  how many candidates were tried, with the one that decided
+ *     out[3]  how many formulas are kept; a formula that is found is not among them
+ *     out[4] to out[7]  found: its root's code, left, right and size, over the kept nodes; else not written
+ * Found: the formula separates, and no smaller one does. None: no formula up to the bound separates. Full: no formula below that size does.
+ * Refuses with 1, 2, 3 (what is read, the room, `out`), 4, 5, 6, 7.
+ */
+uint64_t scarfpylon_search(size_t sessions, size_t propositions, size_t bound, size_t room, uint8_t constants,
+                           const uint8_t *marks, size_t marks_count, const uint8_t *lengths, size_t lengths_count,
+                           const uint64_t *words, size_t words_count,
+                           const uint8_t *unary, size_t unary_count, const uint8_t *binary, size_t binary_count,
+                           uint8_t *codes, size_t codes_count, uint16_t *lefts, size_t lefts_count,
+                           uint16_t *rights, size_t rights_count, uint8_t *sizes, size_t sizes_count,
+                           uint64_t *matrices, size_t matrices_count,
+                           uint64_t *out, size_t out_count);
+
+/*
+ * Whether a formula, whoever wrote it, separates the sessions. The sessions are as at the search; the nodes are the whole of the four slices, and
+ * code, left, right and size are the root.
+ *
+ * Writes out[0]: 1 if it separates. Else out[0]: 0, and out[1]: the number, from 0, of the first session that disagrees.
+ * Refuses with 1, 3 (what is read of the sessions, `out`), 4, 5, 6, 9. A node is tested even if the root doesn't lead to it.
+ */
+uint64_t scarfpylon_check(size_t sessions, size_t propositions,
+                          const uint8_t *marks, size_t marks_count, const uint8_t *lengths, size_t lengths_count,
+                          const uint64_t *words, size_t words_count,
+                          const uint8_t *codes, size_t codes_count, const uint16_t *lefts, size_t lefts_count,
+                          const uint16_t *rights, size_t rights_count, const uint8_t *sizes, size_t sizes_count,
+                          uint8_t code, uint16_t left, uint16_t right, uint8_t size,
+                          uint64_t *out, size_t out_count);
+
+/*
+ * The text of a formula: `op (child)`, `(left) op (right)`, propositions by name, `true`, `false`. The names are a names section, as a session file
+ * begins with (below), and nothing after it. A proposition's number has to be below the count of names.
+ *
+ * Writes the text at the start of `text`, with no 0 and no newline after it; what is beyond stays as it was. And out[0]: the text's length in
+ * bytes. It is the text's own length that is asked for, and 391 bytes suffice for any formula.
+ * Refuses with 8 (the names; the offset is at most 273), 9, then 3 (`text`, `out`).
+ */
+uint64_t scarfpylon_print(const uint8_t *names, size_t names_count,
+                          const uint8_t *codes, size_t codes_count, const uint16_t *lefts, size_t lefts_count,
+                          const uint16_t *rights, size_t rights_count, const uint8_t *sizes, size_t sizes_count,
+                          uint8_t code, uint16_t left, uint16_t right, uint8_t size,
+                          uint8_t *text, size_t text_count,
+                          uint64_t *out, size_t out_count);
+
+/*
+ * Takes a session file apart. A file has five sections, each after a byte with its count, and nothing follows:
+ *     1 to 16 names         a byte with the length, 1 to 16, then letters (A-Z, a-z), digits or `_`, a letter first; no name twice
+ *     1 to 32 sessions      a byte with the mark, a byte with the length, then one word of 8 bytes per name, low byte first
+ *     unary codes           one byte each, none twice; there may be none
+ *     binary codes          in the same way
+ *     2 settings            the constants mark, and the bound, 1 to 31
+ * All of it has to be good as the search asks for it. The largest good file has 4,450 bytes.
+ *
+ * Writes, each at the start of its slice, what is beyond staying as it was: marks and lengths, one byte per session; words, one per name and session, as
+ * the search reads them; the codes of both lists. And
+ *     out[0]  sessions        out[1]  propositions        out[2]  bytes of the names section, which are the file's first
+ *     out[3]  unary codes     out[4]  binary codes        out[5]  the constants mark        out[6]  the bound
+ * 32 marks, 32 lengths, 512 words, 5 unary and 6 binary codes are room for any file.
+ * Refuses with 8, then 3 (a slice or `out`). The offset of number 8 is that of the first offending byte: of a bad word its first byte, of a repeated name
+ * its length byte, of a file that goes on the first byte too many, of one that ends early its length. It is at most 4,450.
+ */
+uint64_t scarfpylon_read(const uint8_t *file, size_t file_count,
+                         uint8_t *marks, size_t marks_count, uint8_t *lengths, size_t lengths_count,
+                         uint64_t *words, size_t words_count,
+                         uint8_t *unary, size_t unary_count, uint8_t *binary, size_t binary_count,
+                         uint64_t *out, size_t out_count);
+
+#ifdef __cplusplus
+}
+#endif
+
+#endif
