@@ -215,5 +215,6 @@ pub fn run() -> i32 {
     ill_formed_words();
     acceptance();
     matrices();
+    crate::search::findings();
     0
 }

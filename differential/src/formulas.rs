@@ -13,16 +13,16 @@ use crate::words::Random;
 
 /// Operator code, left place, right place, size.
 #[derive(Clone, Copy)]
-struct Node(u8, usize, usize, usize);
+pub struct Node(pub u8, pub usize, pub usize, pub usize);
 
-struct Formula {
-    listed: Vec<Node>,
-    root: Node,
-    tree: FormulaTree,
+pub struct Formula {
+    pub listed: Vec<Node>,
+    pub root: Node,
+    pub tree: FormulaTree,
 }
 
 /// A formula of just that size. Children are listed before their parent; a subtree is sometimes one that is listed already.
-fn formula(random: &mut Random, names: &[String], size: usize) -> Formula {
+pub fn formula(random: &mut Random, names: &[String], size: usize) -> Formula {
     let mut listed: Vec<(Node, Rc<FormulaTree>)> = Vec::new();
     let (root, tree) = grow(random, names, size, &mut listed);
     Formula {
@@ -32,11 +32,19 @@ fn formula(random: &mut Random, names: &[String], size: usize) -> Formula {
     }
 }
 
-fn grow(random: &mut Random, names: &[String], size: usize, listed: &mut Vec<(Node, Rc<FormulaTree>)>) -> (Node, Rc<FormulaTree>) {
+fn grow(
+    random: &mut Random,
+    names: &[String],
+    size: usize,
+    listed: &mut Vec<(Node, Rc<FormulaTree>)>,
+) -> (Node, Rc<FormulaTree>) {
     if size == 1 {
         let leaf = random.below(names.len() as u64 + 2) as usize;
         return match leaf.checked_sub(names.len()) {
-            None => (Node(16, leaf, 0, 1), Rc::new(FormulaTree::Atom(AtomicProposition(names[leaf].clone(), leaf)))),
+            None => (
+                Node(16, leaf, 0, 1),
+                Rc::new(FormulaTree::Atom(AtomicProposition(names[leaf].clone(), leaf))),
+            ),
             Some(0) => (Node(17, 0, 0, 1), Rc::new(FormulaTree::Const(Constant::False))),
             Some(_) => (Node(18, 0, 0, 1), Rc::new(FormulaTree::Const(Constant::True))),
         };
@@ -45,17 +53,28 @@ fn grow(random: &mut Random, names: &[String], size: usize, listed: &mut Vec<(No
         let code = random.below(5) as u8;
         let (place, child) = put(random, names, size - 1, listed);
         let op = oracle::unary(code);
-        return (Node(code, place, 0, size), Rc::new(FormulaTree::UnaryNode { op, child }));
+        return (
+            Node(code, place, 0, size),
+            Rc::new(FormulaTree::UnaryNode { op, child }),
+        );
     }
     let code = 5 + random.below(6) as u8;
     let low = 1 + random.below(size as u64 - 2) as usize;
     let (one, left) = put(random, names, low, listed);
     let (other, right) = put(random, names, size - 1 - low, listed);
     let op = oracle::binary(code);
-    (Node(code, one, other, size), Rc::new(FormulaTree::BinaryNode { op, left, right }))
+    (
+        Node(code, one, other, size),
+        Rc::new(FormulaTree::BinaryNode { op, left, right }),
+    )
 }
 
-fn put(random: &mut Random, names: &[String], size: usize, listed: &mut Vec<(Node, Rc<FormulaTree>)>) -> (usize, Rc<FormulaTree>) {
+fn put(
+    random: &mut Random,
+    names: &[String],
+    size: usize,
+    listed: &mut Vec<(Node, Rc<FormulaTree>)>,
+) -> (usize, Rc<FormulaTree>) {
     let known: Vec<usize> = (0..listed.len()).filter(|&p| listed[p].0 .3 == size).collect();
     if !known.is_empty() && random.below(2) == 0 {
         let place = known[random.below(known.len() as u64) as usize];
@@ -82,10 +101,29 @@ fn nodes(f: &Formula) -> String {
     fields.join("/")
 }
 
+/// Names of several lengths, all different.
+pub fn names(m: usize) -> Vec<String> {
+    let name = |p: usize| {
+        let first = "pqXF_9aZ".chars().nth(p % 4).unwrap();
+        format!("{first}{}{p}", "x_7".repeat(p % 5))
+    };
+    (0..m).map(name).collect()
+}
+
+/// The names section of a session file.
+pub fn section(names: &[String]) -> Vec<u8> {
+    let mut bytes = vec![names.len() as u8];
+    for name in names {
+        bytes.push(name.len() as u8);
+        bytes.extend(name.bytes());
+    }
+    bytes
+}
+
 /// One formula, one session: the questions, each with the answer that the Rust's word, text and size ask for.
 fn questions(random: &mut Random, size: usize, length: u64) -> Vec<(String, String)> {
     let m = 1 + random.below(16) as usize;
-    let names: Vec<String> = (0..m).map(|p| format!("{}{}", "pqXF_9aZ".chars().nth(p % 4).unwrap(), "x_7".repeat(p % 5) + &p.to_string())).collect();
+    let names = names(m);
     let f = formula(random, &names, size);
     assert_eq!(f.tree.size(), size);
     let words: Vec<u64> = (0..m).map(|_| random.word(length)).collect();
@@ -101,10 +139,21 @@ fn questions(random: &mut Random, size: usize, length: u64) -> Vec<(String, Stri
     for part in starts.chunks(32) {
         let good = |i: u64| u64::from(length > 0 && word >> i & 1 == 1);
         let ask = |wrong: Option<usize>| {
-            let marks = part.iter().enumerate().map(|(j, &i)| if wrong == Some(j) { 1 - good(i) } else { good(i) });
+            let marks = part
+                .iter()
+                .enumerate()
+                .map(|(j, &i)| if wrong == Some(j) { 1 - good(i) } else { good(i) });
             let lengths = part.iter().map(|&i| length - i);
             let rows = part.iter().flat_map(|&i| words.iter().map(move |w| w >> i));
-            format!("c {} {}/{}/{}/{}/{}", part.len(), m, numbers(marks), numbers(lengths), numbers(rows), nodes(&f))
+            format!(
+                "c {} {}/{}/{}/{}/{}",
+                part.len(),
+                m,
+                numbers(marks),
+                numbers(lengths),
+                numbers(rows),
+                nodes(&f)
+            )
         };
         asked.push((ask(None), "accepted".to_string()));
         let wrong = random.below(part.len() as u64) as usize;
@@ -112,12 +161,17 @@ fn questions(random: &mut Random, size: usize, length: u64) -> Vec<(String, Stri
     }
 
     let text = f.tree.to_string();
-    let section = std::iter::once(m as u8).chain(names.iter().flat_map(|n| std::iter::once(n.len() as u8).chain(n.bytes())));
-    let section = numbers(section);
+    let section = numbers(section(&names));
     let more = random.below(5) as usize;
     let print = |room: usize| format!("p {section}/{}/{room}", nodes(&f));
-    asked.push((print(text.len() + more), format!("text {} |{}{}|", text.len(), text, ".".repeat(more))));
-    asked.push((print(text.len() - 1), format!("refused 3 |{}|", ".".repeat(text.len() - 1))));
+    asked.push((
+        print(text.len() + more),
+        format!("text {} |{}{}|", text.len(), text, ".".repeat(more)),
+    ));
+    asked.push((
+        print(text.len() - 1),
+        format!("refused 3 |{}|", ".".repeat(text.len() - 1)),
+    ));
     asked
 }
 
@@ -146,7 +200,11 @@ pub fn compare(rounds: u64) -> Result<(usize, usize), String> {
         let output = String::from_utf8(program::output("formulas", input.into_bytes())?).map_err(|e| e.to_string())?;
         let answers: Vec<&str> = output.lines().collect();
         if answers.len() != at - from {
-            return Err(format!("formulas answered {} of {} questions", answers.len(), at - from));
+            return Err(format!(
+                "formulas answered {} of {} questions",
+                answers.len(),
+                at - from
+            ));
         }
         for (question, answer) in asked[from..at].iter().zip(answers) {
             if question.1 != answer {

@@ -6,6 +6,8 @@ include!(concat!(env!("OUT_DIR"), "/the_rust.rs"));
 /// As in the Rust's lib.rs.
 type HashType = u64;
 
+mod boundary;
+mod calls;
 mod compare;
 mod damage;
 mod findings;
@@ -16,14 +18,23 @@ mod program;
 mod query;
 mod refusals;
 mod sample;
+mod search;
 mod settled;
 mod words;
+
+use boundary::Way;
 
 const USAGE: &str = "differential: one of
   compare [RANDOM_WORDS]   the Rust's answers against our program's (default: 1000 random words a length)
   compare --short          the same with fewer edge pairs and 10 random words a length
   formulas [ROUNDS]        random formulas of each size 1 to 31: check and print against the Rust's eval and Display (default: 20 rounds)
   damage [FILES]           damaged session files: the bench's whole output against a judge of its own (default: 100000 files)
+  searches [COUNT]         whole searches: every small one and random ones, against the Rust's own search (default: 200000 random ones)
+  searches --short         the same with fewer of both
+  searches --archive ..    the same through the archive that ships, in a program of its own (default: 2000 random ones)
+  calls [ROUNDS]           operators, check, print and read of the C boundary (default: 20 rounds); with --archive before it, as above
+  speed                    how fast our search runs beside the Rust's; only with --profile speed --features published-hash
+  collision                an input on which the Rust's published hash loses a formula (with --features published-hash; without, exact keys)
   sample                   writes the stored answers anew: crates/replay/stdin and stdout, crates/settled/stdout
   findings                 what the Rust does outside document 01's domain";
 
@@ -47,11 +58,42 @@ fn main() {
             Ok(count) => damage::run(count),
             Err(_) => usage(),
         },
+        ["searches", rest @ ..] => searches(rest),
+        ["calls", rest @ ..] => calls(rest),
+        ["collision"] => search::collision(),
+        ["speed"] => search::speed(),
         ["sample"] => sample::run(),
         ["findings"] => findings::run(),
         _ => usage(),
     };
     std::process::exit(status);
+}
+
+fn searches(words: &[&str]) -> i32 {
+    let (way, most, extent, rest): (Way, u64, fn(u64) -> search::Extent, &[&str]) = match words {
+        ["--archive", rest @ ..] => (Way::Served, 2_000, search::Extent::thin, rest),
+        rest => (Way::Linked, 200_000, search::Extent::full, rest),
+    };
+    let extent = match rest {
+        [] => Some(extent(most)),
+        ["--short"] => Some(search::Extent::short()),
+        [count] => count.parse().ok().map(extent),
+        _ => None,
+    };
+    extent.map_or_else(usage, |extent| search::run(way, extent))
+}
+
+fn calls(words: &[&str]) -> i32 {
+    let (way, rest) = match words {
+        ["--archive", rest @ ..] => (Way::Served, rest),
+        rest => (Way::Linked, rest),
+    };
+    let rounds = match rest {
+        [] => Some(20),
+        [count] => count.parse().ok(),
+        _ => None,
+    };
+    rounds.map_or_else(usage, |rounds| calls::run(way, rounds))
 }
 
 fn usage() -> i32 {

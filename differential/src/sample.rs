@@ -1,8 +1,10 @@
-//! The stored answers of the Rust, so that the gate replays them with no Rust at hand: a sample of queries, and what `settled` prints.
+//! The stored answers of the Rust, so that the gate replays them with no Rust at hand: samples of queries and of
+//! searches, and what `settled` prints.
 use crate::oracle;
 use crate::program::root;
 use crate::query::{ones, Answer, Query, Seq, BINARY, UNARY};
 use crate::refusals;
+use crate::search::stored;
 use crate::settled;
 use crate::words::Random;
 use std::fs;
@@ -45,7 +47,7 @@ fn queries() -> Vec<Query> {
 
 /// The stored files, and how many lines of the sample are the Rust's and how many are document 01's refusals.
 struct Sample {
-    files: [(&'static str, String); 3],
+    files: [(&'static str, String); 5],
     from_rust: usize,
     from_01: usize,
 }
@@ -69,10 +71,19 @@ fn sample() -> Sample {
             ("crates/replay/stdin", stdin),
             ("crates/replay/stdout", stdout),
             ("crates/settled/stdout", settled::lines()),
+            ("crates/searches/src/sample.rt", stored::module()),
+            ("crates/searches/stdout", searches()),
         ],
         from_rust: queries.len(),
         from_01: refusals.len(),
     }
+}
+
+/// What `searches` prints: its own lines, which come from document 01's prose and stay, and then the Rust's.
+fn searches() -> String {
+    let stands = fs::read_to_string(root().join("crates/searches/stdout")).unwrap_or_default();
+    let own = stands.lines().filter(|line| !line.starts_with("sample "));
+    own.map(|line| line.to_string() + "\n").collect::<String>() + &stored::lines()
 }
 
 /// Whether the stored files are what would be written now.
@@ -99,5 +110,6 @@ pub fn run() -> i32 {
         "crates/replay/stdin and stdout: the first {} lines are the Rust's answers, the last {} document 01's refusals",
         sample.from_rust, sample.from_01
     );
+    println!("crates/searches: the lines that start with `sample` are the Rust's answers");
     0
 }

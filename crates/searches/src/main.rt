@@ -1,5 +1,7 @@
 // Runs S2 to S5 of document 01, one line each: the answer, and the lent slices as the search left them. They hold 9 everywhere before.
-// The stored output is written from 01's prose.
+// Their stored output is written from 01's prose. The sample after them has the Rust's answers.
+mod sample;
+
 use formula::kinds::Node;
 use libc::STDOUT_FILENO;
 use search::SearchAnswer;
@@ -246,4 +248,5 @@ fn main() {
     limits(b"S5, B = 32: ", 32, 32, 4096, 64);
     limits(b"S5, C = 4097: ", 32, 31, 4097, 64);
     limits(b"S5, 64, 32, 31, 4096: ", 32, 31, 4096, 64);
+    sample::run();
 }

@@ -1,29 +1,10 @@
-//! Stands in for `fxhash`. The hasher keeps every byte it is given and answers a number of its own for each
-//! different record, because the published hash collides on made-up input and would hide a formula.
-use std::cell::RefCell;
-use std::collections::HashMap;
-use std::hash::Hasher;
+//! Stands in for `fxhash`: with exact keys, unless the feature `published` asks for the published algorithm.
+#[cfg(not(feature = "published"))]
+mod exact;
+#[cfg(feature = "published")]
+mod published;
 
-thread_local! {
-    /// The records seen so far in this thread, each with its number.
-    static RECORDS: RefCell<HashMap<Vec<u8>, u64>> = RefCell::new(HashMap::new());
-}
-
-#[derive(Default, Clone)]
-pub struct FxHasher64 {
-    record: Vec<u8>,
-}
-
-impl Hasher for FxHasher64 {
-    fn write(&mut self, bytes: &[u8]) {
-        self.record.extend_from_slice(bytes);
-    }
-
-    fn finish(&self) -> u64 {
-        RECORDS.with(|records| {
-            let mut records = records.borrow_mut();
-            let next = records.len() as u64;
-            *records.entry(self.record.clone()).or_insert(next)
-        })
-    }
-}
+#[cfg(not(feature = "published"))]
+pub use exact::{forget, FxHashMap, FxHasher64};
+#[cfg(feature = "published")]
+pub use published::{forget, FxHashMap, FxHasher64};

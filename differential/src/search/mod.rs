@@ -1,0 +1,20 @@
+//! Whole searches: the Rust's `enum_aux` over its own cache, document 01's walk by its prose, and our compiled library, on the same inputs.
+mod collision;
+mod compare;
+mod counted;
+pub mod drawn;
+mod every;
+mod input;
+mod lent;
+mod outside;
+mod prose;
+mod refused;
+mod speed;
+pub mod stored;
+mod tally;
+
+pub use collision::run as collision;
+pub use compare::{run, Extent};
+pub use input::Input;
+pub use outside::findings;
+pub use speed::run as speed;

@@ -1,0 +1,58 @@
+//! What the Rust's own search does where document 01 asks for something else: its seeds, a bound of 0, an operator listed twice.
+use super::counted::{self, Start};
+use super::input::Input;
+use crate::algos::aux::enum_aux;
+use crate::cache::{EnumFormulaCache, EnumFormulaCacheLine};
+use crate::formula::rebuild_formula;
+use crate::ltl::cache::LtlCache;
+
+/// One empty session marked 0 with one proposition, which is false there: the smallest input on which a leaf separates.
+fn smallest(bound: usize, unary: Vec<u8>) -> Input {
+    Input {
+        r: 1,
+        m: 1,
+        bound,
+        room: 1,
+        constants: 0,
+        marks: vec![0],
+        lengths: vec![0],
+        words: vec![0],
+        unary,
+        binary: vec![],
+    }
+}
+
+/// The Rust's answer alone, with its seeds kept and not tried.
+fn bare(input: &Input) -> String {
+    let start = Start::new(input, u64::MAX);
+    let mut cache = LtlCache::new();
+    cache.new_line(0);
+    let mut line = cache.new_line(1);
+    for seed in start.seeds {
+        line.push(seed);
+    }
+    match enum_aux(&mut cache, &start.operators, &start.target[..], start.bound) {
+        Some(f) => rebuild_formula(&f, &cache).to_string(),
+        None => "none".to_string(),
+    }
+}
+
+pub fn findings() {
+    println!("The search (01: leaves are tried like any other candidate; B = 0 is refused 2, a repeated operator 7):");
+    println!(
+        "  one empty session marked 0, B = 1, no operator: {}",
+        bare(&smallest(1, vec![]))
+    );
+    println!("  the same, B = 2, `!`: {}", bare(&smallest(2, vec![0])));
+    println!("  the same, B = 0: {}", bare(&smallest(0, vec![0])));
+    let mut twice = smallest(2, vec![0]);
+    twice.marks = vec![1];
+    for unary in [vec![0], vec![0, 0]] {
+        twice.unary = unary;
+        let tried = counted::outcome(&twice, u64::MAX).unwrap().tried;
+        println!(
+            "  the session marked 1, B = 2, unary operators {:?}: tried {tried}",
+            twice.unary
+        );
+    }
+}

@@ -1,0 +1,157 @@
+//! How fast our search runs beside the Rust's, on the same inputs in the same process. Only for a build with the published hash and no checks:
+//! differential/README.md has the command.
+use std::time::{Duration, Instant};
+
+use super::counted::Start;
+use super::input::Input;
+use super::lent::{search, Lens, Lent};
+use crate::boundary::Linked;
+use crate::words::Random;
+
+/// Rounds; the median is reported.
+const ROUNDS: usize = 15;
+
+/// A set of inputs of one shape, with three propositions, all operators and a room that is filled: two sessions are the same but for their mark,
+/// so nothing is ever found.
+struct Set {
+    name: &'static str,
+    inputs: u64,
+    r: usize,
+    length: u64,
+    room: usize,
+}
+
+#[rustfmt::skip]
+const SETS: [Set; 9] = [
+    Set { name: "2 sessions, room 200", inputs: 100, r: 2, length: 40, room: 200 },
+    Set { name: "2 sessions, room 1,000", inputs: 30, r: 2, length: 40, room: 1000 },
+    Set { name: "2 sessions, room 4,000", inputs: 8, r: 2, length: 40, room: 4000 },
+    Set { name: "8 sessions, room 200", inputs: 100, r: 8, length: 12, room: 200 },
+    Set { name: "8 sessions, room 1,000", inputs: 30, r: 8, length: 12, room: 1000 },
+    Set { name: "8 sessions, room 4,000", inputs: 8, r: 8, length: 12, room: 4000 },
+    Set { name: "32 sessions, room 200", inputs: 100, r: 32, length: 64, room: 200 },
+    Set { name: "32 sessions, room 1,000", inputs: 20, r: 32, length: 64, room: 1000 },
+    Set { name: "32 sessions, room 4,000", inputs: 5, r: 32, length: 64, room: 4000 },
+];
+
+fn inputs(set: &Set) -> Vec<Input> {
+    let mut random = Random::new(3);
+    (0..set.inputs)
+        .map(|_| {
+            let m = 3;
+            let mut lengths: Vec<u8> = (1..set.r)
+                .map(|_| (set.length / 2 + 1 + random.below(set.length / 2)) as u8)
+                .collect();
+            let mut words: Vec<u64> = lengths
+                .iter()
+                .flat_map(|n| (0..m).map(|_| *n as u64).collect::<Vec<_>>())
+                .collect();
+            words.iter_mut().for_each(|n| *n = random.word(*n));
+            lengths.insert(0, lengths[0]);
+            words.splice(0..0, words[..m].to_vec());
+            let mut marks: Vec<u8> = (0..set.r).map(|_| random.below(2) as u8).collect();
+            marks[0] = 1 - marks[1];
+            Input {
+                r: set.r,
+                m,
+                bound: 31,
+                room: set.room,
+                constants: 0,
+                marks,
+                lengths,
+                words,
+                unary: (0..=4).collect(),
+                binary: (5..=10).collect(),
+            }
+        })
+        .collect()
+}
+
+/// The median, and the least and the most.
+struct Times {
+    median: Duration,
+    least: Duration,
+    most: Duration,
+}
+
+impl Times {
+    fn new(mut all: Vec<Duration>) -> Self {
+        all.sort();
+        Times {
+            median: all[all.len() / 2],
+            least: all[0],
+            most: all[all.len() - 1],
+        }
+    }
+
+    fn show(&self, tried: u64) -> String {
+        let each = |time: Duration| time.as_nanos() as f64 / tried as f64;
+        format!(
+            "{:.0} ns ({:.0} to {:.0})",
+            each(self.median),
+            each(self.least),
+            each(self.most)
+        )
+    }
+}
+
+fn measure(library: &mut Linked, set: &Set) -> bool {
+    let inputs = inputs(set);
+    let mut lents: Vec<Lent> = inputs.iter().map(|input| Lent::new(Lens::asked(input), 1)).collect();
+    let (mut rust, mut ours) = (vec![], vec![]);
+    let mut ends = vec![];
+    for _ in 0..ROUNDS {
+        ends.clear();
+        // The Rust's tables are dropped after its time is taken.
+        let mut time = Duration::ZERO;
+        for input in &inputs {
+            let began = Instant::now();
+            let end = Start::new(input, u64::MAX).search();
+            time += began.elapsed();
+            ends.push((end.tried, end.kept as u64));
+        }
+        rust.push(time);
+        let began = Instant::now();
+        for (input, lent) in inputs.iter().zip(&mut lents) {
+            search(library, input, lent);
+        }
+        ours.push(began.elapsed());
+    }
+    let alike = ends
+        .iter()
+        .zip(&lents)
+        .all(|(end, lent)| *end == (lent.out[2], lent.out[3]));
+    let tried: u64 = lents.iter().map(|lent| lent.out[2]).sum();
+    let kept: u64 = lents.iter().map(|lent| lent.out[3]).sum();
+    let (rust, ours) = (Times::new(rust), Times::new(ours));
+    println!(
+        "{}: {} searches, on average {} tried and {} kept{}: the Rust {} a candidate, ours {}, ratio {:.2} (of the least times {:.2})",
+        set.name,
+        inputs.len(),
+        tried / set.inputs,
+        kept / set.inputs,
+        if alike { "" } else { " (COUNTS DIFFER)" },
+        rust.show(tried),
+        ours.show(tried),
+        ours.median.as_secs_f64() / rust.median.as_secs_f64(),
+        ours.least.as_secs_f64() / rust.least.as_secs_f64()
+    );
+    alike
+}
+
+pub fn run() -> i32 {
+    if !cfg!(feature = "published-hash") || cfg!(debug_assertions) {
+        println!("speed: only with --profile speed --features published-hash: exact keys and checks are slow");
+        return 2;
+    }
+    let mut library = match Linked::load() {
+        Ok(library) => library,
+        Err(error) => {
+            println!("speed not measured: {error}");
+            return 1;
+        }
+    };
+    println!("median of {ROUNDS} rounds for a candidate, in brackets the least and the most");
+    let alike = SETS.iter().fold(true, |alike, set| measure(&mut library, set) && alike);
+    (!alike) as i32
+}
