@@ -1,8 +1,8 @@
 -- A list of nodes and the four lists of its fields.
 -- Assumes nothing.
-use mathlib.Core.Path.{_≡_, refl, _∙_, subst}
-use mathlib.Core.List.{List, map}
-use Prim.Native.Nat.{ℕ, _+_, _<_}
+use mathlib.Core.Path.{_≡_, refl, sym, ap, _∙_, subst}
+use mathlib.Core.List.{List, [], _∷_, map}
+use Prim.Native.Nat.{ℕ, zero, suc, _+_, _<_}
 use native.Mathlib.Omega.{arith}
 use lib.ListN.{length, getD, set, take, length-map, length-set, List·getD-map}
 use Rattle.formula.specs.declared.kinds.Node.{Node}
@@ -44,6 +44,37 @@ filled-more list i {c} {l} {r} {s} less f = record {
   rights-are = field-more (λ m. m .right .0) list r i less (f .rights-long) (f .rights-are);
   sizes-are = field-more (λ m. m .size) list s i less (f .sizes-long) (f .sizes-are);
 }
+
+-- ---- the other way, nodes made of their fields
+
+abbrev made : ℕ → ℕ → ℕ → ℕ → Node
+made c l r s = record { code = c; left = record { 0 = l }; right = record { 0 = r }; size = s }
+
+map-set : (f : Node → ℕ) (list : List Node) (i : ℕ) (n : Node) → map f (set list i n) ≡ set (map f list) i (f n)
+map-set f [] i n = refl
+map-set f (x ∷ list) zero n = refl
+map-set f (x ∷ list) (suc i) n = ap (λ (m : List ℕ). f x ∷ m) (map-set f list i n)
+
+-- node i has element i of a field's list
+taken-more : (f : Node → ℕ) (list : List Node) (ys : List ℕ) (i : ℕ) (n : Node) → i < length list → length ys ≡ length list → getD ys i 0 ≡ f n
+    → take i ys ≡ take i (map f list) → take (i + 1) ys ≡ take (i + 1) (map f (set list i n))
+taken-more f list ys i n less l e t =
+    sym (ap (λ (m : List ℕ). take (i + 1) m) (map-set f list i n) ∙ one-more 0 ys (map f list) i (f n) (omega arith) (omega (arith, length-map list f)) e (sym t))
+
+pub packed-more : (list : List Node) (i : ℕ) {c l r s : List ℕ} → i < length list → Filled list i c l r s
+    → Filled (set list i (made (getD c i 0) (getD l i 0) (getD r i 0) (getD s i 0))) (i + 1) c l r s
+packed-more list i {c} {l} {r} {s} less f =
+    let n : Node = made (getD c i 0) (getD l i 0) (getD r i 0) (getD s i 0) in
+    record {
+      codes-long = f .codes-long ∙ sym (length-set list i n);
+      lefts-long = f .lefts-long ∙ sym (length-set list i n);
+      rights-long = f .rights-long ∙ sym (length-set list i n);
+      sizes-long = f .sizes-long ∙ sym (length-set list i n);
+      codes-are = taken-more (λ m. m .code) list c i n less (f .codes-long) refl (f .codes-are);
+      lefts-are = taken-more (λ m. m .left .0) list l i n less (f .lefts-long) refl (f .lefts-are);
+      rights-are = taken-more (λ m. m .right .0) list r i n less (f .rights-long) refl (f .rights-are);
+      sizes-are = taken-more (λ m. m .size) list s i n less (f .sizes-long) refl (f .sizes-are);
+    }
 
 pub filled-to : (list : List Node) (i n : ℕ) {c l r s : List ℕ} → i ≡ n → Filled list i c l r s → Filled list n c l r s
 filled-to list i n {c} {l} {r} {s} e f = subst (λ (m : ℕ). Filled list m c l r s) e f

@@ -7,8 +7,8 @@ use Prim.Native.Nat.{ℕ, _+_, _<_, _≤_, min}
 use native.Mathlib.Numerals.{add-one}
 use native.Mathlib.Decide.{decLe}
 use native.Mathlib.Omega.{arith}
-use lib.ListN.{length, getD, set, take}
-use lib.Seq.{take-all, take-suc, take-suc-set}
+use lib.ListN.{length, getD, set, take, drop, take-append-drop}
+use lib.Seq.{take-all, take-suc, take-suc-set, drop-set-lt, drop-drop}
 use lib.Dec.{T}
 
 -- a test's value, from what it says
@@ -41,3 +41,17 @@ as-many {A} L ys i room m e t =
       | no h ↦ let j : i ≡ room = omega arith in
           ap (λ (k : ℕ). take k L) (sym j) ∙ sym t ∙ take-all i ys (omega arith) ∙ sym (take-all (length L) ys (omega arith))
     ]
+
+-- ---- the rest of a list stays
+
+pub rest-stays : {A : Type 0} (xs ys : List A) (i : ℕ) (v : A) → drop i ys ≡ drop i xs → drop (i + 1) (set ys i v) ≡ drop (i + 1) xs
+rest-stays {A} xs ys i v e =
+    drop-set-lt (i + 1) ys i v (omega arith) ∙ sym (drop-drop 1 i ys) ∙ ap (λ (l : List A). drop 1 l) e ∙ drop-drop 1 i xs
+
+-- the first of a list put over another's
+pub put-all : {A : Type 0} (xs ys ls ms : List A) (i n : ℕ) → i ≡ n → ls ≡ ms → take i ys ≡ take i ls → drop i ys ≡ drop i xs → ys ≡ take n ms ++ drop n xs
+put-all {A} xs ys ls ms i n e l t r =
+    sym (take-append-drop i ys)
+    ∙ ap (λ (z : List A). z ++ drop i ys) (t ∙ ap (λ (z : List A). take i z) l)
+    ∙ ap (λ (z : List A). take i ms ++ z) r
+    ∙ ap (λ (k : ℕ). take k ms ++ drop k xs) e

@@ -4,3 +4,4 @@ pub mod Fields
 pub mod Cut
 pub mod Seen
 pub mod Unique
+pub mod Kept

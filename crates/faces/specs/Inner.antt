@@ -1,16 +1,20 @@
 -- How private functions speak of nodes in arrays. No public contract cites this file, so nothing here has to be believed.
 -- Assumes nothing.
 use mathlib.Core.Path.{_≡_}
-use mathlib.Core.List.{List}
-use Prim.Native.Nat.{ℕ}
-use lib.ListN.{length, take}
+use mathlib.Core.List.{List, _++_}
+use Prim.Native.Nat.{ℕ, _≤_}
+use lib.ListN.{length, take, drop}
 use Rattle.walk.specs.Nodes as walk
 use Rattle.walk.specs.Input.{Input}
 use Rattle.session.specs.Reading.{Said}
 use Rattle.formula.specs.declared.kinds.Node.{Node}
 use Rattle.formula.specs.Check.{CheckAnswer}
 use Rattle.formula.specs.Print.{Prints}
-use Rattle.faces.specs.Lists.{plain, codesOf, leftsOf, rightsOf, sizesOf}
+use Rattle.search.specs.declared.SearchAnswer.{SearchAnswer}
+use Rattle.search.specs.declared.SearchAnswer.the-variants.{Found, None, Full, Refused}
+use Rattle.search.specs.Search.{Searched}
+use Rattle.faces.specs.declared.lists.Done.{Done}
+use Rattle.faces.specs.Lists.{plain, codesOf, leftsOf, rightsOf, sizesOf, columns}
 
 -- what stands past the end of a list of nodes
 abbrev pub noNode : Node
@@ -43,3 +47,26 @@ Checks i list n root s = (ns : List Node) → length ns ≡ n → Copied ns list
 -- printing's, in the same way
 abbrev pub Printing : List ℕ → List Node → ℕ → walk.Node → List ℕ → Said → List ℕ → Type 0
 Printing file list n root old s new = (ns : List Node) → length ns ≡ n → Copied ns list → Prints file (plain ns) root old s new
+
+-- ---- the search
+
+-- "table room C 1 to 4,096 formulas"
+abbrev pub room : ℕ
+room = 4096
+
+-- the number kept, 0 at a refusal
+abbrev pub keptOf : SearchAnswer → ℕ
+keptOf (Found root tried kept) = kept
+keptOf (None tried kept) = kept
+keptOf (Full size tried kept) = kept
+keptOf (Refused k) = 0
+
+-- the kept nodes, over what was there before
+abbrev pub putOver : Done → List Node → List Node
+putOver d ns = take (d .kept) (d .nodes) ++ drop (d .kept) ns
+
+-- for whatever list of n nodes is lent: there is room for the kept ones, and with these put over its first places it is as the search has to leave it
+abbrev pub Works : Input → ℕ → List ℕ → Done → List ℕ → Type 0
+Works i n old d new =
+    (ns : List Node) → length ns ≡ n
+    → ((d .kept ≤ length (d .nodes)) × (d .kept ≤ length ns)) × Searched i (columns ns old) (d .answer) (columns (putOver d ns) new)

@@ -5,6 +5,7 @@ use Prim.Native.Nat.{ℕ}
 use Rattle.walk.specs.Nodes as walk
 use Rattle.formula.specs.declared.kinds.Node.{Node}
 use Rattle.formula.specs.Kinds.{nodeOf}
+use Rattle.search.specs.Table.{Cols, cols}
 
 -- "a lent list of nodes", each as plain numbers
 abbrev pub plain : List Node → List walk.Node
@@ -22,3 +23,7 @@ rightsOf ns = map (λ n. n .right .0) ns
 
 abbrev pub sizesOf : List Node → List ℕ
 sizesOf ns = map (λ n. n .size) ns
+
+-- a search's lent slices: those of a list of nodes, and the matrices
+abbrev pub columns : List Node → List ℕ → Cols
+columns ns matrices = cols (codesOf ns) (leftsOf ns) (rightsOf ns) (sizesOf ns) matrices

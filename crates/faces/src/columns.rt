@@ -1,16 +1,21 @@
 // The work on numbers: a list of nodes by value becomes four lists of numbers, which the core takes as slices.
+use crate::lists::Done;
+use crate::lists::ROOM;
 use crate::lists::SEEN;
 use crate::lists::count_of;
 use formula::Printed;
 use formula::Verdict;
 use formula::kinds::Node;
+use formula::kinds::Place;
+use search::SearchAnswer;
 ghost use mathlib.Core.Path.{_≡_};
-ghost use Prim.Native.Nat.{_≤_};
+ghost use Prim.Native.Nat.{_≤_, min};
 ghost use lib.ListN.{length};
 ghost use Rattle.formula.specs.Kinds.{nodeOf};
 ghost use Rattle.formula.specs.Check.{saidVerdict, recorded};
 ghost use Rattle.formula.specs.Print.{saidPrinted};
-ghost use Rattle.faces.specs.Inner.{Filled, Checks, Printing};
+ghost use Rattle.search.specs.Search.{inputOf};
+ghost use Rattle.faces.specs.Inner.{room, Filled, Checks, Printing, keptOf, Works};
 
 // The first `count` nodes, field by field.
 fn unpack(
@@ -93,4 +98,125 @@ pub(crate) fn print(
         root,
         room,
     )
+}
+
+fn bytes() -> [u8; ROOM]
+    ensures { λ r. ⌜ length r ≡ room ⌝ }
+{
+    [0; ROOM]
+}
+
+fn places() -> [u16; ROOM]
+    ensures { λ r. ⌜ length r ≡ room ⌝ }
+{
+    [0; ROOM]
+}
+
+fn room_of(length: usize) -> usize
+    ensures { λ r. ⌜ r ≡ min length room ⌝ }
+{
+    if length < ROOM { length } else { ROOM }
+}
+
+// The number kept, 0 at a refusal.
+fn kept_in(answer: SearchAnswer) -> usize
+    ensures { λ r. ⌜ r ≡ keptOf answer ⌝ }
+{
+    match answer {
+        SearchAnswer::Found {
+            root: _,
+            tried: _,
+            kept,
+        } => kept,
+        SearchAnswer::None { tried: _, kept } => kept,
+        SearchAnswer::Full {
+            size: _,
+            tried: _,
+            kept,
+        } => kept,
+        SearchAnswer::Refused(_) => 0,
+    }
+}
+
+// The first `count` nodes, of their fields.
+fn pack(
+    codes: [u8; ROOM],
+    lefts: [u16; ROOM],
+    rights: [u16; ROOM],
+    sizes: [u8; ROOM],
+    count: usize,
+) -> [Node; ROOM]
+    requires { ⌜ count ≤ room ⌝ }
+    ensures { λ r. ⌜ Filled r count codes lefts rights sizes ⌝ }
+{
+    let blank = Node {
+        code: 0,
+        left: Place(0),
+        right: Place(0),
+        size: 0,
+    };
+    let mut list = [blank; ROOM];
+    let mut i: usize = 0;
+    while i < count {
+        let code = codes[i];
+        let left = lefts[i];
+        let right = rights[i];
+        let size = sizes[i];
+        list[i] = Node {
+            code,
+            left: Place(left),
+            right: Place(right),
+            size,
+        };
+        i += 1;
+    }
+    list
+}
+
+// A search that keeps its nodes in arrays of its own. What a list held before doesn't matter: only places below the number kept are written.
+pub(crate) fn search(
+    r: usize,
+    m: usize,
+    bound: usize,
+    room: usize,
+    constants: u8,
+    marks: &[u8],
+    lengths: &[u8],
+    words: &[u64],
+    unary: &[u8],
+    binary: &[u8],
+    length: usize,
+    matrices: &mut [u64],
+) -> Done
+    ensures { λ d. ⌜ Works (inputOf r m bound room constants (now (marks .entry)) (now (lengths .entry)) (now (words .entry)) (now (unary .entry)) (now (binary .entry))) length (now (matrices .entry)) d (now (matrices .exit)) ⌝ }
+{
+    let count = room_of(length);
+    let mut codes = bytes();
+    let mut lefts = places();
+    let mut rights = places();
+    let mut sizes = bytes();
+    let answer = search::search(
+        r,
+        m,
+        bound,
+        room,
+        constants,
+        marks,
+        lengths,
+        words,
+        unary,
+        binary,
+        &mut codes[..count],
+        &mut lefts[..count],
+        &mut rights[..count],
+        &mut sizes[..count],
+        matrices,
+    );
+    let kept = kept_in(answer);
+    let nodes = pack(codes, lefts, rights, sizes, kept);
+    Done {
+        answer,
+        nodes,
+        kept,
+    }
 }

@@ -6,10 +6,12 @@ mod lists;
 use formula::Printed;
 use formula::Verdict;
 use formula::kinds::Node;
+use search::SearchAnswer;
 ghost use Rattle.formula.specs.Kinds.{nodeOf};
 ghost use Rattle.formula.specs.Check.{saidVerdict, recorded, CheckAnswer};
 ghost use Rattle.formula.specs.Print.{saidPrinted, Prints};
-ghost use Rattle.faces.specs.Lists.{plain};
+ghost use Rattle.search.specs.Search.{inputOf, Searched};
+ghost use Rattle.faces.specs.Lists.{plain, columns};
 
 // The analyst's check of a node list, whoever wrote it.
 pub fn check(
@@ -33,4 +35,42 @@ pub fn print(names: &[u8], nodes: &[Node], root: Node, room: &mut [u8]) -> Print
 {
     let list = lists::copied(nodes);
     columns::print(names, list, nodes.len(), root, room)
+}
+
+// The search, with the kept formulas in a lent list of nodes.
+pub fn search(
+    r: usize,
+    m: usize,
+    bound: usize,
+    room: usize,
+    constants: u8,
+    marks: &[u8],
+    lengths: &[u8],
+    words: &[u64],
+    unary: &[u8],
+    binary: &[u8],
+    nodes: &mut [Node],
+    matrices: &mut [u64],
+) -> SearchAnswer
+    ensures { λ answer. ⌜ Searched
+        (inputOf r m bound room constants (now (marks .entry)) (now (lengths .entry)) (now (words .entry)) (now (unary .entry)) (now (binary .entry)))
+        (columns (now (nodes .entry)) (now (matrices .entry)))
+        answer
+        (columns (now (nodes .exit)) (now (matrices .exit))) ⌝ }
+{
+    let done = columns::search(
+        r,
+        m,
+        bound,
+        room,
+        constants,
+        marks,
+        lengths,
+        words,
+        unary,
+        binary,
+        nodes.len(),
+        matrices,
+    );
+    lists::put_back(done, nodes)
 }
