@@ -17,7 +17,7 @@ use Rattle.walk.specs.Nodes as walk
 use Rattle.walk.specs.Input.{Input, mostRoom}
 use Rattle.formula.specs.declared.kinds.Node.{Node}
 use Rattle.formula.specs.Kinds.{nodeOf}
-use Rattle.formula.specs.Rule.{tooMany, Broken, brokenList}
+use Rattle.formula.specs.Rule.{tooMany, brokenList}
 use Rattle.formula.specs.Check.{CheckAnswer, checkRows}
 use Rattle.formula.specs.Print.{PrintAnswer, PrintsBy, Prints}
 use Rattle.faces.specs.Lists.{plain}

@@ -78,3 +78,10 @@ packed-more list i {c} {l} {r} {s} less f =
 
 pub filled-to : (list : List Node) (i n : ℕ) {c l r s : List ℕ} → i ≡ n → Filled list i c l r s → Filled list n c l r s
 filled-to list i n {c} {l} {r} {s} e f = subst (λ (m : ℕ). Filled list m c l r s) e f
+
+-- ---- the first of a list's fields
+
+pub map-take : {A B : Type 0} (f : A → B) (n : ℕ) (l : List A) → map f (take n l) ≡ take n (map f l)
+map-take f zero l = refl
+map-take f (suc n) [] = refl
+map-take {B = B} f (suc n) (x ∷ l) = ap (λ (r : List B). f x ∷ r) (map-take f n l)

@@ -13,16 +13,16 @@ use Rattle.sequence.specs.Refusals.{Row, Decided}
 use Rattle.session.specs.Reading.{Said, over}
 use Rattle.walk.specs.Walk.{found, full, none, State, going, ended, kept}
 use Rattle.walk.specs.Input.{Input, search}
-use Rattle.walk.specs.Promises.{Table}
 use Rattle.formula.specs.declared.kinds.Node.{Node}
 use Rattle.search.specs.declared.SearchAnswer.{SearchAnswer}
 use Rattle.search.specs.declared.SearchAnswer.the-variants.{Found, None, Full, Refused}
-use Rattle.search.specs.Table.{Cols, cols, tableOver}
+use Rattle.search.specs.Table.{Cols, tableOver}
 use Rattle.search.specs.Refusals.{settingWrong, noRoom, searchRows}
 use Rattle.search.specs.Search.{said, walkSaid, Outcome, Searched}
 use Rattle.faces.specs.declared.lists.Done.{Done}
-use Rattle.faces.specs.Lists.{columns, codesOf, leftsOf, rightsOf, sizesOf}
+use Rattle.faces.specs.Lists.{columns}
 use Rattle.faces.specs.Inner.{room, keptOf, putOver, Filled, Works}
+use Rattle.faces.proofs.Fields.{map-take}
 
 -- ---- the rows, over lists of other lengths
 
@@ -94,11 +94,6 @@ kept-walk (ended (full s) k n) = refl
 -- ---- a column
 
 module _ {A B : Type 0} (f : A → B) where
-  map-take : (n : ℕ) (l : List A) → map f (take n l) ≡ take n (map f l)
-  map-take zero l = refl
-  map-take (suc n) [] = refl
-  map-take (suc n) (x ∷ l) = ap (λ (r : List B). f x ∷ r) (map-take n l)
-
   map-drop : (n : ℕ) (l : List A) → map f (drop n l) ≡ drop n (map f l)
   map-drop zero l = refl
   map-drop (suc n) [] = refl

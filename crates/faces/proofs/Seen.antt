@@ -1,8 +1,8 @@
 -- What the core is handed, the first fields of an array of nodes, are the nodes that the array was copied from.
 -- Assumes nothing.
-use mathlib.Core.Path.{_≡_, refl, sym, ap, _∙_, subst}
-use mathlib.Core.List.{List, [], _∷_, map}
-use Prim.Native.Nat.{ℕ, zero, suc, _<_, min}
+use mathlib.Core.Path.{_≡_, sym, ap, _∙_, subst}
+use mathlib.Core.List.{List}
+use Prim.Native.Nat.{ℕ, _<_, min}
 use native.Mathlib.Decide.{decLe}
 use native.Mathlib.Omega.{arith}
 use lib.ListN.{length, take, length-map, List·getD-map}
@@ -17,6 +17,7 @@ use Rattle.formula.specs.Print.{Prints}
 use Rattle.formula.proofs.Listed.{length-nodes, node-at}
 use Rattle.faces.specs.Lists.{plain, codesOf, leftsOf, rightsOf, sizesOf}
 use Rattle.faces.specs.Inner.{noNode, seen, Copied, Filled, Checks, Printing}
+use Rattle.faces.proofs.Fields.{map-take}
 use Rattle.faces.proofs.Cut.{check-whole, print-whole}
 
 -- ---- four lists of fields are the nodes
@@ -47,11 +48,6 @@ module _ (ns : List Node) where
 
   columns-nodes : nodes (codesOf ns) (leftsOf ns) (rightsOf ns) (sizesOf ns) ≡ plain ns
   columns-nodes = ext-getD (node 0 0 0 0) _ _ same-count same-node
-
-map-take : {A B : Type 0} (f : A → B) (n : ℕ) (l : List A) → map f (take n l) ≡ take n (map f l)
-map-take f zero l = refl
-map-take f (suc n) [] = refl
-map-take {B = B} f (suc n) (x ∷ l) = ap (λ (r : List B). f x ∷ r) (map-take f n l)
 
 first-nodes : (list : List Node) (n : ℕ) {c l r s : List ℕ} → Filled list n c l r s → nodes (take n c) (take n l) (take n r) (take n s) ≡ plain (take n list)
 first-nodes list n f =

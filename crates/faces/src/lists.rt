@@ -5,7 +5,7 @@ use search::SearchAnswer;
 ghost use mathlib.Core.Path.{_≡_};
 ghost use Prim.Native.Nat.{min, _≤_};
 ghost use lib.ListN.{length};
-ghost use Rattle.faces.specs.Inner.{seen, room, Copied, putOver};
+ghost use Rattle.faces.specs.Inner.{seen, Copied, putOver};
 
 // As many nodes as the check and printing look at: one more than a list may have.
 pub(crate) const SEEN: usize = 4097;

@@ -1,6 +1,6 @@
 -- `check` meets its contract: a walk of its code by hand, since it has a slice of structs. The nodes are copied, and `columns::check` answers for them.
 -- Assumes nothing.
-use mathlib.Core.Path.{_≡_, refl}
+use mathlib.Core.Path.{refl}
 use mathlib.Core.List.{List, [], _∷_}
 use Prim.Native.Nat.{ℕ, _<_, _^_}
 use lib.ListN.{length}
