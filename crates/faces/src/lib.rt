@@ -1,0 +1,76 @@
+// Faces over lent lists of nodes: check, print and search with a slice of `Node` structs where the core has four slices of numbers. Thin functions:
+// they copy nodes (`lists`) and hand them on to the work on numbers (`columns`).
+mod columns;
+mod lists;
+
+use formula::Verdict;
+use formula::kinds::Node;
+use search::SearchAnswer;
+use text::Printed;
+ghost use Rattle.formula.specs.Kinds.{nodeOf};
+ghost use Rattle.formula.specs.Check.{saidVerdict, recorded, CheckAnswer};
+ghost use Rattle.text.specs.Print.{saidPrinted, Prints};
+ghost use Rattle.search.specs.Search.{inputOf, Searched};
+ghost use Rattle.faces.specs.Lists.{plain, columns};
+
+// The analyst's check of a node list, whoever wrote it.
+pub fn check(
+    r: usize,
+    m: usize,
+    marks: &[u8],
+    lengths: &[u8],
+    words: &[u64],
+    nodes: &[Node],
+    root: Node,
+) -> Verdict
+    ensures { λ v. ⌜ CheckAnswer (recorded r m (now (marks .entry)) (now (lengths .entry)) (now (words .entry))) (plain (now (nodes .entry))) (nodeOf root) (saidVerdict v) ⌝ }
+{
+    let list = lists::copied(nodes);
+    columns::check(r, m, marks, lengths, words, list, nodes.len(), root)
+}
+
+// The text of the root's formula, at the start of the lent room.
+pub fn print(names: &[u8], nodes: &[Node], root: Node, room: &mut [u8]) -> Printed
+    ensures { λ p. ⌜ Prints (now (names .entry)) (plain (now (nodes .entry))) (nodeOf root) (now (room .entry)) (saidPrinted p) (now (room .exit)) ⌝ }
+{
+    let list = lists::copied(nodes);
+    columns::print(names, list, nodes.len(), root, room)
+}
+
+// The search, with the kept formulas in a lent list of nodes.
+pub fn search(
+    r: usize,
+    m: usize,
+    bound: usize,
+    room: usize,
+    constants: u8,
+    marks: &[u8],
+    lengths: &[u8],
+    words: &[u64],
+    unary: &[u8],
+    binary: &[u8],
+    nodes: &mut [Node],
+    matrices: &mut [u64],
+) -> SearchAnswer
+    ensures { λ answer. ⌜ Searched
+        (inputOf r m bound room constants (now (marks .entry)) (now (lengths .entry)) (now (words .entry)) (now (unary .entry)) (now (binary .entry)))
+        (columns (now (nodes .entry)) (now (matrices .entry)))
+        answer
+        (columns (now (nodes .exit)) (now (matrices .exit))) ⌝ }
+{
+    let done = columns::search(
+        r,
+        m,
+        bound,
+        room,
+        constants,
+        marks,
+        lengths,
+        words,
+        unary,
+        binary,
+        nodes.len(),
+        matrices,
+    );
+    lists::put_back(done, nodes)
+}
