@@ -44,7 +44,7 @@
  *      6   a mark other than 0 or 1
  *      7   a code that is not of its group, or stands twice in its list
  *      8   a session file or a names section is broken; 256 times the offset of the first offending byte is added
- *      9   a node list or its root is not as said above
+ *      9   a node list or its root is not as said above, or a proposition's number not as the function asks
  *     10   two sequences of unequal length
  *
  * So `result & 255` is the number, and for number 8 `result >> 8` is the offset.
@@ -109,7 +109,7 @@ uint64_t scarfpylon_search(size_t sessions, size_t propositions, size_t bound, s
 
 /*
  * Whether a formula, whoever wrote it, separates the sessions. The sessions are as at the search; the nodes are the whole of the four slices, and
- * code, left, right and size are the root.
+ * code, left, right and size are the root. A proposition's number has to be below `propositions`.
  *
  * Writes out[0]: 1 if it separates. Else out[0]: 0, and out[1]: the number, from 0, of the first session that disagrees.
  * Refuses with 1, 3 (what is read of the sessions, `out`), 4, 5, 6, 9. A node is tested even if the root doesn't lead to it.

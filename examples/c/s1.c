@@ -1,5 +1,6 @@
-/* Reads a session file, searches it with a room of 200, prints the formula that is found and checks it. The file is example S1 of document 01: one
- * proposition p, and two sessions of two snapshots, the good one with p at snapshot 1 and the bad one with p nowhere. */
+/* Reads a session file, searches it with a room of 200, prints the formula that is found and checks it; then applies an operator of each kind. The
+ * file is example S1 of document 01: one proposition p, and two sessions of two snapshots, the good one with p at snapshot 1 and the bad one with p
+ * nowhere. The operators are those of its examples P2 and P4: `X` of 6, and 3 `U` 4, at length 4. */
 #include <stdio.h>
 
 #include "scarfpylon.h"
@@ -64,5 +65,10 @@ int main(void) {
         printf("check: separates\n");
     else
         printf("check: session %llu disagrees\n", (unsigned long long)verdict[1]);
+
+    uint64_t next[OUT], until[OUT];
+    if (refused("unary", scarfpylon_unary(1, 4, 6, next, OUT)) || refused("binary", scarfpylon_binary(7, 4, 3, 4, 4, until, OUT))) return 1;
+    printf("X 6 = %llu\n", (unsigned long long)next[0]);
+    printf("3 U 4 = %llu\n", (unsigned long long)until[0]);
     return 0;
 }
