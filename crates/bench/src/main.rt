@@ -47,7 +47,7 @@ fn answer(file: &[u8]) {
 }
 
 fn main() {
-    // One byte more than the largest good file has: of a longer one, no byte beyond it can be the first that offends.
+    // One byte more than the largest good file has: of a longer one these bytes decide (`first-bytes-decide`, in proofs/Prefix of `file`).
     let mut file = [0u8; 4451];
     let taken = read_file(&mut file);
     match taken {

@@ -21,7 +21,7 @@ use Rattle.file.proofs.Steps.{byte-next}
 use Rattle.file.proofs.Spans.{Spans}
 use Rattle.file.proofs.Whole.{parts-complete, whole-run}
 
-drop-take : (n k : ℕ) (l : List ℕ) → drop n (take k l) ≡ take (k - n) (drop n l)
+pub drop-take : (n k : ℕ) (l : List ℕ) → drop n (take k l) ≡ take (k - n) (drop n l)
 drop-take zero k l = let z : k - 0 ≡ k = omega arith in rw z
 drop-take (suc n) zero l = let z : zero - suc n ≡ zero = omega arith in rw z
 drop-take (suc n) (suc k) [] = sym (take-nil (suc k - suc n))

@@ -17,3 +17,4 @@ pub mod Theorems
 pub mod Largest
 pub mod Cuts
 pub mod Offsets
+pub mod Prefix

@@ -33,7 +33,7 @@ next-upto (got a n) k u h f = f a n refl u
 next-upto (bad o) k u h f = omega arith
 
 module _ (file : List ℕ) where
-  byte-upto : (test : ℕ → Bool) (at : ℕ) → Upto (at + 1) (byte test file at)
+  pub byte-upto : (test : ℕ → Bool) (at : ℕ) → Upto (at + 1) (byte test file at)
   unfolding byte
   byte-upto test at = go (ltb at (length file)) (test (getD file at 0)) refl
     where
@@ -67,10 +67,10 @@ module _ (file : List ℕ) where
 
   -- ---- names
 
-  letter-upto : (before : List ℕ) (at : ℕ) → Upto (at + 1) (letter before file at)
+  pub letter-upto : (before : List ℕ) (at : ℕ) → Upto (at + 1) (letter before file at)
   letter-upto before at = byte-upto _ at
 
-  name-upto : (before : List (List ℕ)) (at : ℕ) → Upto (at + 17) (name before file at)
+  pub name-upto : (before : List (List ℕ)) (at : ℕ) → Upto (at + 17) (name before file at)
   unfolding name
   name-upto before at =
       next-upto (counted 1 nameLength letter file at) (λ letters n. notTwice (isIn sameBytes letters before) at letters n) (counted-upto 1 nameLength letter 1 letter-upto at) (omega arith)
@@ -82,7 +82,7 @@ module _ (file : List ℕ) where
 
   -- ---- sessions
 
-  word-upto : (n at : ℕ) → Upto (at + 8) (word n file at)
+  pub word-upto : (n at : ℕ) → Upto (at + 8) (word n file at)
   unfolding word
   word-upto n at = go (leb (at + 8) (length file)) (ltb (number (take 8 (drop at file))) (2 ^ n)) refl
     where
@@ -91,7 +91,7 @@ module _ (file : List ℕ) where
       go true false h = omega arith
       go false q h = omega (arith, leb-false (at + 8) (length file) h)
 
-  session-upto : (m : ℕ) (at : ℕ) → Upto (at + (2 + m * 8)) (session m file at)
+  pub session-upto : (m : ℕ) (at : ℕ) → Upto (at + (2 + m * 8)) (session m file at)
   unfolding session
   session-upto m at =
       next-upto (byte (within 0 1) file at) _ (byte-upto (within 0 1) at) (omega arith) λ mark a e h.
@@ -101,7 +101,7 @@ module _ (file : List ℕ) where
 
   -- ---- codes: as many as there are in the group, since none comes twice
 
-  each-more : {A : Type 0} (fit : List A → A → Type 0) (l before : List A) (a : A) → Each fit before l → fit (before ++ l) a → Each fit before (l ++ (a ∷ []))
+  pub each-more : {A : Type 0} (fit : List A → A → Type 0) (l before : List A) (a : A) → Each fit before l → fit (before ++ l) a → Each fit before (l ++ (a ∷ []))
   unfolding Each
   each-more fit [] before a e f = (rw append-nil at f, tt)
   each-more fit (x ∷ l) before a e f = (e .0, each-more fit l (before ++ (x ∷ [])) a (e .1) (rw append-assoc f))
@@ -122,7 +122,7 @@ module _ (file : List ℕ) where
             let l = length-append before (c ∷ []) in
             higher (each (code group) n (before ++ (c ∷ [])) file next) (below c next f) (omega (arith, t .1 .end))
 
-    codes-upto : (at : ℕ) → Upto (at + 1 + most) (codes group file at)
+    pub codes-upto : (at : ℕ) → Upto (at + 1 + most) (codes group file at)
     unfolding Each
     codes-upto at =
         next-upto (byte (within 0 255) file at) (λ n next. each (code group) n [] file next) (byte-upto (within 0 255) at) (omega arith)
@@ -138,14 +138,14 @@ module _ (file : List ℕ) where
       next-upto (byte (within 1 bound) file b) _ (byte-upto (within 1 bound) b) (omega arith) λ v next f j.
       (omega arith)
 
-  names-upto : (at : ℕ) → Upto (at + 273) (namesUpTo propositions file at)
+  pub names-upto : (at : ℕ) → Upto (at + 273) (namesUpTo propositions file at)
   names-upto at = higher (namesUpTo propositions file at) (counted-upto 1 propositions name 17 name-upto at) (omega arith)
 
-  sessions-upto : (m : ℕ) → m ≤ propositions → (at : ℕ) → Upto (at + 4161) (allSessions m file at)
+  pub sessions-upto : (m : ℕ) → m ≤ propositions → (at : ℕ) → Upto (at + 4161) (allSessions m file at)
   sessions-upto m h at =
       higher (allSessions m file at) (counted-upto 1 sessions (λ _. session m) (2 + m * 8) (λ _. session-upto m) at) (omega arith)
 
-  parts-upto : Upto 4450 (parts file 0)
+  pub parts-upto : Upto 4450 (parts file 0)
   unfolding parts
   parts-upto =
       next-upto (namesUpTo propositions file 0) _ (names-upto 0) (omega arith) λ ns a e h.

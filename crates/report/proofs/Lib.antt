@@ -6,3 +6,4 @@ pub mod Searching
 pub mod Answered
 pub mod Handed
 pub mod Unique
+pub mod Prefix

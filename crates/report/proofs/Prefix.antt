@@ -1,0 +1,19 @@
+-- What is reported of a byte string's first 4,451 bytes is what the contract says of the whole: a caller need not read further.
+-- Assumes nothing.
+use mathlib.Core.Path.{subst}
+use mathlib.Core.List.{List}
+use Prim.Native.Nat.{ℕ}
+use lib.ListN.{take}
+use Rattle.file.specs.Format.{Parts}
+use Rattle.file.specs.Offence.{Got}
+use Rattle.file.proofs.Prefix.{first-bytes-decide}
+use Rattle.report.specs.Report.{Says, Reports}
+
+pub first-bytes-report : (file : List ℕ) (room : ℕ) (old : List ℕ) (r : ℕ) (new : List ℕ) → Reports (take 4451 file) room old r new → Reports file room old r new
+first-bytes-report file room old r new w =
+    record {
+      lines = w .lines;
+      says = subst (λ (g : Got Parts). Says g room (w .lines)) (first-bytes-decide file) (w .says);
+      long = w .long;
+      holds = w .holds;
+    }
