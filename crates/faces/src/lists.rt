@@ -8,10 +8,10 @@ ghost use lib.ListN.{length};
 ghost use Rattle.faces.specs.Inner.{seen, Copied, putOver};
 
 // As many nodes as the check and printing look at: one more than a list may have.
-pub(crate) const SEEN: usize = 4097;
+pub(crate) const SEEN: usize = formula::nodes::NODES + 1;
 
-// Document 01, "Numbers": the largest room.
-pub(crate) const ROOM: usize = 4096;
+// The largest room.
+pub(crate) const ROOM: usize = session::ROOM;
 
 // What a search leaves: its answer, and the kept nodes at the start of an array.
 pub(crate) struct Done {

@@ -62,11 +62,11 @@ fn searched(
         (inputOf r m bound room constants (now (marks .entry)) (now (lengths .entry)) (now (words .entry)) (now (unary .entry)) (now (binary .entry)))
         (now (text .entry)) n (now (text .exit)) ⌝ }
 {
-    let mut codes = [0u8; 4096];
-    let mut lefts = [0u16; 4096];
-    let mut rights = [0u16; 4096];
-    let mut sizes = [0u8; 4096];
-    let mut matrices = [0u64; 131072];
+    let mut codes = [0u8; session::ROOM];
+    let mut lefts = [0u16; session::ROOM];
+    let mut rights = [0u16; session::ROOM];
+    let mut sizes = [0u8; session::ROOM];
+    let mut matrices = [0u64; session::ROOM * session::SESSIONS];
     let answer = search::search(
         r,
         m,
@@ -105,9 +105,9 @@ fn searched(
 pub fn report(file: &[u8], room: usize, text: &mut [u8; 512]) -> usize
     ensures { λ r. ⌜ Reports (now (file .entry)) room (now (text .entry)) r (now (text .exit)) ⌝ }
 {
-    let mut marks = [0u8; 32];
-    let mut lengths = [0u8; 32];
-    let mut words = [0u64; 512];
+    let mut marks = [0u8; session::SESSIONS];
+    let mut lengths = [0u8; session::SESSIONS];
+    let mut words = [0u64; session::SESSIONS * session::PROPOSITIONS];
     let mut unary = [0u8; 5];
     let mut binary = [0u8; 6];
     let read = file::read(

@@ -2,6 +2,8 @@
 // The rows of a candidate are written into an array of the function that asks for them: a table that is full has no place for them, and what is
 // not kept must not be written.
 use crate::given::Given;
+use formula::kinds::FALSE;
+use formula::kinds::PROPOSITION;
 use formula::kinds::Place;
 use sequence::CharSeq;
 use sequence::operators;
@@ -21,14 +23,8 @@ ghost use lib.Seq.{paste};
 // One word per session; those after the last session are not looked at.
 pub type Matrix = [u64; session::SESSIONS];
 
-// Document 01, operator codes: the first binary one (the unary ones come before it), and the leaves.
+// Document 01, operator codes: the first binary one; the unary ones come before it.
 const BINARY: u8 = 5;
-
-pub(crate) const PROPOSITION: u8 = 16;
-
-pub(crate) const FALSE: u8 = 17;
-
-pub(crate) const TRUE: u8 = 18;
 
 fn unary_at(code: u8, x: u64, length: u8) -> u64
     ensures { λ w. ⌜ UnaryAt code x length w ⌝ }

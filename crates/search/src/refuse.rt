@@ -10,9 +10,6 @@ ghost use Rattle.search.specs.Refusals.{searchRows};
 ghost use Rattle.search.specs.Search.{inputOf};
 ghost use Rattle.search.specs.Checks.{Told, GroupIs, SeenIn, CodesTold, SettingsTold, RoomTold};
 
-// Document 01, "Numbers": the largest room.
-const ROOM: usize = 4096;
-
 fn in_group(code: u8, unary: bool) -> bool
     ensures { λ b. ⌜ Told (GroupIs unary code) b ⌝ }
 {
@@ -70,7 +67,7 @@ fn settings_good(bound: usize, room: usize, constants: u8) -> bool
     if room < 1 {
         return false;
     }
-    if ROOM < room {
+    if session::ROOM < room {
         return false;
     }
     if 1 < constants {

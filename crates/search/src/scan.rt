@@ -1,14 +1,14 @@
 // The candidates of a size, from any of them on, up to the first that decides or is to be kept. Each loop of aux.rs and cache.rs is a function
 // that starts where it is told, so what was cut anywhere goes on from there. Nothing is written here.
 use crate::given::Given;
-use crate::matrix::FALSE;
-use crate::matrix::PROPOSITION;
-use crate::matrix::TRUE;
 use crate::matrix::agrees;
 use crate::matrix::known;
 use crate::matrix::rows_of;
+use formula::kinds::FALSE;
+use formula::kinds::PROPOSITION;
 use formula::kinds::Place;
 use formula::kinds::Proposition;
+use formula::kinds::TRUE;
 use sequence::operators::operator_of;
 ghost use mathlib.Core.Path.{_≡_};
 ghost use Prim.Native.Nat.{_≤_};

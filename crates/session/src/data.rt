@@ -8,6 +8,9 @@ ghost use Rattle.sequence.specs.Refusals.{Decided};
 ghost use Rattle.session.specs.Data.{dataRows};
 ghost use Rattle.session.specs.Inner.{AllUpTo, Clear, AllClear};
 
+// The largest length, as lengths are lent.
+const LENGTH: u8 = crate::LENGTH as u8;
+
 // Whether each of the first n numbers is at most `most`.
 fn all_up_to(list: &[u8], n: usize, most: u8) -> bool
     requires { ⌜ n ≤ length (now list) ⌝ }
@@ -86,7 +89,7 @@ pub fn test(r: usize, m: usize, marks: &[u8], lengths: &[u8], words: &[u64]) -> 
     if words.len() < m * r {
         return 3;
     }
-    if all_up_to(lengths, r, 64) {
+    if all_up_to(lengths, r, LENGTH) {
         if all_clear(lengths, words, r, m) {
             if all_up_to(marks, r, 1) {
                 return 0;

@@ -9,4 +9,6 @@ pub const PROPOSITIONS: usize = 16;
 
 pub const BOUND: usize = 31;
 
-pub const LENGTH: usize = 64;
+pub const ROOM: usize = 4096;
+
+pub const LENGTH: usize = sequence::CharSeq::MAX_LENGTH;
