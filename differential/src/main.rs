@@ -1,4 +1,5 @@
-//! The harness: asks the Rust's own operators and our compiled program the same questions and compares every value.
+//! The harness: asks the Rust's own operators, formulas and search, and walks written from document 01's prose, and our compiled programs and library
+//! the same questions, and compares every value.
 
 // The Rust's files, unchanged, and the stand-ins for what is missing, as build.rs found them.
 include!(concat!(env!("OUT_DIR"), "/the_rust.rs"));
@@ -35,7 +36,7 @@ const USAGE: &str = "differential: one of
   calls [ROUNDS]           operators, check, print and read of the C boundary (default: 20 rounds); with --archive before it, as above
   speed                    how fast our search runs beside the Rust's; only with --profile speed --features published-hash
   collision                an input on which the Rust's published hash loses a formula (with --features published-hash; without, exact keys)
-  sample                   writes the stored answers anew: crates/replay/stdin and stdout, crates/settled/stdout
+  sample                   writes the stored answers anew: crates/replay/stdin and stdout, crates/settled/stdout, crates/searches/src/sample.rt and stdout
   findings                 what the Rust does outside document 01's domain";
 
 fn main() {

@@ -125,6 +125,8 @@ fn judge(file: &[u8]) -> ReadAnswer
     }
 }
 
+// Reads a session file into lent slices: marks and lengths, one a session; words, m a session; the codes of each group. The whole file is judged before
+// anything is written: a broken one, or too little room, leaves all slices as they were. The names are not copied: they are the file's first bytes.
 pub fn read(
     file: &[u8],
     marks: &mut [u8],

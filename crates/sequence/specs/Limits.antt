@@ -1,5 +1,5 @@
 -- The numbers of document 01 ("Numbers"), written once. The largest length is `width`, of `words`. Each crate has its own name for those that it
--- uses, where it also says of what: session/specs/Numbers, walk/specs/Input.
+-- uses, where it also says of what: session/specs/Numbers, file/specs/Numbers, walk/specs/Input.
 -- Assumes nothing.
 use Prim.Native.Nat.{ℕ}
 
