@@ -1,4 +1,4 @@
-//! Damaged session files: what the compiled bench writes, byte by byte, against a judge written from document 01's prose alone.
+//! Damaged session files: what the compiled bench writes, byte by byte, against a judge written from document 01's prose.
 use std::collections::BTreeMap;
 use std::io::{ErrorKind, Read, Write};
 use std::process::{Command, Stdio};

@@ -1,4 +1,4 @@
-//! What the bench has to write for a file: a reader, a walk and a printer of their own, written from document 01's prose alone. Nothing here is
+//! What the bench has to write for a file: a reader, a walk and a printer of their own, written from document 01's prose. Nothing here is
 //! fast or shared with the library: a row is a list of truth values, a formula a tree, and every operator its sentence position by position.
 use std::rc::Rc;
 
