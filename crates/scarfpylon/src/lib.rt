@@ -1,4 +1,4 @@
-// The C boundary: the search on numbers and slices of numbers. Every function returns 0 where it answered, else a refusal's number, and
+// The C boundary: operators, search, check, print and reader on numbers and slices of numbers. Every function returns 0 where it answered, else a refusal's number, and
 // answers in the slice `out`.
 mod out;
 mod short;

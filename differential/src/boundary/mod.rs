@@ -75,9 +75,14 @@ pub enum Way {
     Served,
 }
 
-pub fn open(way: Way) -> Result<Box<dyn Boundary>, String> {
+fn open(way: Way) -> Result<Box<dyn Boundary>, String> {
     Ok(match way {
         Way::Linked => Box::new(Linked::load()?),
         Way::Served => Box::new(Served::start()?),
     })
+}
+
+/// The library, or a line that says why what was to be compared is not.
+pub fn opened(way: Way, what: &str) -> Option<Box<dyn Boundary>> {
+    open(way).map_err(|error| println!("{what} not compared: {error}")).ok()
 }

@@ -10,12 +10,8 @@ use judged::Judged;
 
 /// Compares with so many rounds of each kind.
 pub fn run(way: Way, rounds: u64) -> i32 {
-    let library = match boundary::open(way) {
-        Ok(library) => library,
-        Err(error) => {
-            println!("calls not compared: {error}");
-            return 1;
-        }
+    let Some(library) = boundary::opened(way, "calls") else {
+        return 1;
     };
     let mut judged = Judged::new(library);
     let (mut compared, mut differ) = (0, 0);

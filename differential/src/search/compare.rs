@@ -164,12 +164,8 @@ impl Comparison {
 }
 
 pub fn run(way: Way, extent: Extent) -> i32 {
-    let library = match boundary::open(way) {
-        Ok(library) => library,
-        Err(error) => {
-            println!("searches not compared: {error}");
-            return 1;
-        }
+    let Some(library) = boundary::opened(way, "searches") else {
+        return 1;
     };
     let mut comparison = Comparison {
         library,
