@@ -8,13 +8,14 @@ use native.Mathlib.Decide.{decLe}
 use native.Mathlib.Omega.{arith}
 use lib.ListN.{length, take, length-map, length-take}
 use lib.Seq.{take-all}
-use Rattle.sequence.specs.Refusals.{Row, Decided}
-use Rattle.sequence.proofs.Refusals.{Numbered, decided-none}
+use Rattle.rules.specs.Refusals.{Row, Decided}
+use Rattle.rules.proofs.Refusals.{Numbered, decided-none}
 use Rattle.session.specs.Data.{dataRows}
 use Rattle.file.specs.Offence.{Got, got, bad, wholeNames}
-use Rattle.session.specs.Answers.{Said}
-use Rattle.walk.specs.Nodes as walk
-use Rattle.walk.specs.Input.{Input, mostRoom}
+use Rattle.rules.specs.Answers.{Said}
+use Rattle.formula.specs.Nodes as walk
+use Rattle.session.specs.Recording.{Recording}
+use Rattle.rules.specs.Limits.{mostRoom}
 use Rattle.formula.specs.declared.kinds.Node.{Node}
 use Rattle.formula.specs.Kinds.{nodeOf}
 use Rattle.formula.specs.Rule.{tooMany, brokenList}
@@ -45,7 +46,7 @@ module _ (ns : List Node) (long : seen < length ns) where
   pub long-cut : mostRoom < length (plain (take seen ns))
   long-cut = omega (arith, length-map (take seen ns) nodeOf, length-take seen ns)
 
-pub check-whole : (i : Input) (ns : List Node) (root : walk.Node) (s : Said) → CheckAnswer i (plain (take seen ns)) root s → CheckAnswer i (plain ns) root s
+pub check-whole : (i : Recording) (ns : List Node) (root : walk.Node) (s : Said) → CheckAnswer i (plain (take seen ns)) root s → CheckAnswer i (plain ns) root s
 check-whole i ns root s a =
     elim (decLe (length ns) seen) [
       | yes h ↦ subst (λ (l : List Node). CheckAnswer i (plain l) root s) (take-all seen ns h) a

@@ -9,8 +9,8 @@ use native.Mathlib.Decide.{decLe}
 use native.Mathlib.Omega.{arith}
 use lib.ListN.{length, take, drop, length-map, length-append, length-take, length-drop}
 use lib.Seq.{take-at}
-use Rattle.sequence.specs.Refusals.{Row, Decided}
-use Rattle.session.specs.Answers.{Said, over}
+use Rattle.rules.specs.Refusals.{Row, Decided}
+use Rattle.rules.specs.Answers.{Said, over}
 use Rattle.walk.specs.Walk.{found, full, none, State, going, ended, kept}
 use Rattle.walk.specs.Input.{Input, search}
 use Rattle.formula.specs.declared.kinds.Node.{Node}
@@ -61,7 +61,7 @@ module _ (i : Input) (t u : Cols) (c : CutTo t u) where
       (⊎-elim (λ x. inr (inl (cut-short _ _ _ (c .lefts-cut) h x)))
       (⊎-elim (λ x. inr (inr (inl (cut-short _ _ _ (c .rights-cut) h x))))
       (⊎-elim (λ x. inr (inr (inr (inl (cut-short _ _ _ (c .sizes-cut) h x)))))
-      (λ x. inr (inr (inr (inr (subst (λ (n : ℕ). n < i .room * i .sessions) (c .matrices-whole) x))))))))
+      (λ x. inr (inr (inr (inr (subst (λ (n : ℕ). n < i .room * i .recording .sessions) (c .matrices-whole) x))))))))
 
   still-no-room : i .room ≤ room → noRoom i u .given → noRoom i t .given
   still-no-room h =
@@ -69,7 +69,7 @@ module _ (i : Input) (t u : Cols) (c : CutTo t u) where
       (⊎-elim (λ x. inr (inl (whole-short _ _ _ (c .lefts-cut) h x)))
       (⊎-elim (λ x. inr (inr (inl (whole-short _ _ _ (c .rights-cut) h x))))
       (⊎-elim (λ x. inr (inr (inr (inl (whole-short _ _ _ (c .sizes-cut) h x)))))
-      (λ x. inr (inr (inr (inr (subst (λ (n : ℕ). n < i .room * i .sessions) (sym (c .matrices-whole)) x))))))))
+      (λ x. inr (inr (inr (inr (subst (λ (n : ℕ). n < i .room * i .recording .sessions) (sym (c .matrices-whole)) x))))))))
 
   same-rows : (k : ℕ) → Decided (searchRows i t) k → Decided (searchRows i u) k
   same-rows k d =

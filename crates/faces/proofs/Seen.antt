@@ -7,9 +7,9 @@ use native.Mathlib.Decide.{decLe}
 use native.Mathlib.Omega.{arith}
 use lib.ListN.{length, take, length-map, List·getD-map}
 use lib.Seq.{take-all, ext-getD}
-use Rattle.session.specs.Answers.{Said}
-use Rattle.walk.specs.Nodes as walk
-use Rattle.walk.specs.Input.{Input}
+use Rattle.rules.specs.Answers.{Said}
+use Rattle.formula.specs.Nodes as walk
+use Rattle.session.specs.Recording.{Recording}
 use Rattle.formula.specs.declared.kinds.Node.{Node}
 use Rattle.formula.specs.Kinds.{nodeOf, node, nodes}
 use Rattle.formula.specs.Check.{CheckAnswer}
@@ -73,7 +73,7 @@ module _ (list : List Node) (long n : ℕ) {c l r s : List ℕ} (e : n ≡ min l
   what-is-seen : (ns : List Node) → length ns ≡ long → Copied ns list → nodes (take n c) (take n l) (take n r) (take n s) ≡ plain (take seen ns)
   what-is-seen ns h k = first-nodes list n f ∙ ap plain (cut-same ns list n (omega arith) k)
 
-  pub checks-seen : (i : Input) (root : walk.Node) (a : Said) → CheckAnswer i (nodes (take n c) (take n l) (take n r) (take n s)) root a → Checks i list long root a
+  pub checks-seen : (i : Recording) (root : walk.Node) (a : Said) → CheckAnswer i (nodes (take n c) (take n l) (take n r) (take n s)) root a → Checks i list long root a
   checks-seen i root a x ns h k = check-whole i ns root a (subst (λ (q : List walk.Node). CheckAnswer i q root a) (what-is-seen ns h k) x)
 
   pub prints-seen : (file : List ℕ) (root : walk.Node) (old : List ℕ) (a : Said) (new : List ℕ)

@@ -3,7 +3,8 @@
 use mathlib.Core.Path.{_≡_, refl, sym, ap, ap₂, _∙_}
 use mathlib.Core.List.{List, [], _∷_, head-eq-of-cons-eq, tail-eq-of-cons-eq, cons-ne-nil}
 use Prim.Native.Nat.{ℕ}
-use Rattle.walk.specs.Nodes as walk
+use Rattle.formula.specs.Nodes as walk
+use Rattle.session.specs.Recording.{Recording}
 use Rattle.walk.specs.Input.{Input}
 use Rattle.formula.specs.declared.kinds.Node.{Node}
 use Rattle.formula.specs.declared.Verdict.{Verdict}
@@ -18,7 +19,7 @@ use Rattle.search.specs.Search.{Searched}
 use Rattle.search.proofs.Promises.{search-unique}
 use Rattle.faces.specs.Lists.{plain, codesOf, leftsOf, rightsOf, sizesOf, columns}
 
-pub check-face-unique : (i : Input) (ns : List Node) (root : walk.Node) (v w : Verdict)
+pub check-face-unique : (i : Recording) (ns : List Node) (root : walk.Node) (v w : Verdict)
     → CheckAnswer i (plain ns) root (saidVerdict v) → CheckAnswer i (plain ns) root (saidVerdict w) → v ≡ w
 check-face-unique i ns root v w a b = check-unique i (plain ns) root v w a b
 

@@ -2,11 +2,13 @@
 -- Assumes nothing.
 use mathlib.Core.Path.{_≡_}
 use mathlib.Core.List.{List, _++_}
-use Prim.Native.Nat.{ℕ, _≤_}
+use Prim.Native.Nat.{ℕ, _+_, _≤_}
 use lib.ListN.{length, take, drop}
-use Rattle.walk.specs.Nodes as walk
+use Rattle.formula.specs.Nodes as walk
+use Rattle.session.specs.Recording.{Recording}
 use Rattle.walk.specs.Input.{Input}
-use Rattle.session.specs.Answers.{Said}
+use Rattle.rules.specs.Limits.{mostRoom}
+use Rattle.rules.specs.Answers.{Said}
 use Rattle.formula.specs.declared.kinds.Node.{Node}
 use Rattle.formula.specs.Check.{CheckAnswer}
 use Rattle.text.specs.Print.{Prints}
@@ -22,7 +24,7 @@ noNode = record { code = 0; left = record { 0 = 0 }; right = record { 0 = 0 }; s
 
 -- one more than 4,096: by so many nodes a list shows that it is too long
 abbrev pub seen : ℕ
-seen = 4097
+seen = mostRoom + 1
 
 -- the nodes that are looked at are the array's first ones
 pub record Copied (ns list : List Node) : Type 0 where
@@ -41,7 +43,7 @@ pub record Filled (list : List Node) (i : ℕ) (codes lefts rights sizes : List 
   pub sizes-are : take i sizes ≡ take i (sizesOf list)
 
 -- the check's answer for whatever list of n nodes the array was copied from
-abbrev pub Checks : Input → List Node → ℕ → walk.Node → Said → Type 0
+abbrev pub Checks : Recording → List Node → ℕ → walk.Node → Said → Type 0
 Checks i list n root s = (ns : List Node) → length ns ≡ n → Copied ns list → CheckAnswer i (plain ns) root s
 
 -- printing's, in the same way
@@ -52,7 +54,7 @@ Printing file list n root old s new = (ns : List Node) → length ns ≡ n → C
 
 -- "table room C 1 to 4,096 formulas"
 abbrev pub room : ℕ
-room = 4096
+room = mostRoom
 
 -- the number kept, 0 at a refusal
 abbrev pub keptOf : SearchAnswer → ℕ

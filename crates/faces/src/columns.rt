@@ -5,16 +5,17 @@ use crate::lists::SEEN;
 use crate::lists::count_of;
 use formula::Verdict;
 use formula::kinds::Node;
-use formula::kinds::Place;
+use rules::kinds::Place;
 use search::SearchAnswer;
 use text::Printed;
 ghost use mathlib.Core.Path.{_≡_};
 ghost use Prim.Native.Nat.{_≤_, min};
 ghost use lib.ListN.{length};
 ghost use Rattle.formula.specs.Kinds.{nodeOf};
-ghost use Rattle.formula.specs.Check.{saidVerdict, recorded};
+ghost use Rattle.formula.specs.Check.{saidVerdict};
+ghost use Rattle.session.specs.Recording.{recording};
 ghost use Rattle.text.specs.Print.{saidPrinted};
-ghost use Rattle.search.specs.Search.{inputOf};
+ghost use Rattle.walk.specs.Input.{inputOf};
 ghost use Rattle.faces.specs.Inner.{room, Filled, Checks, Printing, keptOf, Works};
 
 // The first `count` nodes, field by field.
@@ -51,7 +52,7 @@ pub(crate) fn check(
     length: usize,
     root: Node,
 ) -> Verdict
-    ensures { λ v. ⌜ Checks (recorded r m (now (marks .entry)) (now (lengths .entry)) (now (words .entry))) list length (nodeOf root) (saidVerdict v) ⌝ }
+    ensures { λ v. ⌜ Checks (recording r m (now (marks .entry)) (now (lengths .entry)) (now (words .entry))) list length (nodeOf root) (saidVerdict v) ⌝ }
 {
     let count = count_of(length);
     let mut codes: [u8; SEEN] = [0; SEEN];

@@ -8,9 +8,11 @@ use formula::kinds::Node;
 use search::SearchAnswer;
 use text::Printed;
 ghost use Rattle.formula.specs.Kinds.{nodeOf};
-ghost use Rattle.formula.specs.Check.{saidVerdict, recorded, CheckAnswer};
+ghost use Rattle.formula.specs.Check.{saidVerdict, CheckAnswer};
+ghost use Rattle.session.specs.Recording.{recording};
 ghost use Rattle.text.specs.Print.{saidPrinted, Prints};
-ghost use Rattle.search.specs.Search.{inputOf, Searched};
+ghost use Rattle.search.specs.Search.{Searched};
+ghost use Rattle.walk.specs.Input.{inputOf};
 ghost use Rattle.faces.specs.Lists.{plain, columns};
 
 // The analyst's check of a node list, whoever wrote it.
@@ -23,7 +25,7 @@ pub fn check(
     nodes: &[Node],
     root: Node,
 ) -> Verdict
-    ensures { λ v. ⌜ CheckAnswer (recorded r m (now (marks .entry)) (now (lengths .entry)) (now (words .entry))) (plain (now (nodes .entry))) (nodeOf root) (saidVerdict v) ⌝ }
+    ensures { λ v. ⌜ CheckAnswer (recording r m (now (marks .entry)) (now (lengths .entry)) (now (words .entry))) (plain (now (nodes .entry))) (nodeOf root) (saidVerdict v) ⌝ }
 {
     let list = lists::copied(nodes);
     columns::check(r, m, marks, lengths, words, list, nodes.len(), root)

@@ -1,6 +1,6 @@
 // Nodes from a lent slice into an array, and back: the functions that touch a slice of structs, and no more.
 use formula::kinds::Node;
-use formula::kinds::Place;
+use rules::kinds::Place;
 use search::SearchAnswer;
 ghost use mathlib.Core.Path.{_≡_};
 ghost use Prim.Native.Nat.{min, _≤_};
@@ -8,10 +8,10 @@ ghost use lib.ListN.{length};
 ghost use Rattle.faces.specs.Inner.{seen, Copied, putOver};
 
 // As many nodes as the check and printing look at: one more than a list may have.
-pub(crate) const SEEN: usize = formula::nodes::NODES + 1;
+pub(crate) const SEEN: usize = rules::ROOM + 1;
 
 // The largest room.
-pub(crate) const ROOM: usize = session::ROOM;
+pub(crate) const ROOM: usize = rules::ROOM;
 
 // What a search leaves: its answer, and the kept nodes at the start of an array.
 pub(crate) struct Done {

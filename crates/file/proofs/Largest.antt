@@ -10,7 +10,7 @@ use lib.ListN.{length, replicate, length-append}
 use Rattle.words.specs.Word.{Wf}
 use Rattle.words.proofs.At.{lt-wf}
 use Rattle.file.specs.Format.{Session, Parts, one, section, nameBytes, fileBytes, GoodName, GoodSession, Good}
-use Rattle.session.specs.Each.{Each}
+use Rattle.rules.specs.Lists.{Each}
 use Rattle.file.specs.Offence.{got, each, byte, name, namesUpTo, codes, isUnary, isBinary}
 use Rattle.file.proofs.Lists.{ones}
 use Rattle.file.proofs.CodeLaws.{unary-good, good-unary, binary-good, good-binary}

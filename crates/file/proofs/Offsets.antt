@@ -11,7 +11,7 @@ use lib.Dec.{ltb, leb, eqb}
 use lib.ListN.{length, getD, take, drop, length-append}
 use Rattle.words.specs.Word.{width}
 use Rattle.file.specs.Numbers.{sessions, propositions, bound, nameLength}
-use Rattle.session.specs.Each.{Each}
+use Rattle.rules.specs.Lists.{Each}
 use Rattle.file.specs.Offence.{Got, got, bad, Reader, andThen, each, byte, within, counted, letter, name, isIn, sameBytes, notTwice, namesUpTo, number, word, session, allSessions, isUnary, isBinary, code, codes, settings, atEnd, parts, wholeFile, wholeNames}
 use Rattle.file.proofs.Lists.{within-high}
 use Rattle.file.proofs.Readers.{got-bad, byte-sound}

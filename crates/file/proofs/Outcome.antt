@@ -15,7 +15,7 @@ use Rattle.file.specs.Numbers.{sessions, propositions}
 use Rattle.file.specs.Format.{Parts, section, nameBytes, Good}
 use Rattle.file.specs.Offence.{Got, got, bad, wholeFile}
 use Rattle.file.specs.Reading.{said, Lent, lent, after, marksOf, lengthsOf, wordsOf, roomFor, readOf}
-use Rattle.session.specs.Answers.{over}
+use Rattle.rules.specs.Answers.{over}
 use Rattle.file.specs.Inner.{numbersOf, answerOf, strided, sessionWords}
 use Rattle.file.proofs.Numbers.{Bytes}
 use Rattle.file.proofs.Whole.{passed-is-good}

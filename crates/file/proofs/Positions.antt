@@ -11,10 +11,10 @@ use lib.Seq.{sets, sets-eq, drop-drop, drop-at, take-at}
 use Rattle.words.specs.Word.{Wf}
 use Rattle.words.proofs.At.{wf-lt}
 use Rattle.file.specs.Format.{Session, Parts, one, section, nameBytes, wordBytes, sessionBytes, fileBytes, GoodSession, Good}
-use Rattle.session.specs.Each.{Each}
+use Rattle.rules.specs.Lists.{Each}
 use Rattle.file.specs.Offence.{number}
 use Rattle.file.specs.Reading.{marksOf, lengthsOf, wordsOf}
-use Rattle.session.specs.Answers.{over}
+use Rattle.rules.specs.Answers.{over}
 use Rattle.file.specs.Inner.{strided, wordsAt, sessionWords}
 use Rattle.file.proofs.Lists.{ones}
 use Rattle.file.proofs.Numbers.{length-low, number-low}

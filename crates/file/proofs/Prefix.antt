@@ -13,7 +13,7 @@ use lib.ListN.{length, take, drop, length-take, length-append}
 use lib.Seq.{getD-take, take-all, take-take}
 use Rattle.words.specs.Word.{width}
 use Rattle.file.specs.Numbers.{sessions, propositions, bound, nameLength}
-use Rattle.session.specs.Each.{Each}
+use Rattle.rules.specs.Lists.{Each}
 use Rattle.file.specs.Offence.{Got, got, bad, Reader, andThen, each, byte, within, counted, letter, name, namesUpTo, word, session, allSessions, isUnary, isBinary, code, codes, settings, atEnd, parts, wholeFile}
 use Rattle.file.proofs.Lists.{within-high}
 use Rattle.file.proofs.Readers.{byte-sound}

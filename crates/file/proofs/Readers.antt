@@ -10,7 +10,7 @@ use borrow.Author.Tests.{ltb-true, lt-ltb}
 use lib.Dec.{ltb}
 use lib.ListN.{length, getD, drop}
 use Rattle.file.specs.Format.{section, one}
-use Rattle.session.specs.Each.{Each}
+use Rattle.rules.specs.Lists.{Each}
 use Rattle.file.specs.Offence.{Got, got, bad, Reader, andThen, each, byte, within, counted}
 use Rattle.file.proofs.Spans.{Spans, none, both, first, second, head, one-byte}
 use Rattle.file.proofs.Lists.{within-low, within-high, within-is}

@@ -11,7 +11,7 @@ use native.Mathlib.Omega.{arith}
 use lib.ListN.{length, getD, take, drop, length-map, length-append, List·getD-append}
 use lib.Seq.{getD-append-add, take-append-seam}
 use Rattle.words.specs.Word.{width, Wf}
-use Rattle.sequence.specs.Refusals.{Decided}
+use Rattle.rules.specs.Refusals.{Decided}
 use Rattle.sequence.specs.Operators.{Unary, Binary, unaryCode, binaryCode}
 use Rattle.file.specs.declared.ReadAnswer.{ReadAnswer}
 use Rattle.file.specs.declared.ReadAnswer.the-variants.{Parts as AllParts, Broken, Room}
@@ -19,10 +19,10 @@ use Rattle.file.specs.declared.names.NamesAnswer.{NamesAnswer}
 use Rattle.file.specs.declared.names.NamesAnswer.the-variants.{Names, Broken as NamesBroken}
 use Rattle.file.specs.Numbers.{propositions}
 use Rattle.file.specs.Format.{Session, Parts, one, section, nameBytes, sessionBytes, fileBytes, GoodName, GoodSession, GoodUnary, GoodBinary, Good, GoodFile}
-use Rattle.session.specs.Each.{Each}
+use Rattle.rules.specs.Lists.{Each}
 use Rattle.file.specs.Offence.{Got, got, bad, namesUpTo, wholeNames, wholeFile}
 use Rattle.session.specs.Data.{dataRows}
-use Rattle.session.specs.Answers.{Said}
+use Rattle.rules.specs.Answers.{Said}
 use Rattle.file.specs.Reading.{said, saidNames, namesSaid, Lent, lent, After, after, marksOf, lengthsOf, wordsOf, roomFor, readOf}
 use Rattle.file.proofs.Readers.{got-bad, got-value}
 use Rattle.file.proofs.Numbers.{Bytes}

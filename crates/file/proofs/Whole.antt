@@ -11,7 +11,7 @@ use lib.ListN.{length}
 use lib.Seq.{drop-length}
 use Rattle.file.specs.Numbers.{propositions, sessions}
 use Rattle.file.specs.Format.{Parts, Session, one, section, nameBytes, sessionBytes, fileBytes, GoodName, Good}
-use Rattle.session.specs.Each.{Each}
+use Rattle.rules.specs.Lists.{Each}
 use Rattle.file.specs.Offence.{Got, got, bad, name, session, code, isUnary, isBinary, namesUpTo, allSessions, codes, Settings, settings, atEnd, parts, wholeFile}
 use Rattle.file.proofs.Spans.{Spans, both, first, second}
 use Rattle.file.proofs.Lists.{within-low, within-high}

@@ -9,7 +9,7 @@ use lib.ListN.{length}
 use Rattle.words.specs.Word.{width, Wf}
 use Rattle.sequence.specs.Operators.{Unary, Binary, unaryCode, binaryCode}
 use Rattle.file.specs.Numbers.{sessions, propositions, bound, nameLength}
-use Rattle.session.specs.Each.{Each}
+use Rattle.rules.specs.Lists.{Each}
 
 -- ---- the parts
 

@@ -2,19 +2,19 @@
 -- since a later request raises the library's alone. The largest length is `width`, of `words`.
 -- Assumes nothing.
 use Prim.Native.Nat.{ℕ}
-use Rattle.sequence.specs.Limits as limits
+use Rattle.rules.specs.Limits.{mostSessions, mostPropositions, mostSize}
 
 -- "sessions r 1 to 32"
 abbrev pub sessions : ℕ
-sessions = limits.sessions
+sessions = mostSessions
 
 -- "propositions m 1 to 16"
 abbrev pub propositions : ℕ
-propositions = limits.propositions
+propositions = mostPropositions
 
 -- "size bound B 1 to 31"
 abbrev pub bound : ℕ
-bound = limits.size
+bound = mostSize
 
 -- "names (length byte 1-16 ..)"
 abbrev pub nameLength : ℕ

@@ -5,7 +5,7 @@ use mathlib.Core.List.{List, [], _∷_, map, flatMap}
 use Prim.Native.Nat.{ℕ, _*_}
 use lib.Dec.{leb}
 use lib.ListN.{length}
-use Rattle.session.specs.Answers.{Said, over}
+use Rattle.rules.specs.Answers.{Said, over}
 use Rattle.file.specs.declared.names.NamesAnswer.{NamesAnswer}
 use Rattle.file.specs.declared.names.NamesAnswer.the-variants.{Names, Broken as NamesBroken}
 use Rattle.file.specs.declared.ReadAnswer.{ReadAnswer}

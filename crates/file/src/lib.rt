@@ -20,11 +20,11 @@ ghost use Rattle.file.specs.Inner.{tailOf, tailAt, answerOf};
 
 // Document 01's numbers for a file; for the contracts they are in specs/Numbers.antt. Those that it shares with the library have names of their own,
 // since a later request raises the library's alone.
-const SESSIONS: usize = session::SESSIONS;
+const SESSIONS: usize = rules::SESSIONS;
 
-const PROPOSITIONS: usize = session::PROPOSITIONS;
+const PROPOSITIONS: usize = rules::PROPOSITIONS;
 
-const BOUND: usize = session::BOUND;
+const BOUND: usize = rules::BOUND;
 
 const NAME_LENGTH: usize = 16;
 

@@ -73,7 +73,7 @@ fn session_at(file: &[u8], at: usize, m: usize) -> Step
     let mark = byte_within(file, at, 0, 1);
     match mark {
         Step::Read { value: _, next: a } => {
-            let length = byte_within(file, a, 0, session::LENGTH);
+            let length = byte_within(file, a, 0, CharSeq::MAX_LENGTH);
             match length {
                 Step::Read { value: n, next: b } => words_from(file, b, n, m),
                 Step::Broken(o) => Step::Broken(o),

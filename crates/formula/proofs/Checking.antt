@@ -12,14 +12,15 @@ use lib.Dec.{lit<}
 use lib.ListN.{length, getD}
 use Rattle.words.specs.Word.{width, Wf, Means}
 use Rattle.words.proofs.At.{not-at}
-use Rattle.sequence.specs.Refusals.{Row, Decided, firstOf}
-use Rattle.sequence.proofs.Refusals.{Numbered, decided-none, decided-both}
+use Rattle.rules.specs.Refusals.{Row, Decided, firstOf}
+use Rattle.rules.proofs.Refusals.{Numbered, decided-none, decided-both}
 use Rattle.session.specs.Data.{dataRows}
-use Rattle.session.specs.Numbers.{sessions as mostSessions, propositions as mostPropositions}
-use Rattle.walk.specs.Formula.{Formula, Holds, Separates}
-use Rattle.walk.specs.Nodes.{Node, Spells, codes}
-use Rattle.walk.specs.Walk.{count}
-use Rattle.walk.specs.Input.{Input, markOf, lengthOf, wordOf, session, sessions}
+use Rattle.rules.specs.Limits.{mostSessions, mostPropositions}
+use Rattle.formula.specs.Formula.{Formula, Holds, Separates}
+use Rattle.formula.specs.Nodes.{Node, Spells, codes}
+use Rattle.rules.specs.Lists.{count}
+use Rattle.session.specs.Recording.{Recording, markOf, lengthOf, wordOf}
+use Rattle.formula.specs.Recorded.{markedTrace, markedTraces}
 use Rattle.formula.specs.Rule.{Broken, brokenList}
 use Rattle.formula.specs.Check.{checkRows, Agrees, Outcome}
 use Rattle.formula.specs.Inner.{Fits, traceAt, Ready, Evaluated, AgreesWord, Checkable, Found}
@@ -38,12 +39,12 @@ module _ {mark : ℕ} {P : Type 0} where
   pub bad-rejects : (P → ⊥) → (mark ≡ 1 → ⊥) → (true ≡ true) ↔ ((mark ≡ 1) ↔ P)
   bad-rejects p n = (λ h. (λ m. absurd (n m), λ q. absurd (p q)), λ q. refl)
 
-module _ (i : Input) (k : List Node) (root : Node) where
+module _ (i : Recording) (k : List Node) (root : Node) where
   -- the word of session j says whether the session agrees
   pub agrees-word : (j from w : ℕ) (b : Bool) → from ≡ j * i .propositions → Evaluated (lengthOf i j) (i .words) from k root w
-      → AgreesWord (markOf i j) (lengthOf i j) w b → (t : Formula) → Spells codes k root t → (b ≡ true) ↔ Agrees (session i j) t
+      → AgreesWord (markOf i j) (lengthOf i j) w b → (t : Formula) → Spells codes k root t → (b ≡ true) ↔ Agrees (markedTrace i j) t
   agrees-word j from w b e ev a t s =
-      let m : Means (lengthOf i j) w (Holds (session i j .trace) t) =
+      let m : Means (lengthOf i j) w (Holds (markedTrace i j .trace) t) =
       subst (λ (f : ℕ). Means (lengthOf i j) w (Holds (traceAt (lengthOf i j) (i .words) f) t)) e (ev t s) in
       Iff·trans a (
         λ q. (λ n. let p = q .0 n in (p .0, m .holds 0 (p .0) .0 (p .1)), λ p. q .1 (p .0, m .holds 0 (p .0) .1 (p .1))),
@@ -73,11 +74,11 @@ module _ (i : Input) (k : List Node) (root : Node) where
   -- ---- the sessions one after the other
 
   abbrev pub Before : ℕ → Type 0
-  Before j = (t : Formula) → Spells codes k root t → (h : ℕ) → h < j → Agrees (session i h) t
+  Before j = (t : Formula) → Spells codes k root t → (h : ℕ) → h < j → Agrees (markedTrace i h) t
 
-  pub one-more : (j : ℕ) → Before j → ((t : Formula) → Spells codes k root t → Agrees (session i j) t) → Before (j + 1)
+  pub one-more : (j : ℕ) → Before j → ((t : Formula) → Spells codes k root t → Agrees (markedTrace i j) t) → Before (j + 1)
   one-more j b a t s h l =
-      ⊎-elim (λ e. subst (λ (x : ℕ). Agrees (session i x) t) (sym e) (a t s)) (λ g. b t s h g) (eq-or-lt-of-le {n = h} {m = j} (omega arith))
+      ⊎-elim (λ e. subst (λ (x : ℕ). Agrees (markedTrace i x) t) (sym e) (a t s)) (λ g. b t s h g) (eq-or-lt-of-le {n = h} {m = j} (omega arith))
 
   -- ---- what the tests give
 
@@ -115,7 +116,7 @@ decided-early [] more a d n = absurd (n d)
 decided-early (row ∷ rows) more a (inl p) n = inl p
 decided-early (row ∷ rows) more a (inr p) n = inr (p .0, decided-early rows more a (p .1) n)
 
-module _ (i : Input) (k : List Node) (root : Node) where
+module _ (i : Recording) (k : List Node) (root : Node) where
   pub data-numbered : Numbered (dataRows (i .sessions) (i .propositions) (i .marks) (i .lengths) (i .words))
   data-numbered = (lit< tt, (lit< tt, (lit< tt, (lit< tt, (lit< tt, tt)))))
 
@@ -134,27 +135,27 @@ module _ (i : Input) (k : List Node) (root : Node) where
 
 -- ---- separation, session by session
 
-module _ (i : Input) (t : Formula) where
-  separates-from : (a n : ℕ) → ((h : ℕ) → h < a + n → Agrees (session i h) t) → Separates (map (session i) (count a n)) t
+module _ (i : Recording) (t : Formula) where
+  separates-from : (a n : ℕ) → ((h : ℕ) → h < a + n → Agrees (markedTrace i h) t) → Separates (map (markedTrace i) (count a n)) t
   unfolding count
   separates-from a zero f = tt
   separates-from a (suc n) f = (f a (omega arith), separates-from (suc a) n (λ h l. f h (omega arith)))
 
-  from-separates : (a n : ℕ) → Separates (map (session i) (count a n)) t → (h : ℕ) → a ≤ h → h < a + n → Agrees (session i h) t
+  from-separates : (a n : ℕ) → Separates (map (markedTrace i) (count a n)) t → (h : ℕ) → a ≤ h → h < a + n → Agrees (markedTrace i h) t
   unfolding count
   from-separates a zero s h l g = absurd (omega arith)
   from-separates a (suc n) s h l g =
-      ⊎-elim (λ e. subst (λ (x : ℕ). Agrees (session i x) t) e (s .0)) (λ q. from-separates (suc a) n (s .1) h (omega arith) (omega arith)) (eq-or-lt-of-le {n = a} {m = h} l)
+      ⊎-elim (λ e. subst (λ (x : ℕ). Agrees (markedTrace i x) t) e (s .0)) (λ q. from-separates (suc a) n (s .1) h (omega arith) (omega arith)) (eq-or-lt-of-le {n = a} {m = h} l)
 
-  pub all-agree : ((h : ℕ) → h < i .sessions → Agrees (session i h) t) → Separates (sessions i) t
+  pub all-agree : ((h : ℕ) → h < i .sessions → Agrees (markedTrace i h) t) → Separates (markedTraces i) t
   all-agree f = separates-from 0 (i .sessions) (λ h l. f h (omega arith))
 
-  pub each-agrees : Separates (sessions i) t → (h : ℕ) → h < i .sessions → Agrees (session i h) t
+  pub each-agrees : Separates (markedTraces i) t → (h : ℕ) → h < i .sessions → Agrees (markedTrace i h) t
   each-agrees s h l = from-separates 0 (i .sessions) s h (omega arith) (omega arith)
 
 -- ---- the answers
 
-module _ (i : Input) (k : List Node) (root : Node) (c : Checkable i k root) {j : ℕ} (f : Found i k root j) where
+module _ (i : Recording) (k : List Node) (root : Node) (c : Checkable i k root) {j : ℕ} (f : Found i k root j) where
   formula : (t : Formula) × Spells codes k root t
   formula = spelled (i .propositions) k (c .all) (length k) (omega arith) root (c .fits)
 

@@ -17,10 +17,10 @@ use Rattle.sequence.specs.Masked.BinaryWord.{word as binary-word, nothing as no
 use Rattle.sequence.proofs.Masked.{unary-cut, binary-cut}
 use Rattle.sequence.proofs.Unique.{unary-one, binary-one}
 use Rattle.sequence.proofs.Groups.{unary-below, binary-between}
-use Rattle.walk.specs.Formula.{proposition, constant, Holds}
-use Rattle.walk.specs.Formula.Tree.{leaf, unary, binary}
-use Rattle.walk.specs.Nodes.{Node, nodeAt, Spells, codes}
-use Rattle.walk.proofs.Rows.{means-agree, unary-agree, binary-agree}
+use Rattle.formula.specs.Formula.{proposition, constant, Holds}
+use Rattle.formula.specs.Formula.Tree.{leaf, unary, binary}
+use Rattle.formula.specs.Nodes.{Node, nodeAt, Spells, codes}
+use Rattle.sequence.proofs.Agreeing.{means-agree, unary-agree, binary-agree}
 use Rattle.formula.specs.Rule.{IsUnary, IsBinary, propositionCode}
 use Rattle.formula.specs.Inner.{Fits, traceAt, Ready, Evaluated}
 use Rattle.formula.proofs.Faults.{not-both, not-unary-leaf, not-binary-leaf, proposition-under}

@@ -14,9 +14,9 @@ use Rattle.sequence.specs.Table.{Listed, noRow}
 use Rattle.sequence.specs.Table.Listed.{unary as unary-row, binary as binary-row, neither as no-row}
 use Rattle.sequence.proofs.Groups.{unary-below, binary-between}
 use Rattle.sequence.proofs.Table.{row-at}
-use Rattle.walk.specs.Formula.{Leaf, proposition, constant}
-use Rattle.walk.specs.Nodes.{Node, nodeAt, leafCode, leafNumber}
-use Rattle.walk.specs.Input.{mostSize, mostRoom}
+use Rattle.formula.specs.Formula.{Leaf, proposition, constant}
+use Rattle.formula.specs.Nodes.{Node, nodeAt, leafCode, leafNumber}
+use Rattle.rules.specs.Limits.{mostSize, mostRoom}
 use Rattle.formula.specs.Rule.{IsUnary, IsBinary, IsLeaf, Known, Fault, Broken, propositionCode}
 use Rattle.formula.specs.Rule.Fault.{unaryPlace, leftPlace, rightPlace, unknownCode, noProposition, leftUnused, rightUnused, leafSize, unarySize, binarySize, tooLarge}
 use Rattle.formula.specs.Rule.Broken.{tooMany, listed, rooted}

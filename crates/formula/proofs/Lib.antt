@@ -1,3 +1,4 @@
+pub mod Trees
 pub mod Listed
 pub mod Faults
 pub mod Tests

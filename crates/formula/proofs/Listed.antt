@@ -5,8 +5,8 @@ use mathlib.Core.List.{List, map}
 use Prim.Native.Nat.{ℕ, zero, suc, _+_, _≤_, _<_}
 use native.Mathlib.Omega.{arith}
 use lib.ListN.{length, getD}
-use Rattle.walk.specs.Nodes.{Node, nodeAt}
-use Rattle.walk.specs.Walk.{count}
+use Rattle.formula.specs.Nodes.{Node, nodeAt}
+use Rattle.rules.specs.Lists.{count}
 use Rattle.formula.specs.Kinds.{node, countOf, nodes}
 
 module _ {A : Type 0} (f : ℕ → A) (d : A) where

@@ -6,19 +6,20 @@ use mathlib.Core.List.{List}
 use Prim.Native.Nat.{ℕ, zero, suc, _≤_, _<_}
 use native.Mathlib.Omega.{arith}
 use lib.ListN.{length}
-use Rattle.sequence.proofs.Groups.{unary-below, binary-between}
-use Rattle.sequence.proofs.Unique.{unary-one, binary-one}
-use Rattle.walk.specs.Formula.{size, Leaf, proposition, constant, Formula}
-use Rattle.walk.specs.Formula.Tree.{leaf, unary, binary}
-use Rattle.walk.specs.Nodes.{Node, nodeAt, Spells, codes, leafCode, leafNumber}
-use Rattle.walk.specs.Input.{mostSize}
-use Rattle.walk.proofs.Trees.{spells-size}
+use Rattle.sequence.specs.Operators.{Unary, Binary, unaryOf, binaryOf, decode}
+use Rattle.sequence.proofs.Decoding.{unary-of, binary-of, groupOf, unary-group, binary-group}
+use Rattle.formula.specs.Formula.{size, Leaf, proposition, constant, Formula}
+use Rattle.formula.specs.Formula.Tree.{leaf, unary, binary}
+use Rattle.formula.specs.Nodes.{Node, nodeAt, Spells, codes, leafCode, leafNumber}
+use Rattle.rules.specs.Limits.{mostSize}
+use Rattle.formula.proofs.Trees.{spells-size}
 use Rattle.formula.specs.Rule.{Broken}
 use Rattle.formula.specs.Inner.{Fits, AllFit}
 use Rattle.formula.specs.Inner.Fits.{leaf as a-leaf, unary as a-unary, binary as a-binary}
-use Rattle.formula.proofs.Faults.{leaf-between, fits-small, whole-fits}
+use Rattle.formula.specs.Promises.{OneFormula}
+use Rattle.formula.proofs.Faults.{fits-small, whole-fits}
 
--- ---- one formula at most
+-- ---- one formula at most: the codes tell leaves, unary and binary operators apart, and each operator and leaf from the others
 
 leaf-one : (c d : Leaf) → leafCode c ≡ leafCode d → leafNumber c ≡ leafNumber d → c ≡ d
 leaf-one (proposition p) (proposition q) e f = ap proposition f
@@ -31,20 +32,32 @@ leaf-one (constant false) (constant true) e f = absurd (omega arith)
 leaf-one (constant true) (constant false) e f = absurd (omega arith)
 leaf-one (constant true) (constant true) e f = refl
 
-pub spells-one : (k : List Node) (n : Node) (t u : Formula) → Spells codes k n t → Spells codes k n u → t ≡ u
-spells-one k n (leaf c) (leaf d) s v = ap leaf (leaf-one c d (sym (s .0) ∙ v .0) (sym (s .1) ∙ v .1))
-spells-one k n (leaf c) (unary op u) s v = let x = leaf-between c in absurd (omega (arith, unary-below op, s .0, v .0))
-spells-one k n (leaf c) (binary op u w) s v = let x = leaf-between c in let y = binary-between op in absurd (omega (arith, s .0, v .0))
-spells-one k n (unary op t) (leaf d) s v = let x = leaf-between d in absurd (omega (arith, unary-below op, s .0, v .0))
-spells-one k n (unary op t) (unary o u) s v =
-    ap₂ unary (unary-one op o (sym (s .0) ∙ v .0)) (spells-one k (nodeAt k (n .left)) t u (s .4) (v .4))
-spells-one k n (unary op t) (binary o u w) s v = let y = binary-between o in absurd (omega (arith, unary-below op, s .0, v .0))
-spells-one k n (binary op a b) (leaf d) s v = let x = leaf-between d in let y = binary-between op in absurd (omega (arith, s .0, v .0))
-spells-one k n (binary op a b) (unary o u) s v = let y = binary-between op in absurd (omega (arith, unary-below o, s .0, v .0))
-spells-one k n (binary op a b) (binary o u w) s v =
-    ap₂ (λ (f : Formula → Formula) (x : Formula). f x)
-    (ap₂ binary (binary-one op o (sym (s .0) ∙ v .0)) (spells-one k (nodeAt k (n .left)) a u (s .3) (v .3)))
-    (spells-one k (nodeAt k (n .right)) b w (s .5) (v .5))
+leaf-group : (c : Leaf) → groupOf (decode (leafCode c)) ≡ 2
+unfolding decode
+leaf-group (proposition p) = refl
+leaf-group (constant false) = refl
+leaf-group (constant true) = refl
+
+-- one code is of one group
+one-group : {a b c : ℕ} → c ≡ a → c ≡ b → groupOf (decode a) ≡ groupOf (decode b)
+one-group p q = ap (λ (x : ℕ). groupOf (decode x)) (sym p ∙ q)
+
+pub one-formula : OneFormula
+one-formula k n (leaf c) (leaf d) s r = ap leaf (leaf-one c d (sym (s .0) ∙ r .0) (sym (s .1) ∙ r .1))
+one-formula k n (leaf c) (unary op t) s r = absurd (omega (arith, leaf-group c, unary-group op, one-group (s .0) (r .0)))
+one-formula k n (leaf c) (binary op t u) s r = absurd (omega (arith, leaf-group c, binary-group op, one-group (s .0) (r .0)))
+one-formula k n (unary op t) (leaf c) s r = absurd (omega (arith, leaf-group c, unary-group op, one-group (s .0) (r .0)))
+one-formula k n (unary op t) (unary op′ u) s r =
+    ap₂ (λ (o : Unary) (x : Formula). unary o x) (sym (unary-of op) ∙ ap unaryOf (sym (s .0) ∙ r .0) ∙ unary-of op′)
+    (one-formula k (nodeAt k (n .left)) t u (s .4) (r .4))
+one-formula k n (unary op t) (binary op′ u v) s r = absurd (omega (arith, unary-group op, binary-group op′, one-group (s .0) (r .0)))
+one-formula k n (binary op t u) (leaf c) s r = absurd (omega (arith, leaf-group c, binary-group op, one-group (s .0) (r .0)))
+one-formula k n (binary op t u) (unary op′ v) s r = absurd (omega (arith, unary-group op′, binary-group op, one-group (s .0) (r .0)))
+one-formula k n (binary op t u) (binary op′ v w) s r =
+    let o : op ≡ op′ = sym (binary-of op) ∙ ap binaryOf (sym (s .0) ∙ r .0) ∙ binary-of op′ in
+    let l = one-formula k (nodeAt k (n .left)) t v (s .3) (r .3) in
+    let q = one-formula k (nodeAt k (n .right)) u w (s .5) (r .5) in
+    ap₂ (λ (p : Binary) (x : Formula). binary p x u) o l ∙ ap (binary op′ v) q
 
 -- ---- and one there is
 
@@ -83,7 +96,7 @@ one m k b n all h f =
     record {
       formula = t .0;
       spelled = t .1;
-      only = λ u s. spells-one k n u (t .0) s (t .1);
+      only = λ u s. one-formula k n u (t .0) s (t .1);
       small = omega (arith, fits-small m k b n f);
     }
 

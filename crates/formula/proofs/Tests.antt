@@ -8,10 +8,10 @@ use Prim.Native.Nat.{ℕ, _+_, _≤_, _<_}
 use native.Mathlib.Nat.{eq-or-lt-of-le}
 use native.Mathlib.Omega.{arith}
 use lib.ListN.{length}
-use Rattle.sequence.specs.Refusals.{Decided}
-use Rattle.sequence.proofs.Refusals.{decided-given, decided-not}
-use Rattle.walk.specs.Nodes.{Node, nodeAt}
-use Rattle.walk.specs.Input.{mostRoom}
+use Rattle.rules.specs.Refusals.{Decided}
+use Rattle.rules.proofs.Refusals.{decided-given, decided-not}
+use Rattle.formula.specs.Nodes.{Node, nodeAt}
+use Rattle.rules.specs.Limits.{mostRoom}
 use Rattle.formula.specs.Rule.{Fault, brokenList}
 use Rattle.formula.specs.Rule.Broken.{tooMany, listed, rooted}
 use Rattle.formula.specs.Inner.{Fits, Judged, AllFit, AllJudged}

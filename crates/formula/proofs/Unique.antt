@@ -8,18 +8,19 @@ use Prim.Native.Nat.{ℕ}
 use native.Mathlib.Nat.{eq-or-lt-of-le}
 use native.Mathlib.Decide.{decLt}
 use native.Mathlib.Omega.{arith}
-use Rattle.sequence.proofs.Refusals.{decided-unique}
-use Rattle.walk.specs.Formula.{Formula, Separates}
-use Rattle.walk.specs.Nodes.{Node, Spells, codes}
-use Rattle.walk.specs.Input.{Input, sessions}
-use Rattle.formula.specs.declared.kinds.Place.{Place}
+use Rattle.rules.proofs.Refusals.{decided-unique}
+use Rattle.session.specs.Recording.{Recording}
+use Rattle.formula.specs.Formula.{Formula, Separates}
+use Rattle.formula.specs.Nodes.{Node, Spells, codes}
+use Rattle.formula.specs.Recorded.{markedTraces}
+use Rattle.rules.specs.declared.kinds.Place.{Place}
 use Rattle.formula.specs.declared.kinds.Node as kinds
-use Rattle.formula.specs.declared.kinds.Session.{Session}
+use Rattle.rules.specs.declared.kinds.Session.{Session}
 use Rattle.formula.specs.declared.Verdict.{Verdict}
 use Rattle.formula.specs.declared.Verdict.the-variants.{Accepted, Disagrees, Refused}
 use Rattle.formula.specs.Kinds.{nodeOf}
 use Rattle.formula.specs.Check.{saidVerdict, FirstDisagrees, CheckAnswer}
-use Rattle.formula.proofs.Spelled.{spells-one}
+use Rattle.formula.proofs.Spelled.{one-formula}
 use Rattle.formula.proofs.Checking.{each-agrees}
 
 -- ---- the node at a place
@@ -37,8 +38,8 @@ node-unique a b e = ap kindsOf e
 
 -- ---- the check
 
-module _ (i : Input) (k : List Node) (root : Node) where
-  separated : CheckAnswer i k root (saidVerdict Accepted) → (t : Formula) × Spells codes k root t × Separates (sessions i) t
+module _ (i : Recording) (k : List Node) (root : Node) where
+  separated : CheckAnswer i k root (saidVerdict Accepted) → (t : Formula) × Spells codes k root t × Separates (markedTraces i) t
   separated a = let p = a .passed refl in (p .0, p .1, ⊎-elim (λ o. o .0) (λ o. let z = head-eq-of-cons-eq (o .2) in absurd (omega arith)) (p .2))
 
   named : (j : Session) → CheckAnswer i k root (saidVerdict (Disagrees j)) → (t : Formula) × Spells codes k root t × FirstDisagrees i t (j .0)
@@ -57,7 +58,7 @@ module _ (i : Input) (k : List Node) (root : Node) where
   apart a j b =
       let p = separated a in
       let q = named j b in
-      let f = subst (λ (t : Formula). FirstDisagrees i t (j .0)) (spells-one k root (q .0) (p .0) (q .1) (p .1)) (q .2) in
+      let f = subst (λ (t : Formula). FirstDisagrees i t (j .0)) (one-formula k root (q .0) (p .0) (q .1) (p .1)) (q .2) in
       f .disagrees (each-agrees i (p .0) (p .2) (j .0) (f .there))
 
   first-one : (t : Formula) (j l : ℕ) → FirstDisagrees i t j → FirstDisagrees i t l → j ≡ l
@@ -82,7 +83,7 @@ module _ (i : Input) (k : List Node) (root : Node) where
   check-unique (Disagrees j) (Disagrees l) a b =
       let p = named j a in
       let q = named l b in
-      let f = subst (λ (t : Formula). FirstDisagrees i t (l .0)) (spells-one k root (q .0) (p .0) (q .1) (p .1)) (q .2) in
+      let f = subst (λ (t : Formula). FirstDisagrees i t (l .0)) (one-formula k root (q .0) (p .0) (q .1) (p .1)) (q .2) in
       ap Disagrees (ap seat (first-one (p .0) (j .0) (l .0) (p .2) f))
   check-unique (Disagrees j) (Refused n) a b = absurd (not-none n b (sym (number-of (Disagrees j) (Refused n) a b)))
   check-unique (Refused n) Accepted a b = absurd (not-none n a (number-of (Refused n) Accepted a b))
@@ -91,12 +92,12 @@ module _ (i : Input) (k : List Node) (root : Node) where
 
   -- "It accepts only a separating formula, and every one"
   pub accepts-separating : (v : Verdict) → CheckAnswer i k root (saidVerdict v) → saidVerdict v .number ≡ 0
-      → (t : Formula) → Spells codes k root t → (v ≡ Accepted) ↔ Separates (sessions i) t
+      → (t : Formula) → Spells codes k root t → (v ≡ Accepted) ↔ Separates (markedTraces i) t
   accepts-separating Accepted a e t s =
       let p = separated a in
-      (λ q. subst (Separates (sessions i)) (spells-one k root (p .0) t (p .1) s) (p .2), λ q. refl)
+      (λ q. subst (Separates (markedTraces i)) (one-formula k root (p .0) t (p .1) s) (p .2), λ q. refl)
   accepts-separating (Disagrees j) a e t s =
       let p = named j a in
-      let f = subst (λ (u : Formula). FirstDisagrees i u (j .0)) (spells-one k root (p .0) t (p .1) s) (p .2) in
+      let f = subst (λ (u : Formula). FirstDisagrees i u (j .0)) (one-formula k root (p .0) t (p .1) s) (p .2) in
       (λ q. let z : _≡_ {A = ℕ} 0 1 = cc in absurd (omega arith), λ q. absurd (f .disagrees (each-agrees i t q (j .0) (f .there))))
   accepts-separating (Refused n) a e t s = absurd (not-none n a e)

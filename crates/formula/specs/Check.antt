@@ -4,12 +4,13 @@ use mathlib.Core.Path.{_≡_}
 use mathlib.Core.Logic.{_↔_, _⊎_}
 use mathlib.Core.List.{List, [], _∷_, _++_}
 use Prim.Native.Nat.{ℕ, _<_}
-use Rattle.sequence.specs.Refusals.{Row, Decided}
+use Rattle.rules.specs.Refusals.{Row, Decided}
 use Rattle.session.specs.Data.{dataRows}
-use Rattle.session.specs.Answers.{Said}
-use Rattle.walk.specs.Formula.{Formula, Session, Accepts, Separates}
-use Rattle.walk.specs.Nodes.{Node, Spells, codes}
-use Rattle.walk.specs.Input.{Input, session, sessions}
+use Rattle.rules.specs.Answers.{Said}
+use Rattle.session.specs.Recording.{Recording}
+use Rattle.formula.specs.Formula.{Formula, Accepts, Separates, MarkedTrace}
+use Rattle.formula.specs.Recorded.{markedTrace, markedTraces}
+use Rattle.formula.specs.Nodes.{Node, Spells, codes}
 use Rattle.formula.specs.declared.Verdict.{Verdict}
 use Rattle.formula.specs.declared.Verdict.the-variants.{Accepted, Disagrees, Refused}
 use Rattle.formula.specs.Rule.{brokenList}
@@ -20,41 +21,26 @@ saidVerdict Accepted = record { number = 0; values = 1 ∷ [] }
 saidVerdict (Disagrees j) = record { number = 0; values = 0 ∷ j .0 ∷ [] }
 saidVerdict (Refused k) = record { number = k; values = [] }
 
--- "takes marked sessions": what a search is handed of them, with nothing offered
-abbrev pub recorded : ℕ → ℕ → List ℕ → List ℕ → List ℕ → Input
-recorded r m marks lengths words = record {
-  sessions = r;
-  propositions = m;
-  bound = 0;
-  room = 0;
-  constants = 0;
-  marks = marks;
-  lengths = lengths;
-  words = words;
-  unary = [];
-  binary = [];
-}
-
 -- "Order of checks: 1, 2, 3, 4, 5, 6, 7, 10, 9": of these the check gives 1, 3, 4, 5, 6 and 9
-abbrev pub checkRows : Input → List Node → Node → List Row
+abbrev pub checkRows : Recording → List Node → Node → List Row
 checkRows i k root = dataRows (i .sessions) (i .propositions) (i .marks) (i .lengths) (i .words) ++ (brokenList (i .propositions) k root ∷ [])
 
 -- a session accepts the formula just if it is marked as good
-abbrev pub Agrees : Session → Formula → Type 0
+abbrev pub Agrees : MarkedTrace → Formula → Type 0
 Agrees s t = (s .mark ≡ 1) ↔ Accepts (s .trace) t
 
 -- "the first session that disagrees", its number counted from 0
-pub record FirstDisagrees (i : Input) (t : Formula) (j : ℕ) : Type 0 where
+pub record FirstDisagrees (i : Recording) (t : Formula) (j : ℕ) : Type 0 where
   pub there : j < i .sessions
-  pub disagrees : Agrees (session i j) t → ⊥
-  pub before : (h : ℕ) → h < j → Agrees (session i h) t
+  pub disagrees : Agrees (markedTrace i j) t → ⊥
+  pub before : (h : ℕ) → h < j → Agrees (markedTrace i h) t
 
 -- "It accepts only a separating formula, and every one; otherwise it names the first session that disagrees."
-abbrev pub Outcome : Input → Formula → List ℕ → Type 0
-Outcome i t values = (Separates (sessions i) t × (values ≡ 1 ∷ [])) ⊎ ((j : ℕ) × FirstDisagrees i t j × (values ≡ 0 ∷ j ∷ []))
+abbrev pub Outcome : Recording → Formula → List ℕ → Type 0
+Outcome i t values = (Separates (markedTraces i) t × (values ≡ 1 ∷ [])) ⊎ ((j : ℕ) × FirstDisagrees i t j × (values ≡ 0 ∷ j ∷ []))
 
 -- the first row that is given decides the number; "A refusal carries only its number"; else the formula that the root spells decides
-pub record CheckAnswer (i : Input) (k : List Node) (root : Node) (s : Said) : Type 0 where
+pub record CheckAnswer (i : Recording) (k : List Node) (root : Node) (s : Said) : Type 0 where
   pub number : Decided (checkRows i k root) (s .number)
   pub refused : (s .number ≡ 0 → ⊥) → s .values ≡ []
   pub passed : s .number ≡ 0 → (t : Formula) × Spells codes k root t × Outcome i t (s .values)

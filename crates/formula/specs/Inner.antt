@@ -8,10 +8,12 @@ use Prim.Native.Nat.{ℕ, _+_, _*_, _≤_, _<_}
 use lib.ListN.{length, getD}
 use Rattle.words.specs.Word.{width, At, Wf, Means}
 use Rattle.sequence.specs.Operators.{Unary, Binary, unaryCode, binaryCode}
-use Rattle.walk.specs.Formula.{Leaf, proposition, constant, Formula, Trace, Holds}
-use Rattle.walk.specs.Nodes.{Node, nodeAt, Spells, codes, leafCode, leafNumber}
-use Rattle.walk.specs.Input.{Input, mostSize, lengthOf, wordOf, session}
-use Rattle.formula.specs.Kinds.{mostNumber}
+use Rattle.formula.specs.Formula.{Leaf, proposition, constant, Formula, Trace, Holds}
+use Rattle.formula.specs.Nodes.{Node, nodeAt, Spells, codes, leafCode, leafNumber}
+use Rattle.session.specs.Recording.{Recording, lengthOf, wordOf}
+use Rattle.formula.specs.Recorded.{markedTrace}
+use Rattle.rules.specs.Limits.{mostSize}
+use Rattle.rules.specs.Kinds.{mostNumber}
 use Rattle.formula.specs.Rule.{Fault}
 use Rattle.formula.specs.Check.{Agrees}
 
@@ -70,7 +72,7 @@ abbrev pub AgreesWord : ℕ → ℕ → ℕ → Bool → Type 0
 AgreesWord mark n word r = (r ≡ true) ↔ ((mark ≡ 1) ↔ ((0 < n) × At word 0))
 
 -- the session data and the list have passed
-pub record Checkable (i : Input) (k : List Node) (root : Node) : Type 0 where
+pub record Checkable (i : Recording) (k : List Node) (root : Node) : Type 0 where
   pub marks-there : i .sessions ≤ length (i .marks)
   pub lengths-there : i .sessions ≤ length (i .lengths)
   pub words-there : i .propositions * i .sessions ≤ length (i .words)
@@ -81,7 +83,7 @@ pub record Checkable (i : Input) (k : List Node) (root : Node) : Type 0 where
   pub fits : Fits (i .propositions) k (length k) root
 
 -- the sessions before j agree with whatever formula the root spells, and j does not or is their number
-pub record Found (i : Input) (k : List Node) (root : Node) (j : ℕ) : Type 0 where
+pub record Found (i : Recording) (k : List Node) (root : Node) (j : ℕ) : Type 0 where
   pub upto : j ≤ i .sessions
-  pub before : (t : Formula) → Spells codes k root t → (h : ℕ) → h < j → Agrees (session i h) t
-  pub here : (t : Formula) → Spells codes k root t → j < i .sessions → Agrees (session i j) t → ⊥
+  pub before : (t : Formula) → Spells codes k root t → (h : ℕ) → h < j → Agrees (markedTrace i h) t
+  pub here : (t : Formula) → Spells codes k root t → j < i .sessions → Agrees (markedTrace i j) t → ⊥

@@ -3,8 +3,8 @@
 use mathlib.Core.List.{List, map}
 use Prim.Native.Nat.{ℕ, min}
 use lib.ListN.{length, getD}
-use Rattle.walk.specs.Nodes as walk
-use Rattle.walk.specs.Walk.{count}
+use Rattle.formula.specs.Nodes as walk
+use Rattle.rules.specs.Lists.{count}
 use Rattle.formula.specs.declared.kinds.Node.{Node}
 
 -- "operator code, left place, right place, size"
@@ -23,7 +23,3 @@ countOf codes lefts rights sizes = min (length codes) (min (length lefts) (min (
 unfoldable pub nodes : List ℕ → List ℕ → List ℕ → List ℕ → List walk.Node
 nodes codes lefts rights sizes =
     map (λ p. node (getD codes p 0) (getD lefts p 0) (getD rights p 0) (getD sizes p 0)) (count 0 (countOf codes lefts rights sizes))
-
--- the largest number that a proposition can have by its type: "a proposition's number is its left field", and a field beyond it is none's
-abbrev pub mostNumber : ℕ
-mostNumber = 255

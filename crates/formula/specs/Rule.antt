@@ -6,10 +6,10 @@ use mathlib.Core.List.{List}
 use Prim.Native.Nat.{ℕ, _+_, _≤_, _<_}
 use lib.ListN.{length}
 use Rattle.sequence.specs.Operators.{Unary, Binary, unaryCode, binaryCode}
-use Rattle.sequence.specs.Refusals.{Row}
-use Rattle.walk.specs.Formula.{Leaf}
-use Rattle.walk.specs.Nodes.{Node, nodeAt, leafCode}
-use Rattle.walk.specs.Input.{mostSize, mostRoom}
+use Rattle.rules.specs.Refusals.{Row}
+use Rattle.formula.specs.Formula.{Leaf}
+use Rattle.formula.specs.Nodes.{Node, nodeAt, leafCode}
+use Rattle.rules.specs.Limits.{mostSize, mostRoom}
 
 -- ---- what a code is of
 

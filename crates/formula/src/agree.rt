@@ -9,7 +9,7 @@ ghost use mathlib.Core.Bool.{true};
 ghost use Prim.Native.Nat.{_≤_, _<_};
 ghost use Rattle.words.specs.Word.{At};
 ghost use Rattle.formula.specs.Kinds.{nodeOf, nodes};
-ghost use Rattle.formula.specs.Check.{recorded};
+ghost use Rattle.session.specs.Recording.{recording};
 ghost use Rattle.formula.specs.Inner.{Checkable, Found, AgreesWord};
 
 // A session of that mark and length, and a formula's word there.
@@ -42,8 +42,8 @@ pub(crate) fn first_disagreeing(
     sizes: &[u8],
     root: Node,
 ) -> usize
-    requires { ⌜ Checkable (recorded r m (now marks) (now lengths) (now words)) (nodes (now codes) (now lefts) (now rights) (now sizes)) (nodeOf root) ⌝ }
-    ensures { λ j. ⌜ Found (recorded r m (now (marks .entry)) (now (lengths .entry)) (now (words .entry))) (nodes (now (codes .entry)) (now (lefts .entry)) (now (rights .entry)) (now (sizes .entry))) (nodeOf root) j ⌝ }
+    requires { ⌜ Checkable (recording r m (now marks) (now lengths) (now words)) (nodes (now codes) (now lefts) (now rights) (now sizes)) (nodeOf root) ⌝ }
+    ensures { λ j. ⌜ Found (recording r m (now (marks .entry)) (now (lengths .entry)) (now (words .entry))) (nodes (now (codes .entry)) (now (lefts .entry)) (now (rights .entry)) (now (sizes .entry))) (nodeOf root) j ⌝ }
 {
     let below = count(codes, lefts, rights, sizes);
     let mut j: usize = 0;

@@ -2,8 +2,8 @@
 use crate::kinds::FALSE;
 use crate::kinds::Node;
 use crate::kinds::PROPOSITION;
-use crate::kinds::Proposition;
 use crate::nodes::node_at;
+use rules::kinds::Proposition;
 use sequence::CharSeq;
 use sequence::operators;
 use sequence::operators::Group;

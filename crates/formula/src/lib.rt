@@ -5,9 +5,10 @@ pub mod kinds;
 pub mod nodes;
 
 use kinds::Node;
-use kinds::Session;
+use rules::kinds::Session;
 ghost use Rattle.formula.specs.Kinds.{nodeOf, nodes};
-ghost use Rattle.formula.specs.Check.{saidVerdict, recorded, CheckAnswer};
+ghost use Rattle.formula.specs.Check.{saidVerdict, CheckAnswer};
+ghost use Rattle.session.specs.Recording.{recording};
 
 // What the analyst's check answers.
 pub enum Verdict {
@@ -29,7 +30,7 @@ pub fn check(
     sizes: &[u8],
     root: Node,
 ) -> Verdict
-    ensures { λ v. ⌜ CheckAnswer (recorded r m (now (marks .entry)) (now (lengths .entry)) (now (words .entry))) (nodes (now (codes .entry)) (now (lefts .entry)) (now (rights .entry)) (now (sizes .entry))) (nodeOf root) (saidVerdict v) ⌝ }
+    ensures { λ v. ⌜ CheckAnswer (recording r m (now (marks .entry)) (now (lengths .entry)) (now (words .entry))) (nodes (now (codes .entry)) (now (lefts .entry)) (now (rights .entry)) (now (sizes .entry))) (nodeOf root) (saidVerdict v) ⌝ }
 {
     let data = session::data::test(r, m, marks, lengths, words);
     if data != 0 {

@@ -1,20 +1,18 @@
 // The nodes of four lent slices, and the rule of a node list (number 9), tested at each listed node and at the root.
 use crate::kinds::Node;
 use crate::kinds::PROPOSITION;
-use crate::kinds::Place;
 use crate::kinds::TRUE;
+use rules::kinds::Place;
 use sequence::operators::Group;
 ghost use mathlib.Core.Path.{_≡_};
 ghost use mathlib.Core.List.{[], _∷_};
 ghost use Prim.Native.Nat.{_≤_, _<_};
-ghost use Rattle.walk.specs.Nodes.{nodeAt};
-ghost use Rattle.sequence.specs.Refusals.{Decided};
-ghost use Rattle.formula.specs.Kinds.{nodeOf, countOf, nodes, mostNumber};
+ghost use Rattle.formula.specs.Nodes.{nodeAt};
+ghost use Rattle.rules.specs.Refusals.{Decided};
+ghost use Rattle.formula.specs.Kinds.{nodeOf, countOf, nodes};
+ghost use Rattle.rules.specs.Kinds.{mostNumber};
 ghost use Rattle.formula.specs.Rule.{IsUnary, IsBinary, brokenList};
 ghost use Rattle.formula.specs.Inner.{Judged, AllJudged};
-
-// The most nodes of a list.
-pub const NODES: usize = 4096;
 
 // How many nodes four slices have: as many as the shortest.
 pub fn count(codes: &[u8], lefts: &[u16], rights: &[u16], sizes: &[u8]) -> usize
@@ -126,7 +124,7 @@ fn unary_good(
     if size != 1 + l {
         return false;
     }
-    if session::BOUND < size {
+    if rules::BOUND < size {
         return false;
     }
     true
@@ -158,7 +156,7 @@ fn binary_good(
     if size != 1 + l + r {
         return false;
     }
-    if session::BOUND < size {
+    if rules::BOUND < size {
         return false;
     }
     true
@@ -214,7 +212,7 @@ pub fn refusal(
     ensures { λ r. ⌜ Decided (brokenList m (nodes (now (codes .entry)) (now (lefts .entry)) (now (rights .entry)) (now (sizes .entry))) (nodeOf root) ∷ []) r ⌝ }
 {
     let n = count(codes, lefts, rights, sizes);
-    if NODES < n {
+    if rules::ROOM < n {
         return 9;
     }
     if nodes_good(m, codes, lefts, rights, sizes, n) {

@@ -8,7 +8,7 @@
 // `refused` (for 8 with ` at ` and the offset), and then the whole room between bars. A line that starts with # is copied.
 use formula::Verdict;
 use formula::kinds::Node;
-use formula::kinds::Place;
+use rules::kinds::Place;
 use text::Printed;
 ghost use Prim.Native.Nat.{_+_, _<_, _≤_};
 ghost use lib.ListN.{length};

@@ -7,9 +7,9 @@ use native.Mathlib.Omega.{arith}
 use lib.ListN.{length, take, drop, length-append, length-map}
 use lib.Seq.{length-take-le}
 use Rattle.file.specs.Format.{Parts}
-use Rattle.session.specs.Answers.{over}
-use Rattle.walk.specs.Nodes.{Spells, codes}
-use Rattle.walk.specs.Nodes as walk
+use Rattle.rules.specs.Answers.{over}
+use Rattle.formula.specs.Nodes.{Spells, codes}
+use Rattle.formula.specs.Nodes as walk
 use Rattle.walk.specs.Walk.{found}
 use Rattle.walk.specs.Input.{Input}
 use Rattle.walk.specs.Promises as promises

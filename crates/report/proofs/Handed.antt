@@ -14,7 +14,7 @@ use Rattle.file.specs.declared.ReadAnswer.{ReadAnswer}
 use Rattle.file.specs.declared.ReadAnswer.the-variants.{Parts as AllParts, Broken, Room}
 use Rattle.file.specs.Format.{Parts, Good, section, nameBytes, fileBytes}
 use Rattle.file.specs.Offence.{Got, got, bad, wholeFile, wholeNames}
-use Rattle.session.specs.Answers.{Said, over}
+use Rattle.rules.specs.Answers.{Said, over}
 use Rattle.file.specs.Reading.{said, Lent, After, after, marksOf, lengthsOf, wordsOf, roomFor, handedOut, outcome, readOf}
 use Rattle.file.proofs.Numbers.{Bytes}
 use Rattle.file.proofs.Positions.{length-all-words}
@@ -23,7 +23,7 @@ use Rattle.file.proofs.Whole.{each-map, few-unary, few-binary, passed-is-good}
 use Rattle.file.proofs.Theorems.{front-is-names}
 use Rattle.walk.specs.Input.{Input}
 use Rattle.text.specs.Inner.{Wrote}
-use Rattle.search.specs.Search as searching
+use Rattle.walk.specs.Input as walking
 use Rattle.report.specs.Line.{brokenLine}
 use Rattle.report.specs.Report.{inputOf, Says, Reports}
 use Rattle.report.specs.Inner.{Given, GivenBy, WrittenFor}
@@ -189,19 +189,19 @@ module _ (file : List ℕ) (bytes : Bytes file) (l : Lent) (wide : Wide l) (a : 
   -- as a search is given it
   module _ {r m n u b constants bound : ℕ} (h : Handed r m n u b constants bound) (room : ℕ) where
     abbrev input : Input
-    input = searching.inputOf r m bound room constants (take r marks) (take r lengths) (take (m * r) words) (take u unary) (take b binary)
+    input = walking.inputOf r m bound room constants (take r marks) (take r lengths) (take (m * r) words) (take u unary) (take b binary)
 
     same : input ≡ inputOf (h .parts) room
     same =
-        ap (λ (z : ℕ). searching.inputOf z m bound room constants (take r marks) (take r lengths) (take (m * r) words) (take u unary) (take b binary)) (h .count)
-        ∙ ap (λ (z : ℕ). searching.inputOf (length (h .parts .sessions)) z bound room constants (take r marks) (take r lengths) (take (m * r) words) (take u unary) (take b binary)) (h .width)
-        ∙ ap (λ (z : ℕ). searching.inputOf (length (h .parts .sessions)) (length (h .parts .names)) z room constants (take r marks) (take r lengths) (take (m * r) words) (take u unary) (take b binary)) (h .size)
-        ∙ ap (λ (z : ℕ). searching.inputOf (length (h .parts .sessions)) (length (h .parts .names)) (h .parts .bound) room z (take r marks) (take r lengths) (take (m * r) words) (take u unary) (take b binary)) (h .mark)
-        ∙ ap (λ (z : List ℕ). searching.inputOf (length (h .parts .sessions)) (length (h .parts .names)) (h .parts .bound) room (h .parts .constants) z (take r lengths) (take (m * r) words) (take u unary) (take b binary)) (h .all-marks .is)
-        ∙ ap (λ (z : List ℕ). searching.inputOf (length (h .parts .sessions)) (length (h .parts .names)) (h .parts .bound) room (h .parts .constants) (marksOf (h .parts)) z (take (m * r) words) (take u unary) (take b binary)) (h .all-lengths .is)
-        ∙ ap (λ (z : List ℕ). searching.inputOf (length (h .parts .sessions)) (length (h .parts .names)) (h .parts .bound) room (h .parts .constants) (marksOf (h .parts)) (lengthsOf (h .parts)) z (take u unary) (take b binary)) (h .all-words .is)
-        ∙ ap (λ (z : List ℕ). searching.inputOf (length (h .parts .sessions)) (length (h .parts .names)) (h .parts .bound) room (h .parts .constants) (marksOf (h .parts)) (lengthsOf (h .parts)) (wordsOf (h .parts)) z (take b binary)) (h .all-unary .is)
-        ∙ ap (λ (z : List ℕ). searching.inputOf (length (h .parts .sessions)) (length (h .parts .names)) (h .parts .bound) room (h .parts .constants) (marksOf (h .parts)) (lengthsOf (h .parts)) (wordsOf (h .parts)) (h .parts .unary) z) (h .all-binary .is)
+        ap (λ (z : ℕ). walking.inputOf z m bound room constants (take r marks) (take r lengths) (take (m * r) words) (take u unary) (take b binary)) (h .count)
+        ∙ ap (λ (z : ℕ). walking.inputOf (length (h .parts .sessions)) z bound room constants (take r marks) (take r lengths) (take (m * r) words) (take u unary) (take b binary)) (h .width)
+        ∙ ap (λ (z : ℕ). walking.inputOf (length (h .parts .sessions)) (length (h .parts .names)) z room constants (take r marks) (take r lengths) (take (m * r) words) (take u unary) (take b binary)) (h .size)
+        ∙ ap (λ (z : ℕ). walking.inputOf (length (h .parts .sessions)) (length (h .parts .names)) (h .parts .bound) room z (take r marks) (take r lengths) (take (m * r) words) (take u unary) (take b binary)) (h .mark)
+        ∙ ap (λ (z : List ℕ). walking.inputOf (length (h .parts .sessions)) (length (h .parts .names)) (h .parts .bound) room (h .parts .constants) z (take r lengths) (take (m * r) words) (take u unary) (take b binary)) (h .all-marks .is)
+        ∙ ap (λ (z : List ℕ). walking.inputOf (length (h .parts .sessions)) (length (h .parts .names)) (h .parts .bound) room (h .parts .constants) (marksOf (h .parts)) z (take (m * r) words) (take u unary) (take b binary)) (h .all-lengths .is)
+        ∙ ap (λ (z : List ℕ). walking.inputOf (length (h .parts .sessions)) (length (h .parts .names)) (h .parts .bound) room (h .parts .constants) (marksOf (h .parts)) (lengthsOf (h .parts)) z (take u unary) (take b binary)) (h .all-words .is)
+        ∙ ap (λ (z : List ℕ). walking.inputOf (length (h .parts .sessions)) (length (h .parts .names)) (h .parts .bound) room (h .parts .constants) (marksOf (h .parts)) (lengthsOf (h .parts)) (wordsOf (h .parts)) z (take b binary)) (h .all-unary .is)
+        ∙ ap (λ (z : List ℕ). walking.inputOf (length (h .parts .sessions)) (length (h .parts .names)) (h .parts .bound) room (h .parts .constants) (marksOf (h .parts)) (lengthsOf (h .parts)) (wordsOf (h .parts)) (h .parts .unary) z) (h .all-binary .is)
 
     given : Given (take n file) input (h .parts)
     given = record { good = h .good; next = n; front = h .front-is; same = same }

@@ -7,15 +7,14 @@ use Prim.Native.Nat.{ℕ, _*_, _≤_}
 use native.Mathlib.Nat.{mul-le-mul}
 use native.Mathlib.Omega.{arith}
 use lib.ListN.{length}
-use Rattle.sequence.specs.Limits as limits
-use Rattle.sequence.specs.Refusals.{Decided}
-use Rattle.sequence.proofs.Refusals.{decided-unique}
-use Rattle.session.specs.Numbers.{Outside}
+use Rattle.rules.specs.Limits.{mostRoom, Outside}
+use Rattle.rules.specs.Refusals.{Decided}
+use Rattle.rules.proofs.Refusals.{decided-unique}
 use Rattle.session.specs.Data.{dataRows}
 use Rattle.file.specs.Format.{Parts, Good}
 use Rattle.file.specs.Reading.{marksOf, lengthsOf, wordsOf}
 use Rattle.file.proofs.Theorems.{handed-out-passes, unary-pass, binary-pass, unary-once, binary-once}
-use Rattle.walk.specs.Formula.{_∈_}
+use Rattle.rules.specs.Lists.{_∈_}
 use Rattle.walk.specs.Walk.{State, found, none, full, ended, kept}
 use Rattle.walk.specs.Input.{Input, offer, search}
 use Rattle.walk.specs.Promises.{Table, nodes}
@@ -50,7 +49,7 @@ module _ (p : Parts) (g : Good p) (room : ℕ) (t : Cols) (roomy : Roomy t) wher
   data-pass : Decided (dataRows (length (p .sessions)) (length (p .names)) (marksOf p) (lengthsOf p) (wordsOf p)) 0
   data-pass = simp append-nil at (handed-out-passes p g [] [] [])
 
-  in-room : 1 ≤ room → room ≤ limits.room → Decided (searchRows i t) 0
+  in-room : 1 ≤ room → room ≤ mostRoom → Decided (searchRows i t) 0
   unfolding i
   in-room a b =
       is-zero (inputOf p room) t 0 data-pass (λ q. omega arith)
@@ -65,13 +64,13 @@ module _ (p : Parts) (g : Good p) (room : ℕ) (t : Cols) (roomy : Roomy t) wher
       refl
       (codes-fine (inputOf p room) (record { in-group = unary-pass p g; once = unary-once p g }) (record { in-group = binary-pass p g; once = binary-once p g }))
 
-  out-room : Outside 1 limits.room room → Decided (searchRows i t) 2
+  out-room : Outside 1 mostRoom room → Decided (searchRows i t) 2
   unfolding i
   out-room o = is-two (inputOf p room) t 0 data-pass (λ q. omega arith) (inr (inl o))
 
   module _ (u : Cols) where
     -- an answer that is no refusal is of a good room
-    not-outside : (n : ℕ) → Decided (searchRows i t) n → n ≡ 0 → Outside 1 limits.room room → ⊥
+    not-outside : (n : ℕ) → Decided (searchRows i t) n → n ≡ 0 → Outside 1 mostRoom room → ⊥
     not-outside n d z o = let e = decided-unique (searchRows i t) n 2 d (out-room o) in omega arith
 
     pub none-says : (tried n : ℕ) → Searched (inputOf p room) t (None tried n) u → GoodSays p room (noneLine tried n)
@@ -109,7 +108,7 @@ module _ (p : Parts) (g : Good p) (room : ℕ) (t : Cols) (roomy : Roomy t) wher
       pub holds : u ≡ tableOver table t
       pub few : n ≤ 4096
       pub whole : Broken (length (p .names)) (nodes table) (nodeOf root) → ⊥
-      pub inside : Outside 1 limits.room room → ⊥
+      pub inside : Outside 1 mostRoom room → ⊥
 
     pub found-at : (root : Node) (tried n : ℕ) → Searched (inputOf p room) t (Found root tried n) u → FoundAt root tried n
     unfolding i

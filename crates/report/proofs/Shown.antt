@@ -7,13 +7,13 @@ use Prim.Native.Nat.{ℕ, _+_, _≤_}
 use native.Mathlib.Omega.{arith}
 use lib.ListN.{length, getD, take, drop, length-append}
 use lib.Seq.{take-append-seam}
-use Rattle.sequence.specs.Refusals.{Decided}
+use Rattle.rules.specs.Refusals.{Decided}
 use Rattle.file.specs.Numbers.{nameLength}
 use Rattle.file.specs.Offence.{Got, got, wholeNames}
-use Rattle.session.specs.Answers.{over}
-use Rattle.walk.specs.Formula.{size, Formula}
-use Rattle.walk.specs.Nodes.{Node, Spells, codes}
-use Rattle.walk.specs.Input.{mostSize}
+use Rattle.rules.specs.Answers.{over}
+use Rattle.formula.specs.Formula.{size, Formula}
+use Rattle.formula.specs.Nodes.{Node, Spells, codes}
+use Rattle.rules.specs.Limits.{mostSize}
 use Rattle.text.specs.declared.Printed.{Printed}
 use Rattle.text.specs.declared.Printed.the-variants.{Text, Broken as NamesBroken, Refused}
 use Rattle.formula.specs.Rule.{Broken}

@@ -5,7 +5,7 @@ use mathlib.Core.Logic.{⊎-elim}
 use mathlib.Core.List.{List, List·Memᴰ·not-nil}
 use Prim.Native.Nat.{ℕ, zero, suc, _≤_}
 use native.Mathlib.Omega.{arith}
-use Rattle.walk.specs.Formula.{_∈_}
+use Rattle.rules.specs.Lists.{_∈_}
 use Rattle.walk.specs.Walk.{Offer, Candidate, State, going, ended, kept, finish, layer, through, after, walk}
 use Rattle.walk.proofs.Layers.{layer-fits}
 use Rattle.walk.proofs.Pass.{grows-from, grown}

@@ -8,23 +8,22 @@ use native.Mathlib.Nat.{lt-of-not-le}
 use native.Mathlib.Decide.{decLe}
 use native.Mathlib.Omega.{arith}
 use lib.ListN.{length, drop, length-append}
-use Rattle.sequence.specs.Limits as limits
-use Rattle.session.specs.Numbers.{Outside}
+use Rattle.rules.specs.Limits.{mostRoom, Outside}
 use Rattle.file.specs.Format.{Parts}
 use Rattle.file.specs.Offence.{Got, got, bad, wholeFile}
-use Rattle.session.specs.Answers.{over}
-use Rattle.walk.specs.Formula.{Formula}
+use Rattle.rules.specs.Answers.{over}
+use Rattle.formula.specs.Formula.{Formula}
 use Rattle.walk.specs.Walk.{Ending, found, none, full, ended}
 use Rattle.walk.specs.Promises.{Table, nodes}
 use Rattle.text.specs.Text.{text}
-use Rattle.formula.proofs.Spelled.{spells-one}
+use Rattle.formula.proofs.Spelled.{one-formula}
 use Rattle.report.specs.Line.{newline, foundLine}
 use Rattle.report.specs.Report.{EndSays, GoodSays, Says, Reports}
 
 -- one end has its lines
 end-one : (names : List (List ℕ)) (e : Ending) (k : Table) (n : ℕ) (x y : List ℕ) → EndSays names e k n x → EndSays names e k n y → x ≡ y
 end-one names (found root) k n x y a b =
-    a .2 ∙ ap (λ (t : Formula). foundLine (root .size) n (length k) ++ (text names t ++ newline)) (spells-one (nodes k) root (a .0) (b .0) (a .1) (b .1)) ∙ sym (b .2)
+    a .2 ∙ ap (λ (t : Formula). foundLine (root .size) n (length k) ++ (text names t ++ newline)) (one-formula (nodes k) root (a .0) (b .0) (a .1) (b .1)) ∙ sym (b .2)
 end-one names none k n x y a b = a ∙ sym b
 end-one names (full s) k n x y a b = a ∙ sym b
 
@@ -38,13 +37,13 @@ same-end names e f k l n m x y q a b =
     (subst (λ (d : ℕ). EndSays names f l d x) j (subst (λ (t : Table). EndSays names f t n x) i (subst (λ (d : Ending). EndSays names d k n x) h a))) b
 
 module _ (p : Parts) (room : ℕ) (x y : List ℕ) (a : GoodSays p room x) (b : GoodSays p room y) where
-  beyond : Outside 1 limits.room room → x ≡ y
+  beyond : Outside 1 mostRoom room → x ≡ y
   beyond o = a .outside o ∙ sym (b .outside o)
 
   good-one : x ≡ y
   good-one =
       elim (decLe 1 room) [
-        | yes h ↦ elim (decLe room limits.room) [
+        | yes h ↦ elim (decLe room mostRoom) [
           | yes g ↦
               let (e, k, n, s, v) = a .searched h g in
               let (f, l, m, t, w) = b .searched h g in

@@ -6,8 +6,8 @@ use Prim.Native.Nat.{ℕ, _≤_}
 use lib.ListN.{length}
 use Rattle.file.specs.Format.{Parts, Good}
 use Rattle.file.specs.Offence.{got, wholeNames}
-use Rattle.walk.specs.Formula.{Formula}
-use Rattle.walk.specs.Nodes.{Node, Spells, codes}
+use Rattle.formula.specs.Formula.{Formula}
+use Rattle.formula.specs.Nodes.{Node, Spells, codes}
 use Rattle.walk.specs.Input.{Input}
 use Rattle.formula.specs.Rule.{Broken}
 use Rattle.text.specs.Text.{text}

@@ -4,25 +4,24 @@ use mathlib.Core.Path.{_≡_}
 use mathlib.Core.List.{List, _++_}
 use Prim.Native.Nat.{ℕ, _≤_}
 use lib.ListN.{length}
-use Rattle.sequence.specs.Limits as limits
-use Rattle.session.specs.Numbers.{Outside}
+use Rattle.rules.specs.Limits.{mostRoom, Outside}
 use Rattle.file.specs.Format.{Parts}
 use Rattle.file.specs.Offence.{Got, got, bad, wholeFile}
 use Rattle.file.specs.Reading.{marksOf, lengthsOf, wordsOf}
-use Rattle.session.specs.Answers.{over}
-use Rattle.walk.specs.Formula.{Formula}
-use Rattle.walk.specs.Nodes.{Spells, codes}
+use Rattle.rules.specs.Answers.{over}
+use Rattle.formula.specs.Formula.{Formula}
+use Rattle.formula.specs.Nodes.{Spells, codes}
 use Rattle.walk.specs.Walk.{Ending, found, none, full, ended}
 use Rattle.walk.specs.Input.{Input, search}
 use Rattle.walk.specs.Promises.{Table, nodes}
 use Rattle.text.specs.Text.{text}
-use Rattle.search.specs.Search as searching
+use Rattle.walk.specs.Input as walking
 use Rattle.report.specs.Line.{newline, foundLine, noneLine, fullLine, brokenLine, refusedLine}
 
 -- a file's parts, and a room, as the input of a search
 abbrev pub inputOf : Parts → ℕ → Input
 inputOf p room =
-    searching.inputOf (length (p .sessions)) (length (p .names)) (p .bound) room (p .constants) (marksOf p) (lengthsOf p) (wordsOf p) (p .unary) (p .binary)
+    walking.inputOf (length (p .sessions)) (length (p .names)) (p .bound) room (p .constants) (marksOf p) (lengthsOf p) (wordsOf p) (p .unary) (p .binary)
 
 -- the lines of a walk's end, with the table k and n tried; a formula found has its text in a line of its own
 abbrev pub EndSays : List (List ℕ) → Ending → Table → ℕ → List ℕ → Type 0
@@ -33,9 +32,9 @@ EndSays names (full s) k n out = out ≡ fullLine s n (length k)
 
 -- a good file: the lines of the walk over its parts; "2: .. C .. wrong" where the room is none
 pub record GoodSays (p : Parts) (room : ℕ) (out : List ℕ) : Type 0 where
-  pub searched : 1 ≤ room → room ≤ limits.room
+  pub searched : 1 ≤ room → room ≤ mostRoom
       → (e : Ending) × (k : Table) × (n : ℕ) × (search (inputOf p room) ≡ ended e k n) × EndSays (p .names) e k n out
-  pub outside : Outside 1 limits.room room → out ≡ refusedLine 2
+  pub outside : Outside 1 mostRoom room → out ≡ refusedLine 2
 
 -- a broken file: the offset of its first offending byte
 abbrev pub Says : Got Parts → ℕ → List ℕ → Type 0

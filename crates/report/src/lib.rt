@@ -9,7 +9,7 @@ ghost use mathlib.Core.Path.{_≡_};
 ghost use Prim.Native.Nat.{_≤_};
 ghost use lib.ListN.{length};
 ghost use Rattle.formula.specs.Kinds.{nodeOf, nodes};
-ghost use Rattle.search.specs.Search.{inputOf};
+ghost use Rattle.walk.specs.Input.{inputOf};
 ghost use Rattle.report.specs.Report.{Reports};
 ghost use Rattle.report.specs.Inner.{Showable, ShownBy, GivenBy, WrittenFor};
 
@@ -62,11 +62,11 @@ fn searched(
         (inputOf r m bound room constants (now (marks .entry)) (now (lengths .entry)) (now (words .entry)) (now (unary .entry)) (now (binary .entry)))
         (now (text .entry)) n (now (text .exit)) ⌝ }
 {
-    let mut codes = [0u8; session::ROOM];
-    let mut lefts = [0u16; session::ROOM];
-    let mut rights = [0u16; session::ROOM];
-    let mut sizes = [0u8; session::ROOM];
-    let mut matrices = [0u64; session::ROOM * session::SESSIONS];
+    let mut codes = [0u8; rules::ROOM];
+    let mut lefts = [0u16; rules::ROOM];
+    let mut rights = [0u16; rules::ROOM];
+    let mut sizes = [0u8; rules::ROOM];
+    let mut matrices = [0u64; rules::ROOM * rules::SESSIONS];
     let answer = search::search(
         r,
         m,
@@ -105,9 +105,9 @@ fn searched(
 pub fn report(file: &[u8], room: usize, text: &mut [u8; 512]) -> usize
     ensures { λ r. ⌜ Reports (now (file .entry)) room (now (text .entry)) r (now (text .exit)) ⌝ }
 {
-    let mut marks = [0u8; session::SESSIONS];
-    let mut lengths = [0u8; session::SESSIONS];
-    let mut words = [0u64; session::SESSIONS * session::PROPOSITIONS];
+    let mut marks = [0u8; rules::SESSIONS];
+    let mut lengths = [0u8; rules::SESSIONS];
+    let mut words = [0u64; rules::SESSIONS * rules::PROPOSITIONS];
     let mut unary = [0u8; 5];
     let mut binary = [0u8; 6];
     let read = file::read(

@@ -7,14 +7,14 @@ use Prim.Native.Nat.{ℕ, _≤_, _<_}
 use native.Mathlib.Nat.{lt-of-not-le}
 use native.Mathlib.Omega.{arith}
 use lib.ListN.{length}
-use Rattle.sequence.specs.Refusals.{Decided}
+use Rattle.rules.specs.Refusals.{Decided}
 use Rattle.session.specs.Data.{dataRows}
-use Rattle.walk.specs.Nodes.{Node}
-use Rattle.walk.specs.Input.{Input}
+use Rattle.formula.specs.Nodes.{Node}
 use Rattle.formula.specs.declared.Verdict.{Verdict}
 use Rattle.formula.specs.declared.Verdict.the-variants.{Accepted, Disagrees, Refused}
 use Rattle.formula.specs.Check as core
-use Rattle.formula.specs.Check.{saidVerdict, recorded, CheckAnswer}
+use Rattle.formula.specs.Check.{saidVerdict, CheckAnswer}
+use Rattle.session.specs.Recording.{Recording, recording}
 use Rattle.scarfpylon.specs.Out.{outWords, written, returnedOf, saidWords}
 use Rattle.scarfpylon.specs.Check.{checkRows, CheckDone}
 use Rattle.scarfpylon.specs.Inner.{CheckUnanswered}
@@ -30,8 +30,8 @@ module _ (r m : ℕ) where
   unanswered k (inr (p, inr (s, u))) = absurd (p (inl (inl (lt-of-not-le λ g. s (inl g)))))
 
   module _ (marks lengths words : List ℕ) (l : List Node) (root : Node) (old : List ℕ) where
-    abbrev i : Input
-    i = recorded r m marks lengths words
+    abbrev i : Recording
+    i = recording r m marks lengths words
 
     refused-rows : length old < outWords → (k : ℕ) → CheckUnanswered r m k → Decided (checkRows i l root old) k
     unfolding Decided
@@ -50,7 +50,7 @@ module _ (r m : ℕ) where
 
 -- ---- `out` is long enough
 
-module _ (i : Input) (l : List Node) (root : Node) (old : List ℕ) (h : outWords ≤ length old) where
+module _ (i : Recording) (l : List Node) (root : Node) (old : List ℕ) (h : outWords ≤ length old) where
   answered-rows : (k : ℕ) → Decided (core.checkRows i l root) k → Decided (checkRows i l root old) k
   unfolding Decided
   answered-rows k (inl p) = inl p

@@ -9,9 +9,9 @@ use lib.Dec.{lit<}
 use Rattle.sequence.specs.declared.CharSeq.{CharSeq}
 use Rattle.sequence.specs.declared.Answer.{Answer}
 use Rattle.sequence.specs.declared.Answer.the-variants.{Sequence, Refused}
-use Rattle.sequence.specs.Refusals.{Row, Decided}
+use Rattle.rules.specs.Refusals.{Row, Decided}
 use Rattle.sequence.specs.Sequence.{seq, unaryRows, binaryRows, Answers, UnaryAnswer, BinaryAnswer}
-use Rattle.sequence.proofs.Refusals.{Numbered, decided-both, decided-given, decided-not}
+use Rattle.rules.proofs.Refusals.{Numbered, decided-both, decided-given, decided-not}
 use Rattle.scarfpylon.specs.Out.{outShort}
 use Rattle.scarfpylon.specs.Operators.{OperatorDone, UnaryDone, BinaryDone}
 use Rattle.scarfpylon.specs.Inner.{SequencePut}

@@ -10,16 +10,16 @@ use native.Mathlib.Decide.{ℕ-discrete, decLt}
 use native.Mathlib.Omega.{arith}
 use lib.Dec.{lit≤}
 use lib.ListN.{length}
-use Rattle.sequence.specs.Refusals.{Decided}
+use Rattle.rules.specs.Refusals.{Decided}
 use Rattle.file.specs.Format.{GoodName}
 use Rattle.file.specs.Offence.{Got, got, bad, namesUpTo, wholeNames}
-use Rattle.session.specs.Numbers.{propositions}
-use Rattle.session.specs.Answers.{Said}
+use Rattle.rules.specs.Limits.{mostPropositions}
+use Rattle.rules.specs.Answers.{Said}
 use Rattle.file.proofs.Whole.{end-sound, names-sound}
 use Rattle.file.proofs.Offsets.{names-offset-small}
 use Rattle.file.proofs.Theorems.{each-at}
-use Rattle.walk.specs.Formula.{leaf, unary, binary, proposition, constant, Formula}
-use Rattle.walk.specs.Nodes.{Node, Spells, codes}
+use Rattle.formula.specs.Formula.{leaf, unary, binary, proposition, constant, Formula}
+use Rattle.formula.specs.Nodes.{Node, Spells, codes}
 use Rattle.text.specs.declared.Printed.{Printed}
 use Rattle.formula.specs.Rule.{noProposition, Broken, rooted}
 use Rattle.text.specs.Text.{text}
@@ -65,7 +65,7 @@ print-fits file k root room s new a o b = go (wholeNames file) refl a
 module _ (file : List ℕ) (names : List (List ℕ)) (next : ℕ) (w : wholeNames file ≡ got names next) where
   name-some : (p : ℕ) → p < length names → 1 ≤ length (text names (leaf (proposition p)))
   name-some p h =
-      let s = names-sound file propositions 0 (end-sound file (namesUpTo propositions file 0) w .0) in
+      let s = names-sound file mostPropositions 0 (end-sound file (namesUpTo mostPropositions file 0) w .0) in
       each-at GoodName [] names [] (s .fits) p h .some
 
   module _ (k : List Node) (root : Node) (whole : Broken (length names) k root → ⊥) where

@@ -11,7 +11,7 @@ use lib.Dec.{leb}
 use lib.ListN.{length}
 use Rattle.file.specs.Format.{Parts}
 use Rattle.file.specs.Offence.{Got, got, bad, wholeFile}
-use Rattle.session.specs.Answers.{Said}
+use Rattle.rules.specs.Answers.{Said}
 use Rattle.file.specs.Reading.{broken, tooLittleRoom, Lent, lent, After, roomFor, handedOut, readOf}
 use Rattle.file.specs.Reading as core
 use Rattle.file.proofs.Numbers.{Bytes}

@@ -7,13 +7,13 @@ use Prim.Native.Nat.{ℕ, _≤_, _<_}
 use native.Mathlib.Nat.{lt-of-not-le}
 use native.Mathlib.Omega.{arith}
 use lib.ListN.{length}
-use Rattle.sequence.specs.Refusals.{Decided}
-use Rattle.walk.specs.Input.{Input}
+use Rattle.rules.specs.Refusals.{Decided}
+use Rattle.walk.specs.Input.{Input, inputOf}
 use Rattle.search.specs.declared.SearchAnswer.{SearchAnswer}
 use Rattle.search.specs.declared.SearchAnswer.the-variants.{Found, None, Full, Refused}
 use Rattle.search.specs.Table.{Cols}
 use Rattle.search.specs.Refusals as core
-use Rattle.search.specs.Search.{inputOf, said, Searched}
+use Rattle.search.specs.Search.{said, Searched}
 use Rattle.scarfpylon.specs.Out.{outWords, written}
 use Rattle.scarfpylon.specs.Search.{searchWords, searchRows, SearchDone}
 use Rattle.scarfpylon.specs.Inner.{SearchUnanswered}

@@ -7,13 +7,14 @@ use Prim.Native.Nat.{ℕ}
 use native.Mathlib.Decide.{ℕ-discrete}
 use Rattle.sequence.specs.declared.CharSeq.{CharSeq}
 use Rattle.sequence.specs.declared.Answer.the-variants.{Sequence}
-use Rattle.sequence.specs.Refusals.{Row}
+use Rattle.rules.specs.Refusals.{Row}
 use Rattle.sequence.specs.Sequence.{seq, unaryRows, binaryRows, Answers, UnaryRead, BinaryRead}
-use Rattle.sequence.proofs.Refusals.{decided-unique}
+use Rattle.rules.proofs.Refusals.{decided-unique}
 use Rattle.sequence.proofs.Unique.{unary-unique, binary-unique}
 use Rattle.file.specs.Offence.{Got, got, bad, wholeNames}
 use Rattle.file.specs.Reading.{Lent}
-use Rattle.walk.specs.Nodes.{Node}
+use Rattle.formula.specs.Nodes.{Node}
+use Rattle.session.specs.Recording.{Recording}
 use Rattle.walk.specs.Input.{Input}
 use Rattle.formula.specs.declared.Verdict.{Verdict}
 use Rattle.text.specs.declared.Printed.{Printed}
@@ -78,7 +79,7 @@ search-done-unique i t old k l u v x y p q =
 
 -- ---- the check
 
-pub check-done-unique : (i : Input) (k : List Node) (root : Node) (old : List ℕ) (m n : ℕ) (x y : List ℕ) → CheckDone i k root old m x → CheckDone i k root old n y
+pub check-done-unique : (i : Recording) (k : List Node) (root : Node) (old : List ℕ) (m n : ℕ) (x y : List ℕ) → CheckDone i k root old m x → CheckDone i k root old n y
     → (m ≡ n) × (x ≡ y)
 check-done-unique i k root old m n x y p q =
     let o = decided-unique _ m n (p .number) (q .number) in

@@ -3,16 +3,16 @@
 use mathlib.Core.Path.{_≡_}
 use mathlib.Core.List.{List, [], _∷_}
 use Prim.Native.Nat.{ℕ}
-use Rattle.sequence.specs.Refusals.{Row, Decided}
+use Rattle.rules.specs.Refusals.{Row, Decided}
 use Rattle.session.specs.Data.{outsideNumbers, tooShort, tooLong, bitAbove, markWrong}
-use Rattle.walk.specs.Nodes.{Node}
-use Rattle.walk.specs.Input.{Input}
+use Rattle.formula.specs.Nodes.{Node}
+use Rattle.session.specs.Recording.{Recording}
 use Rattle.formula.specs.declared.Verdict.{Verdict}
 use Rattle.formula.specs.Rule.{brokenList}
 use Rattle.formula.specs.Check.{saidVerdict, CheckAnswer}
 use Rattle.scarfpylon.specs.Out.{outShort, written, saidWords}
 
-module _ (i : Input) (k : List Node) (root : Node) (old : List ℕ) where
+module _ (i : Recording) (k : List Node) (root : Node) (old : List ℕ) where
   -- the check's rows, with that of `out` "at the place that 3 has"; which of the rows with one number is given first can't be seen
   abbrev pub checkRows : List Row
   checkRows =

@@ -7,16 +7,16 @@ use Prim.Native.Nat.{ℕ, _^_, _<_, _≤_}
 use lib.ListN.{length}
 use Rattle.sequence.specs.declared.Answer.{Answer}
 use Rattle.sequence.specs.declared.Answer.the-variants.{Sequence, Refused}
-use Rattle.sequence.specs.Refusals.{Row, Decided}
+use Rattle.rules.specs.Refusals.{Row, Decided}
 use Rattle.session.specs.Data.{outsideNumbers}
 use Rattle.file.specs.Format.{Parts}
 use Rattle.file.specs.Offence.{Got, got, bad}
-use Rattle.session.specs.Answers.{Said}
+use Rattle.rules.specs.Answers.{Said}
 use Rattle.file.specs.Reading.{broken}
-use Rattle.walk.specs.Nodes.{Node}
+use Rattle.formula.specs.Nodes.{Node}
 use Rattle.formula.specs.Rule.{brokenList}
 use Rattle.search.specs.Refusals.{settingWrong}
-use Rattle.search.specs.Search.{inputOf}
+use Rattle.walk.specs.Input.{inputOf}
 use Rattle.scarfpylon.specs.Out.{outWords, word, written, brokenAt}
 
 -- ---- where `out` is too short: what comes before 3 decides, and else 3

@@ -5,8 +5,8 @@ use mathlib.Core.List.{List, [], _∷_}
 use Prim.Native.Nat.{ℕ, suc, _+_, _*_, _<_}
 use lib.Dec.{eqb}
 use lib.ListN.{length, set}
-use Rattle.sequence.specs.Refusals.{Row}
-use Rattle.session.specs.Answers.{Said}
+use Rattle.rules.specs.Refusals.{Row}
+use Rattle.rules.specs.Answers.{Said}
 
 -- "Answers go to a last slice `out` of at least 8 words"
 abbrev pub outWords : ℕ

@@ -4,9 +4,9 @@ use mathlib.Core.Path.{_≡_}
 use mathlib.Core.List.{List, [], _∷_}
 use Prim.Native.Nat.{ℕ}
 use lib.ListN.{length}
-use Rattle.sequence.specs.Refusals.{Decided}
+use Rattle.rules.specs.Refusals.{Decided}
 use Rattle.file.specs.Offence.{Got, got, bad, wholeNames}
-use Rattle.walk.specs.Nodes.{Node}
+use Rattle.formula.specs.Nodes.{Node}
 use Rattle.text.specs.declared.Printed.{Printed}
 use Rattle.formula.specs.Rule.{brokenList}
 use Rattle.text.specs.Print.{saidPrinted, shortRoom, Prints}

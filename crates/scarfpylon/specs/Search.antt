@@ -3,7 +3,7 @@
 use mathlib.Core.Path.{_≡_}
 use mathlib.Core.List.{List, [], _∷_}
 use Prim.Native.Nat.{ℕ}
-use Rattle.sequence.specs.Refusals.{Row, Decided}
+use Rattle.rules.specs.Refusals.{Row, Decided}
 use Rattle.session.specs.Data.{outsideNumbers, tooShort, tooLong, bitAbove, markWrong}
 use Rattle.walk.specs.Input.{Input}
 use Rattle.search.specs.declared.SearchAnswer.{SearchAnswer}
@@ -33,14 +33,14 @@ module _ (i : Input) (t : Cols) (old : List ℕ) where
   -- the search's rows, with that of `out` "at the place that 3 has"; which of the rows with one number is given first can't be seen
   abbrev pub searchRows : List Row
   searchRows =
-      outsideNumbers (i .sessions) (i .propositions)
+      outsideNumbers (i .recording .sessions) (i .recording .propositions)
       ∷ settingWrong i
       ∷ outShort old
-      ∷ tooShort (i .sessions) (i .propositions) (i .marks) (i .lengths) (i .words)
+      ∷ tooShort (i .recording .sessions) (i .recording .propositions) (i .recording .marks) (i .recording .lengths) (i .recording .words)
       ∷ noRoom i t
-      ∷ tooLong (i .sessions) (i .propositions) (i .marks) (i .lengths) (i .words)
-      ∷ bitAbove (i .sessions) (i .propositions) (i .marks) (i .lengths) (i .words)
-      ∷ markWrong (i .sessions) (i .propositions) (i .marks) (i .lengths) (i .words)
+      ∷ tooLong (i .recording .sessions) (i .recording .propositions) (i .recording .marks) (i .recording .lengths) (i .recording .words)
+      ∷ bitAbove (i .recording .sessions) (i .recording .propositions) (i .recording .marks) (i .recording .lengths) (i .recording .words)
+      ∷ markWrong (i .recording .sessions) (i .recording .propositions) (i .recording .marks) (i .recording .lengths) (i .recording .words)
       ∷ codeWrong i
       ∷ []
 

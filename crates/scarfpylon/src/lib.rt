@@ -4,14 +4,14 @@ mod out;
 mod short;
 
 use formula::kinds::Node;
-use formula::kinds::Place;
+use rules::kinds::Place;
 use sequence::CharSeq;
 ghost use mathlib.Core.Path.{_≡_};
 ghost use Rattle.file.specs.Reading.{lent};
 ghost use Rattle.formula.specs.Kinds.{node, nodes};
-ghost use Rattle.formula.specs.Check.{recorded};
+ghost use Rattle.session.specs.Recording.{recording};
 ghost use Rattle.search.specs.Table.{cols};
-ghost use Rattle.search.specs.Search.{inputOf};
+ghost use Rattle.walk.specs.Input.{inputOf};
 ghost use Rattle.scarfpylon.specs.Operators.{UnaryDone, BinaryDone};
 ghost use Rattle.scarfpylon.specs.Search.{SearchDone};
 ghost use Rattle.scarfpylon.specs.Check.{CheckDone};
@@ -126,7 +126,7 @@ pub extern "C" fn scarfpylon_check(
     out: &mut [u64],
 ) -> u64
     ensures { λ k. ⌜ CheckDone
-        (recorded r m (now (marks .entry)) (now (lengths .entry)) (now (words .entry)))
+        (recording r m (now (marks .entry)) (now (lengths .entry)) (now (words .entry)))
         (nodes (now (codes .entry)) (now (lefts .entry)) (now (rights .entry)) (now (sizes .entry)))
         (node code left right size)
         (now (out .entry))

@@ -7,11 +7,11 @@ use Prim.Native.Nat.{ℕ, _+_, _≤_, _<_}
 use native.Mathlib.Omega.{arith}
 use lib.ListN.{length}
 use Rattle.sequence.specs.declared.operators.Operator.{Operator}
-use Rattle.sequence.specs.Operators.{Unary, unaryCode, commutes}
+use Rattle.sequence.specs.Operators.{Unary, unaryCode, commutes, binaryOf}
 use Rattle.sequence.specs.Table.{Listed}
-use Rattle.walk.specs.Input.{Input, binaryOf}
+use Rattle.walk.specs.Input.{Input}
+use Rattle.sequence.proofs.Decoding.{binary-of}
 use Rattle.walk.specs.Promises.{Table}
-use Rattle.walk.proofs.Nodes.{binary-of}
 use Rattle.search.specs.declared.given.Given.{Given}
 use Rattle.search.specs.declared.scan.Cursor.{Cursor}
 use Rattle.search.specs.declared.scan.Event.{Event}

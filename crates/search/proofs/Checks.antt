@@ -10,9 +10,8 @@ use native.Mathlib.Decide.{decLe}
 use lib.ListN.{length, getD, length-append, List·getD-append}
 use lib.Seq.{getD-append-seam, append-snoc}
 use Rattle.sequence.specs.Operators.{Unary, Binary, unaryCode, binaryCode}
-use Rattle.session.specs.Each.{Each}
+use Rattle.rules.specs.Lists.{Each, _∈_}
 use Rattle.session.proofs.Few.{few}
-use Rattle.walk.specs.Formula.{_∈_}
 use Rattle.walk.specs.Input.{Once}
 use Rattle.search.specs.Scan.{UnaryCodes, BinaryCodes}
 use Rattle.search.specs.Checks.{Told, GroupIs, SeenIn, GoodCodes}

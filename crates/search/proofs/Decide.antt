@@ -7,8 +7,8 @@ use mathlib.Core.List.{List, [], _∷_, _++_}
 use Prim.Native.Nat.{ℕ, _+_, _≤_, _<_}
 use native.Mathlib.Omega.{arith}
 use native.Mathlib.Decide.{decLe}
-use Rattle.sequence.specs.Limits as limits
-use Rattle.sequence.specs.Refusals.{Row, Decided}
+use Rattle.rules.specs.Limits.{mostSessions, mostPropositions}
+use Rattle.rules.specs.Refusals.{Row, Decided}
 use Rattle.session.specs.Data.{outsideNumbers, tooShort, tooLong, bitAbove, markWrong, dataRows}
 use Rattle.walk.specs.Input.{Input}
 use Rattle.search.specs.Table.{Cols}
@@ -84,21 +84,21 @@ zero-none = refl
 
 -- ---- the search's rows
 
-module _ (i : Input) (t : Cols) (k : ℕ) (d : Decided (dataRows (i .sessions) (i .propositions) (i .marks) (i .lengths) (i .words)) k) where
+module _ (i : Input) (t : Cols) (k : ℕ) (d : Decided (dataRows (i .recording .sessions) (i .recording .propositions) (i .recording .marks) (i .recording .lengths) (i .recording .words)) k) where
   abbrev numbers : Row
-  numbers = outsideNumbers (i .sessions) (i .propositions)
+  numbers = outsideNumbers (i .recording .sessions) (i .recording .propositions)
 
   abbrev short : Row
-  short = tooShort (i .sessions) (i .propositions) (i .marks) (i .lengths) (i .words)
+  short = tooShort (i .recording .sessions) (i .recording .propositions) (i .recording .marks) (i .recording .lengths) (i .recording .words)
 
   abbrev long : Row
-  long = tooLong (i .sessions) (i .propositions) (i .marks) (i .lengths) (i .words)
+  long = tooLong (i .recording .sessions) (i .recording .propositions) (i .recording .marks) (i .recording .lengths) (i .recording .words)
 
   abbrev bits : Row
-  bits = bitAbove (i .sessions) (i .propositions) (i .marks) (i .lengths) (i .words)
+  bits = bitAbove (i .recording .sessions) (i .recording .propositions) (i .recording .marks) (i .recording .lengths) (i .recording .words)
 
   abbrev marks : Row
-  marks = markWrong (i .sessions) (i .propositions) (i .marks) (i .lengths) (i .words)
+  marks = markWrong (i .recording .sessions) (i .recording .propositions) (i .recording .marks) (i .recording .lengths) (i .recording .words)
 
   abbrev rest : List Row
   rest = long ∷ bits ∷ marks ∷ []
@@ -151,7 +151,7 @@ module _ (i : Input) where
   settings-fine w = ⊎-elim (λ x. ⊎-elim (λ y. omega (arith, w .0)) (λ y. omega (arith, w .1)) x)
       (λ x. ⊎-elim (λ y. ⊎-elim (λ z. omega (arith, w .2)) (λ z. omega (arith, w .3)) y) (λ y. omega (arith, w .4)) x)
 
-  pub room-fine : (t : Cols) → RoomTold (i .sessions) (i .room) t true → noRoom i t .given → ⊥
+  pub room-fine : (t : Cols) → RoomTold (i .recording .sessions) (i .room) t true → noRoom i t .given → ⊥
   room-fine t w = ⊎-elim (λ x. omega (arith, w .0)) (λ x. ⊎-elim (λ y. omega (arith, w .1)) (λ y. ⊎-elim (λ z. omega (arith, w .2))
       (λ z. ⊎-elim (λ u. omega (arith, w .3)) (λ u. omega (arith, w .4)) z) y) x)
 
@@ -169,7 +169,7 @@ module _ (i : Input) where
       (λ y. ⊎-elim (λ w. let g = b .in-group (w .0) (w .1) in w .2 (g .0) (g .1)) (λ w. b .once (w .0) (w .1) (w .2) (w .3) (w .4)) y) x)
 
 -- where the numbers are in range
-pub numbers-in : (r m : ℕ) → (outsideNumbers r m .given → ⊥) → (1 ≤ r) × (r ≤ limits.sessions) × (1 ≤ m) × (m ≤ limits.propositions)
+pub numbers-in : (r m : ℕ) → (outsideNumbers r m .given → ⊥) → (1 ≤ r) × (r ≤ mostSessions) × (1 ≤ m) × (m ≤ mostPropositions)
 numbers-in r m f = (
   le-of-not-lt λ h. f (inl (inl h)),
   le-of-not-lt λ h. f (inl (inr h)),
@@ -177,7 +177,7 @@ numbers-in r m f = (
   le-of-not-lt λ h. f (inr (inr h)),
 )
 
-pub not-one-in : (r m : ℕ) (marks lengths words : List ℕ) (k : ℕ) → Decided (dataRows r m marks lengths words) k → (k ≡ 1 → ⊥) → r ≤ limits.sessions
+pub not-one-in : (r m : ℕ) (marks lengths words : List ℕ) (k : ℕ) → Decided (dataRows r m marks lengths words) k → (k ≡ 1 → ⊥) → r ≤ mostSessions
 not-one-in r m marks lengths words k d one = numbers-in r m (later (outsideNumbers r m) _ k d one .0) .1
 
 -- where the whole list decides 0, no row is given

@@ -9,12 +9,12 @@ use lib.ListN.{length, getD, length-set}
 use lib.Seq.{length-paste}
 use borrow.Author.Tests.{le-leb, lt-leb}
 use Rattle.search.specs.Costs.{perSize, perTurn}
-use Rattle.sequence.specs.Limits as limits
+use Rattle.rules.specs.Limits.{mostRoom}
 use Rattle.walk.specs.Walk.{Candidate, full, State, going, ended, judge, consider}
 use Rattle.walk.specs.Input.{Input, Passes, offer}
 use Rattle.walk.specs.Promises.{Table}
 use Rattle.walk.proofs.Pass.{stays}
-use Rattle.formula.specs.declared.kinds.Place.{Place}
+use Rattle.rules.specs.declared.kinds.Place.{Place}
 use Rattle.search.specs.declared.given.Given.{Given}
 use Rattle.search.specs.declared.scan.Cursor.{Cursor}
 use Rattle.search.specs.declared.scan.Event.the-variants.{Through, New}
@@ -69,7 +69,7 @@ pub record Reached (i : Input) (t₀ : Cols) (k₀ : Table) (st : State (List �
   pub is : st ≡ foldl (consider (offer i) (i .room)) (going table n) rest
 
 pub record LayerLoop (g : Given) (marks lengths words unary binary starts : List ℕ) (s : ℕ) (from : Cursor) (t : Cols) (kept tried : ℕ) (t′ : Cols) (at : Cursor) (k n : ℕ) : Type 0 where
-  pub within : n + perTurn * (limits.room + 1 - k) ≤ tried + perSize
+  pub within : n + perTurn * (mostRoom + 1 - k) ≤ tried + perSize
   pub up : kept ≤ k
   pub kept-in : k ≤ g .room
   pub long : SameLengths t t′

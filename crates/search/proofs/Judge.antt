@@ -8,11 +8,13 @@ use native.Mathlib.Omega.{arith}
 use native.Mathlib.Numerals.{add-one}
 use lib.ListN.{length, take}
 use borrow.Author.Tests.{lt-ltb, le-ltb}
-use Rattle.walk.specs.Walk.{Candidate, found, going, ended, count, judge, consider}
+use Rattle.walk.specs.Walk.{Candidate, found, going, ended, judge, consider}
+use Rattle.rules.specs.Lists.{count}
 use Rattle.walk.specs.Walk as walk
-use Rattle.walk.specs.Input.{Input, unaryOf, binaryOf, every, separating, offer}
+use Rattle.walk.specs.Input.{Input, every, separating, offer}
+use Rattle.sequence.specs.Operators.{unaryOf, binaryOf}
 use Rattle.walk.specs.Promises.{Table}
-use Rattle.formula.specs.declared.kinds.Place.{Place}
+use Rattle.rules.specs.declared.kinds.Place.{Place}
 use Rattle.search.specs.declared.given.Given.{Given}
 use Rattle.search.specs.declared.scan.Cursor.{Cursor}
 use Rattle.search.specs.declared.scan.Event.the-variants.{Through, Found, New}
@@ -34,7 +36,7 @@ module _ (i : Input) (k : Table) (n : ℕ) (x : Candidate (List ℕ)) where
 -- ---- the children stand in the table as the size found it
 
 pub made-base : {i : Input} {k₀ k : Table} {matrices : List ℕ} {kept : ℕ} (code left right : ℕ) → Stands i k₀ k matrices kept
-    → Makes (i .propositions) (length k₀) code left right → made i k code left right ≡ made i k₀ code left right
+    → Makes (i .recording .propositions) (length k₀) code left right → made i k code left right ≡ made i k₀ code left right
 unfolding made
 made-base code left right st (Makes.leaf a b c z) = rw (le-ltb code 5 (omega arith), le-ltb code 16 a)
 made-base {i} code left right st (Makes.unary a b z) = rw (lt-ltb code 5 a) (ap (λ (c : Candidate (List ℕ)). offer i .unaryMatrix (unaryOf code) (c .matrix)) (st .same left b))

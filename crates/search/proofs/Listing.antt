@@ -9,11 +9,12 @@ use native.Mathlib.Numerals.{add-one}
 use lib.ListN.{length, getD}
 use lib.Dec.{eqb}
 use borrow.Author.Tests.{lt-ltb, le-ltb, eq-eqb, ne-eqb}
-use Rattle.sequence.specs.Operators.{commutes}
-use Rattle.walk.specs.Formula.{Leaf, proposition, constant}
-use Rattle.walk.specs.Walk.{Candidate, each, count, leftSizes, seed, unaryOn, binaryOn, orders, layer}
+use Rattle.sequence.specs.Operators.{commutes, unaryOf, binaryOf}
+use Rattle.formula.specs.Formula.{Leaf, proposition, constant}
+use Rattle.walk.specs.Walk.{Candidate, leftSizes, seed, unaryOn, binaryOn, orders, layer}
+use Rattle.rules.specs.Lists.{each, count}
 use Rattle.walk.specs.Walk as walk
-use Rattle.walk.specs.Input.{Input, unaryOf, binaryOf, leaves, constantsIf, offer}
+use Rattle.walk.specs.Input.{Input, leaves, constantsIf, offer}
 use Rattle.walk.specs.Promises.{Table}
 use Rattle.walk.proofs.Places.{sizeAt, placed, Split, unary-places, pair-places}
 use Rattle.search.specs.Matrix.{nothing, leafOf, made}
@@ -79,29 +80,29 @@ module _ (i : Input) (k : Table) where
   unfolding made
   leaf-is c code left e f h q = rw (le-ltb code 5 (omega arith), le-ltb code 16 h, q, e, f)
 
-  proposition-is : (p : ℕ) → p < i .propositions → leafAt i k 1 p ≡ seed (offer i) (proposition p)
-  proposition-is p h = rw (lt-ltb p (i .propositions) h) (leaf-is (proposition p) 16 p refl refl (omega arith) refl)
+  proposition-is : (p : ℕ) → p < i .recording .propositions → leafAt i k 1 p ≡ seed (offer i) (proposition p)
+  proposition-is p h = rw (lt-ltb p (i .recording .propositions) h) (leaf-is (proposition p) 16 p refl refl (omega arith) refl)
 
-  false-is : leafAt i k 1 (i .propositions) ≡ seed (offer i) (constant false)
-  false-is = rw (le-ltb (i .propositions) (i .propositions) (omega arith), eq-eqb (i .propositions) (i .propositions) refl)
+  false-is : leafAt i k 1 (i .recording .propositions) ≡ seed (offer i) (constant false)
+  false-is = rw (le-ltb (i .recording .propositions) (i .recording .propositions) (omega arith), eq-eqb (i .recording .propositions) (i .recording .propositions) refl)
       (leaf-is (constant false) 17 0 refl refl (omega arith) refl)
 
-  true-is : leafAt i k 1 (i .propositions + 1) ≡ seed (offer i) (constant true)
-  true-is = rw (le-ltb (i .propositions + 1) (i .propositions) (omega arith), ne-eqb (i .propositions + 1) (i .propositions) (λ e. omega arith))
+  true-is : leafAt i k 1 (i .recording .propositions + 1) ≡ seed (offer i) (constant true)
+  true-is = rw (le-ltb (i .recording .propositions + 1) (i .recording .propositions) (omega arith), ne-eqb (i .recording .propositions + 1) (i .recording .propositions) (λ e. omega arith))
       (leaf-is (constant true) 18 0 refl refl (omega arith) refl)
 
-  propositions-are : map (leafAt i k 1) (count 0 (i .propositions)) ≡ map (seed (offer i)) (map proposition (count 0 (i .propositions)))
-  propositions-are = map-same 0 (i .propositions) (leafAt i k 1) (λ p. seed (offer i) (proposition p)) (λ p l h. proposition-is p (omega arith))
-      ∙ sym (map-map proposition (seed (offer i)) (count 0 (i .propositions)))
+  propositions-are : map (leafAt i k 1) (count 0 (i .recording .propositions)) ≡ map (seed (offer i)) (map proposition (count 0 (i .recording .propositions)))
+  propositions-are = map-same 0 (i .recording .propositions) (leafAt i k 1) (λ p. seed (offer i) (proposition p)) (λ p l h. proposition-is p (omega arith))
+      ∙ sym (map-map proposition (seed (offer i)) (count 0 (i .recording .propositions)))
 
-  pub seeds-list : seedsRest i k 1 0 (cond (eqb (i .constants) 1) (i .propositions + 2) (i .propositions)) ≡ layer (offer i) 1 k
+  pub seeds-list : seedsRest i k 1 0 (cond (eqb (i .constants) 1) (i .recording .propositions + 2) (i .recording .propositions)) ≡ layer (offer i) 1 k
   unfolding layer
   seeds-list = go (eqb (i .constants) 1)
     where
-      go : (b : Bool) → seedsRest i k 1 0 (cond b (i .propositions + 2) (i .propositions))
-          ≡ map (seed (offer i)) (map proposition (count 0 (i .propositions)) ++ constantsIf b)
+      go : (b : Bool) → seedsRest i k 1 0 (cond b (i .recording .propositions + 2) (i .recording .propositions))
+          ≡ map (seed (offer i)) (map proposition (count 0 (i .recording .propositions)) ++ constantsIf b)
       go true =
-          let m = i .propositions in
+          let m = i .recording .propositions in
           let e : m + 2 - 0 ≡ m + 2 = omega arith in
           let f : 0 + m ≡ m = omega arith in
           rw (e, count-two 0 m, f)
@@ -110,7 +111,7 @@ module _ (i : Input) (k : Table) where
           (ap₂ (λ (x y : Candidate (List ℕ)). x ∷ (y ∷ [])) false-is true-is)
           ∙ sym (map-append (seed (offer i)) (map proposition (count 0 m)) (constantsIf true)))
       go false =
-          let m = i .propositions in
+          let m = i .recording .propositions in
           let e : m - 0 ≡ m = omega arith in
           rw e (propositions-are ∙ sym (map-append (seed (offer i)) (map proposition (count 0 m)) []
           ∙ mathlib.Core.List.append-nil (map (seed (offer i)) (map proposition (count 0 m)))))
@@ -183,7 +184,7 @@ module _ (i : Input) (k : Table) (starts : List ℕ) (uc : UnaryCodes (i .unary)
       omega arith)
 
   pub layer-list : (s : ℕ) → 1 ≤ s → Begins k starts s
-      → layerRest i k s starts (cond (eqb (i .constants) 1) (i .propositions + 2) (i .propositions)) (begin starts s) ≡ layer (offer i) s k
+      → layerRest i k s starts (cond (eqb (i .constants) 1) (i .recording .propositions + 2) (i .recording .propositions)) (begin starts s) ≡ layer (offer i) s k
   unfolding layer walk.unaryCandidates leftSizes
   layer-list zero h w = absurd (omega arith)
   layer-list (suc zero) h w = layer-one i k 1 starts _ refl (begin starts 1) ∙ rw (w .zeroth) (seeds-list i k)

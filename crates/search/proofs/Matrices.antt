@@ -11,12 +11,13 @@ use lib.Seq.{ext-getD, length-take-le, getD-take}
 use lib.Dec.{eqb}
 use borrow.Author.Tests.{lt-ltb, le-ltb}
 use Rattle.words.specs.Word.{Wf}
-use Rattle.sequence.specs.Operators.{unaryCode, binaryCode}
-use Rattle.walk.specs.Formula.{proposition, constant}
-use Rattle.walk.specs.Walk.{count}
+use Rattle.sequence.specs.Operators.{unaryCode, binaryCode, unaryOf, binaryOf, decode}
+use Rattle.formula.specs.Formula.{proposition, constant}
+use Rattle.rules.specs.Lists.{count}
 use Rattle.walk.specs.Walk as walk
 use Rattle.walk.specs.Rows.{unaryRow, binaryRow, constantRow, acceptsRow}
-use Rattle.walk.specs.Input.{Input, Passes, lengthOf, markOf, wordOf, unaryOf, binaryOf, row, rows, leafRow, sameRows, every, separating, offer}
+use Rattle.walk.specs.Input.{Input, Passes, row, rows, leafRow, sameRows, every, separating, offer}
+use Rattle.session.specs.Recording.{lengthOf, markOf, wordOf}
 use Rattle.walk.specs.Promises.{Table}
 use Rattle.walk.proofs.Reading.{row-rows, lawful}
 use Rattle.walk.proofs.Rows.{unary-row-means, binary-row-means, constant-row-means}
@@ -45,6 +46,7 @@ take-rows r f xs h e =
 
 -- the codes of a group
 pub unary-code : (c : ℕ) → c < 5 → unaryCode (unaryOf c) ≡ c
+unfolding decode
 unary-code zero h = refl
 unary-code (suc zero) h = refl
 unary-code (suc (suc zero)) h = refl
@@ -53,6 +55,7 @@ unary-code (suc (suc (suc (suc zero)))) h = refl
 unary-code (suc (suc (suc (suc (suc c))))) h = absurd (omega arith)
 
 binary-from : (c : ℕ) → c < 6 → binaryCode (binaryOf (5 + c)) ≡ 5 + c
+unfolding decode
 binary-from zero h = refl
 binary-from (suc zero) h = refl
 binary-from (suc (suc zero)) h = refl
@@ -111,23 +114,23 @@ module _ {g : Given} {lengths words matrices : List ℕ} {code left right : ℕ}
   }
     where
       go : (i : Input) (j : ℕ) (b : Bool)
-          → cond b (wordOf i j left) (constantRow (not (eqb code 17)) (lengthOf i j)) ≡ leafRow i (cond b (proposition left) (constant (not (eqb code 17)))) j
+          → cond b (wordOf (i .recording) j left) (constantRow (not (eqb code 17)) (lengthOf (i .recording) j)) ≡ leafRow i (cond b (proposition left) (constant (not (eqb code 17)))) j
       go i j true = refl
       go i j false = refl
 
 -- every candidate's matrix has a well-formed word for each session
-fine-rows : (i : Input) (f : ℕ → ℕ) → ((j : ℕ) → j < i .sessions → Wf (lengthOf i j) (f j)) → Fine i (rows (i .sessions) f)
+fine-rows : (i : Input) (f : ℕ → ℕ) → ((j : ℕ) → j < i .recording .sessions → Wf (lengthOf (i .recording) j) (f j)) → Fine i (rows (i .recording .sessions) f)
 fine-rows i f h = record {
-  long = length-rows (i .sessions) f;
-  formed = λ j l. subst (Wf (lengthOf i j)) (sym (row-rows (i .sessions) f j l)) (h j l);
+  long = length-rows (i .recording .sessions) f;
+  formed = λ j l. subst (Wf (lengthOf (i .recording) j)) (sym (row-rows (i .recording .sessions) f j l)) (h j l);
 }
 
-pub made-fine : (i : Input) → Passes i → (k : Table) (code left right kept : ℕ) → Makes (i .propositions) kept code left right → Fine i (made i k code left right)
+pub made-fine : (i : Input) → Passes i → (k : Table) (code left right kept : ℕ) → Makes (i .recording .propositions) kept code left right → Fine i (made i k code left right)
 unfolding made
 made-fine i ok k code left right kept (Makes.leaf a b c z) =
     rw (le-ltb code 5 (omega arith), le-ltb code 16 a) (fine-rows i (leafRow i (leafOf code left)) (λ j l. go j l (eqb code 16)))
   where
-    go : (j : ℕ) → j < i .sessions → (t : Bool) → Wf (lengthOf i j) (leafRow i (cond t (proposition left) (constant (not (eqb code 17)))) j)
+    go : (j : ℕ) → j < i .recording .sessions → (t : Bool) → Wf (lengthOf (i .recording) j) (leafRow i (cond t (proposition left) (constant (not (eqb code 17)))) j)
     go j l true = ok .well-formed j left l c
     go j l false = constant-row-means (not (eqb code 17)) (ok .short j l) .wf
 made-fine i ok k code left right kept (Makes.unary a b z) =
@@ -143,11 +146,11 @@ unfolding every count
 every-same a zero f h e = refl
 every-same a (suc n) f h e = ap₂ (λ (x y : Bool). x && y) (e a (omega arith) (omega arith)) (every-same (suc a) n f h (λ j l m. e j (omega arith) (omega arith)))
 
-pub agrees-separating : (i : Input) (xs : List ℕ) → i .sessions ≤ length xs
-    → every (count 0 (i .sessions)) (agreesAt (i .marks) (i .lengths) xs) ≡ separating i (take (i .sessions) xs)
+pub agrees-separating : (i : Input) (xs : List ℕ) → i .recording .sessions ≤ length xs
+    → every (count 0 (i .recording .sessions)) (agreesAt (i .recording .marks) (i .recording .lengths) xs) ≡ separating i (take (i .recording .sessions) xs)
 unfolding separating
 agrees-separating i xs h =
-    every-same 0 (i .sessions) _ _ (λ j l m. ap (λ (x : ℕ). Bool·beq (acceptsRow (lengthOf i j) x) (eqb (markOf i j) 1)) (sym (getD-take (i .sessions) xs j 0 (omega arith))))
+    every-same 0 (i .recording .sessions) _ _ (λ j l m. ap (λ (x : ℕ). Bool·beq (acceptsRow (lengthOf (i .recording) j) x) (eqb (markOf (i .recording) j) 1)) (sym (getD-take (i .recording .sessions) xs j 0 (omega arith))))
 
 -- what is left of the sessions from j on
 pub every-start : (r : ℕ) (f : ℕ → Bool) → every (count 0 r) f ≡ every (count 0 (r - 0)) f
@@ -194,17 +197,17 @@ module _ (i : Input) where
   known-none x (c ∷ k) h =
       ap₂ (λ (a b : Bool). a || b) (same-no x (c .matrix) (h 0 (omega arith))) (known-none x k (λ p l q. h (suc p) (omega arith) q))
 
-module _ (i : Input) (k : Table) (matrices : List ℕ) (st : Stored i k matrices) (xs x : List ℕ) (e : take (i .sessions) xs ≡ x) (h : i .sessions ≤ length xs) where
-  equal-rows : (p : ℕ) → p < length k → EqualRows (i .sessions) xs matrices (p * i .sessions) → x ≡ matrixAt k p
+module _ (i : Input) (k : Table) (matrices : List ℕ) (st : Stored i k matrices) (xs x : List ℕ) (e : take (i .recording .sessions) xs ≡ x) (h : i .recording .sessions ≤ length xs) where
+  equal-rows : (p : ℕ) → p < length k → EqualRows (i .recording .sessions) xs matrices (p * i .recording .sessions) → x ≡ matrixAt k p
   equal-rows p l q =
-      sym e ∙ ext-getD 0 (take (i .sessions) xs) (matrixAt k p) (length-take-le (i .sessions) xs h ∙ sym (st .fine p l .long))
-      (λ j w. let v : j < i .sessions = omega (arith, length-take-le (i .sessions) xs h) in getD-take (i .sessions) xs j 0 v ∙ q j v ∙ st .words p j l v)
+      sym e ∙ ext-getD 0 (take (i .recording .sessions) xs) (matrixAt k p) (length-take-le (i .recording .sessions) xs h ∙ sym (st .fine p l .long))
+      (λ j w. let v : j < i .recording .sessions = omega (arith, length-take-le (i .recording .sessions) xs h) in getD-take (i .recording .sessions) xs j 0 v ∙ q j v ∙ st .words p j l v)
 
-  rows-equal : (p : ℕ) → p < length k → x ≡ matrixAt k p → EqualRows (i .sessions) xs matrices (p * i .sessions)
+  rows-equal : (p : ℕ) → p < length k → x ≡ matrixAt k p → EqualRows (i .recording .sessions) xs matrices (p * i .recording .sessions)
   rows-equal p l q j v =
-      sym (getD-take (i .sessions) xs j 0 v) ∙ ap (λ (y : List ℕ). getD y j 0) (e ∙ q) ∙ sym (st .words p j l v)
+      sym (getD-take (i .recording .sessions) xs j 0 v) ∙ ap (λ (y : List ℕ). getD y j 0) (e ∙ q) ∙ sym (st .words p j l v)
 
-  pub known-walk : (b : Bool) → Known (i .sessions) xs matrices (length k) b → walk.known (offer i) x k ≡ b
+  pub known-walk : (b : Bool) → Known (i .recording .sessions) xs matrices (length k) b → walk.known (offer i) x k ≡ b
   known-walk true w = known-some i x k (w .0) (w .1) (equal-rows (w .0) (w .1) (w .2))
   known-walk false w = known-none i x k (λ p l q. w p l (rows-equal p l q))
 

@@ -11,7 +11,8 @@ use lib.Dec.{ltb}
 use borrow.Author.Tests.{lt-ltb, le-ltb, ltb-true, ltb-false}
 use denote.Enum.Declared.{tagOf}
 use types.Run.{OneOf}
-use Rattle.walk.specs.Walk.{Candidate, State, going, each, count, consider}
+use Rattle.walk.specs.Walk.{Candidate, State, going, consider}
+use Rattle.rules.specs.Lists.{each, count}
 use Rattle.walk.specs.Input.{Input, offer}
 use Rattle.walk.specs.Promises.{Table}
 use Rattle.walk.proofs.Pass.{stays}

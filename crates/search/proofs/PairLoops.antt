@@ -9,7 +9,8 @@ use native.Mathlib.Numerals.{add-one}
 use lib.ListN.{length, getD, drop, drop-of-length-le}
 use lib.Seq.{drop-cons, drop-append-le, drop-nil}
 use Rattle.search.specs.Costs.{perSplit, perColumn, perPair}
-use Rattle.walk.specs.Walk.{Candidate, each}
+use Rattle.walk.specs.Walk.{Candidate}
+use Rattle.rules.specs.Lists.{each}
 use Rattle.walk.specs.Input.{Input}
 use Rattle.walk.specs.Promises.{Table}
 use Rattle.search.specs.declared.given.Given.{Given}

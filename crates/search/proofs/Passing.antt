@@ -8,9 +8,9 @@ use Prim.Native.Nat.{ℕ, zero, suc, _+_, _*_, _≤_, _<_}
 use native.Mathlib.Omega.{arith}
 use lib.ListN.{length, getD}
 use Rattle.words.specs.Word.{At}
-use Rattle.sequence.specs.Refusals.{Row, Decided}
+use Rattle.rules.specs.Refusals.{Row, Decided}
 use Rattle.session.specs.Data.{outsideNumbers, tooShort, tooLong, bitAbove, markWrong}
-use Rattle.walk.specs.Formula.{_∈_}
+use Rattle.rules.specs.Lists.{_∈_}
 use Rattle.walk.specs.Input.{Input, Passes, Once}
 use Rattle.walk.specs.Promises.{AgreeWhereRead}
 use Rattle.walk.proofs.Same.{inside}
@@ -99,7 +99,7 @@ decided-alike (x ∷ xs) (y ∷ ys) n w (inr d) = inr (λ g. d .0 (w .2 g), deci
 
 -- each row's facts, from one input to the other
 module _ (i j : Input) (s : AgreeWhereRead i j) (t : Cols) where
-  numbers-too : outsideNumbers (i .sessions) (i .propositions) .given → outsideNumbers (j .sessions) (j .propositions) .given
+  numbers-too : outsideNumbers (i .recording .sessions) (i .recording .propositions) .given → outsideNumbers (j .recording .sessions) (j .recording .propositions) .given
   numbers-too g = rw (s .sessions, s .propositions) at g
 
   settings-too : settingWrong i .given → settingWrong j .given
@@ -108,12 +108,12 @@ module _ (i j : Input) (s : AgreeWhereRead i j) (t : Cols) where
   room-too : noRoom i t .given → noRoom j t .given
   room-too g = rw (s .room, s .sessions) at g
 
-  long-too : tooLong (i .sessions) (i .propositions) (i .marks) (i .lengths) (i .words) .given
-      → tooLong (j .sessions) (j .propositions) (j .marks) (j .lengths) (j .words) .given
+  long-too : tooLong (i .recording .sessions) (i .recording .propositions) (i .recording .marks) (i .recording .lengths) (i .recording .words) .given
+      → tooLong (j .recording .sessions) (j .recording .propositions) (j .recording .marks) (j .recording .lengths) (j .recording .words) .given
   long-too (p, h, l) = (p, omega (arith, s .sessions), omega (arith, s .lengths p h))
 
-  bits-too : bitAbove (i .sessions) (i .propositions) (i .marks) (i .lengths) (i .words) .given
-      → bitAbove (j .sessions) (j .propositions) (j .marks) (j .lengths) (j .words) .given
+  bits-too : bitAbove (i .recording .sessions) (i .recording .propositions) (i .recording .marks) (i .recording .lengths) (i .recording .words) .given
+      → bitAbove (j .recording .sessions) (j .recording .propositions) (j .recording .marks) (j .recording .lengths) (j .recording .words) .given
   bits-too (q, h, p, l, b, m, w) = (
     q,
     omega (arith, s .sessions),
@@ -122,12 +122,12 @@ module _ (i j : Input) (s : AgreeWhereRead i j) (t : Cols) where
     b,
     omega (arith, s .lengths q h),
     subst (λ (x : ℕ). At x b)
-        (s .words (q * i .propositions + p) (inside (i .propositions) (i .sessions) q p h l)
-        ∙ ap (λ (x : ℕ). getD (j .words) (q * x + p) 0) (s .propositions)) w,
+        (s .words (q * i .recording .propositions + p) (inside (i .recording .propositions) (i .recording .sessions) q p h l)
+        ∙ ap (λ (x : ℕ). getD (j .recording .words) (q * x + p) 0) (s .propositions)) w,
   )
 
-  marks-too : markWrong (i .sessions) (i .propositions) (i .marks) (i .lengths) (i .words) .given
-      → markWrong (j .sessions) (j .propositions) (j .marks) (j .lengths) (j .words) .given
+  marks-too : markWrong (i .recording .sessions) (i .recording .propositions) (i .recording .marks) (i .recording .lengths) (i .recording .words) .given
+      → markWrong (j .recording .sessions) (j .recording .propositions) (j .recording .marks) (j .recording .lengths) (j .recording .words) .given
   marks-too (p, h, l) = (p, omega (arith, s .sessions), omega (arith, s .marks p h))
 
   codes-too : codeWrong i .given → codeWrong j .given
@@ -147,7 +147,7 @@ agree-sym i j s = record {
   words = λ p h. sym (s .words p (rw (s .sessions, s .propositions) h));
 }
 
-long-enough : (i : Input) → DataThere i → tooShort (i .sessions) (i .propositions) (i .marks) (i .lengths) (i .words) .given → ⊥
+long-enough : (i : Input) → DataThere i → tooShort (i .recording .sessions) (i .recording .propositions) (i .recording .marks) (i .recording .lengths) (i .recording .words) .given → ⊥
 long-enough i d = ⊎-elim (λ h. omega (arith, d .marks)) (⊎-elim (λ h. omega (arith, d .lengths)) (λ h. omega (arith, d .words)))
 
 pub decided-same : (i j : Input) → AgreeWhereRead i j → DataThere i → DataThere j → (t : Cols) (n : ℕ) → Decided (searchRows i t) n → Decided (searchRows j t) n

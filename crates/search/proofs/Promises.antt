@@ -6,9 +6,9 @@ use mathlib.Core.List.{List}
 use Prim.Native.Nat.{ℕ}
 use native.Mathlib.Omega.{arith}
 use lib.ListN.{length}
-use Rattle.sequence.specs.Refusals.{Decided}
-use Rattle.sequence.proofs.Refusals.{decided-unique}
-use Rattle.session.specs.Answers.{Said}
+use Rattle.rules.specs.Refusals.{Decided}
+use Rattle.rules.proofs.Refusals.{decided-unique}
+use Rattle.rules.specs.Answers.{Said}
 use Rattle.walk.specs.Walk.{Ending, found, full, none, State, ended, kept}
 use Rattle.walk.specs.Input.{Input, Passes, search}
 use Rattle.walk.specs.Promises.{Table}

@@ -7,10 +7,10 @@ use mathlib.Core.List.{List, [], _∷_, _++_, map, List·Memᴰ·not-nil, List·
 use Prim.Native.Nat.{ℕ, zero, suc, _+_, _-_, _/_}
 use lib.ListN.{getD, drop}
 use lib.Dec.{eqb, ltb}
-use Rattle.sequence.specs.Operators.{commutes}
-use Rattle.walk.specs.Formula.{_∈_}
-use Rattle.walk.specs.Walk.{Candidate, each, count}
-use Rattle.walk.specs.Input.{Input, binaryOf}
+use Rattle.sequence.specs.Operators.{commutes, binaryOf}
+use Rattle.walk.specs.Walk.{Candidate}
+use Rattle.rules.specs.Lists.{each, count, _∈_}
+use Rattle.walk.specs.Input.{Input}
 use Rattle.walk.specs.Promises.{Table}
 use Rattle.walk.proofs.Members.{from-each}
 use Rattle.search.specs.declared.scan.Cursor.{Cursor}

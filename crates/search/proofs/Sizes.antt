@@ -12,9 +12,9 @@ use lib.Seq.{getD-append-add, getD-set-same, getD-set-other}
 use denote.Enum.Declared.{tagOf}
 use types.Run.{OneOf}
 use Rattle.search.specs.Costs.{perSize, inAll}
-use Rattle.sequence.specs.Limits as limits
+use Rattle.rules.specs.Limits.{mostSize}
 use Rattle.search.proofs.layers.Stand.{the-type}
-use Rattle.walk.specs.Formula.{_∈_}
+use Rattle.rules.specs.Lists.{_∈_}
 use Rattle.walk.specs.Walk.{Candidate, Ending, State, going, ended, layer, consider, through, after}
 use Rattle.walk.specs.Input.{Input, Passes, offer}
 use Rattle.walk.specs.Promises.{Table}
@@ -190,10 +190,10 @@ pub record Sized (g : Given) (i : Input) (t₀ t′ : Cols) (st : State (List �
 pub record SizesLoop (g : Given) (marks lengths words unary binary : List ℕ) (from : Point) (t t′ : Cols) (starts : List ℕ) (s : ℕ) (at : Cursor) (k n : ℕ) : Type 0 where
   pub above : 1 ≤ s
   pub below : s ≤ g .bound + 1
-  pub within : n + perSize * (limits.size + 1 - s) ≤ from .tried + inAll
+  pub within : n + perSize * (mostSize + 1 - s) ≤ from .tried + inAll
   pub kept-in : k ≤ g .room
   pub long : SameLengths t t′
-  pub starts-long : length starts ≡ limits.size + 2
+  pub starts-long : length starts ≡ mostSize + 2
   pub starts-below : (p : ℕ) → p ≤ s → getD starts p 0 ≤ k
   pub runs : (t₀ : Cols) (k₀ k₁ : Table) → Passes (input g marks lengths words unary binary) → Room g t₀
       → Holds (input g marks lengths words unary binary) k₁ t₀ t (from .kept)
@@ -337,7 +337,7 @@ first-begun = record {
   since = λ p h l. absurd (omega arith);
 }
 
-pub first-long : length (firstPoint .starts) ≡ limits.size + 2
+pub first-long : length (firstPoint .starts) ≡ mostSize + 2
 first-long = length-replicate {A = ℕ} 33 0
 
 pub first-below : (p : ℕ) → p ≤ 1 → getD (firstPoint .starts) p 0 ≤ 0

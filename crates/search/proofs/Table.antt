@@ -13,7 +13,7 @@ use Rattle.walk.specs.Walk.{Candidate}
 use Rattle.walk.specs.Input.{Input, row}
 use Rattle.walk.specs.Promises.{Table}
 use Rattle.search.specs.Matrix.{nothing, matrixAt, Fine, Stored}
-use Rattle.session.specs.Answers.{over}
+use Rattle.rules.specs.Answers.{over}
 use Rattle.search.specs.Table.{Cols, cols}
 use Rattle.search.specs.Layers.{Holds}
 use Rattle.search.proofs.Matrices.{length-map}
@@ -52,31 +52,31 @@ flat-snoc (c ∷ k) x = ap (λ (l : List ℕ). c .matrix ++ l) (flat-snoc k x) �
 abbrev pub AllFine : Input → Table → Type 0
 AllFine i k = (p : ℕ) → p < length k → Fine i (matrixAt k p)
 
-pub length-flat : (i : Input) (k : Table) → AllFine i k → length (flat k) ≡ length k * i .sessions
+pub length-flat : (i : Input) (k : Table) → AllFine i k → length (flat k) ≡ length k * i .recording .sessions
 unfolding flatMap
-length-flat i [] f = sym (zero-mul (i .sessions))
+length-flat i [] f = sym (zero-mul (i .recording .sessions))
 length-flat i (c ∷ k) f =
     length-append (c .matrix) (flat k)
     ∙ ap₂ (λ (a b : ℕ). a + b) (f 0 (omega arith) .long) (length-flat i k (λ p l. f (suc p) (omega arith)))
-    ∙ (let e : i .sessions + length k * i .sessions ≡ suc (length k) * i .sessions = omega (arith, suc-mul (length k) (i .sessions)) in e)
+    ∙ (let e : i .recording .sessions + length k * i .recording .sessions ≡ suc (length k) * i .recording .sessions = omega (arith, suc-mul (length k) (i .recording .sessions)) in e)
 
-flat-at : (i : Input) (k : Table) → AllFine i k → (p j : ℕ) → p < length k → j < i .sessions → getD (flat k) (p * i .sessions + j) 0 ≡ row (matrixAt k p) j
+flat-at : (i : Input) (k : Table) → AllFine i k → (p j : ℕ) → p < length k → j < i .recording .sessions → getD (flat k) (p * i .recording .sessions + j) 0 ≡ row (matrixAt k p) j
 unfolding flatMap
 flat-at i [] f p j h l = absurd (omega arith)
 flat-at i (c ∷ k) f zero j h l =
-    ap (λ (n : ℕ). getD (c .matrix ++ flat k) n 0) (let e : 0 * i .sessions + j ≡ j = omega (arith, zero-mul (i .sessions)) in e)
+    ap (λ (n : ℕ). getD (c .matrix ++ flat k) n 0) (let e : 0 * i .recording .sessions + j ≡ j = omega (arith, zero-mul (i .recording .sessions)) in e)
     ∙ List·getD-append (c .matrix) (flat k) 0 j (omega (arith, f 0 (omega arith) .long))
 flat-at i (c ∷ k) f (suc p) j h l =
     ap (λ (n : ℕ). getD (c .matrix ++ flat k) n 0)
-    (let e : suc p * i .sessions + j ≡ length (c .matrix) + (p * i .sessions + j) = omega (arith, suc-mul p (i .sessions), f 0 (omega arith) .long) in e)
-    ∙ getD-append-add (c .matrix) (flat k) (p * i .sessions + j) 0 ∙ flat-at i k (λ p l. f (suc p) (omega arith)) p j (omega arith) l
+    (let e : suc p * i .recording .sessions + j ≡ length (c .matrix) + (p * i .recording .sessions + j) = omega (arith, suc-mul p (i .recording .sessions), f 0 (omega arith) .long) in e)
+    ∙ getD-append-add (c .matrix) (flat k) (p * i .recording .sessions + j) 0 ∙ flat-at i k (λ p l. f (suc p) (omega arith)) p j (omega arith) l
 
 pub holds-stored : {i : Input} {k : Table} {t₀ t : Cols} {kept : ℕ} → Holds i k t₀ t kept → Stored i k (t .matrices)
 holds-stored {i} {k} {t₀} h = record {
   words = λ p j l m.
-      ap (λ (c : Cols). getD (c .matrices) (p * i .sessions + j) 0) (h .are)
-      ∙ List·getD-append (flat k) (drop (length (flat k)) (t₀ .matrices)) 0 (p * i .sessions + j)
-      (omega (arith, length-flat i k (h .fine), place-end p (length k) (i .sessions) l))
+      ap (λ (c : Cols). getD (c .matrices) (p * i .recording .sessions + j) 0) (h .are)
+      ∙ List·getD-append (flat k) (drop (length (flat k)) (t₀ .matrices)) 0 (p * i .recording .sessions + j)
+      (omega (arith, length-flat i k (h .fine), place-end p (length k) (i .recording .sessions) l))
       ∙ flat-at i k (h .fine) p j l m;
   fine = h .fine;
 }
@@ -101,7 +101,7 @@ pushed t kept r xs x =
     cols (set (t .codes) kept (x .node .code)) (set (t .lefts) kept (x .node .left)) (set (t .rights) kept (x .node .right)) (set (t .sizes) kept (x .node .size))
     (paste (t .matrices) (kept * r) xs r)
 
-module _ {i : Input} {k : Table} {t₀ t : Cols} {kept : ℕ} (x : Candidate (List ℕ)) (xs : List ℕ) (h : Holds i k t₀ t kept) (e : x .matrix ≡ take (i .sessions) xs) (l : i .sessions ≤ length xs)
+module _ {i : Input} {k : Table} {t₀ t : Cols} {kept : ℕ} (x : Candidate (List ℕ)) (xs : List ℕ) (h : Holds i k t₀ t kept) (e : x .matrix ≡ take (i .recording .sessions) xs) (l : i .recording .sessions ≤ length xs)
     (w : Fine i (x .matrix)) (codes : kept < length (t₀ .codes)) (lefts : kept < length (t₀ .lefts)) (rights : kept < length (t₀ .rights))
     (sizes : kept < length (t₀ .sizes)) where
   push-col : (f : Candidate (List ℕ) → ℕ) (old : List ℕ) → kept < length old → set (over (map f k) old) kept (f x) ≡ over (map f (k ++ (x ∷ []))) old
@@ -110,18 +110,18 @@ module _ {i : Input} {k : Table} {t₀ t : Cols} {kept : ℕ} (x : Candidate (Li
       ap (λ (p : ℕ). set (over (map f k) old) p (f x)) (sym n) ∙ over-push (map f k) old (f x) (omega (arith, n))
       ∙ ap (λ (l : List ℕ). over l old) (sym (map-snoc f k x))
 
-  pub holds-push : Holds i (k ++ (x ∷ [])) t₀ (pushed t kept (i .sessions) xs x) (kept + 1)
+  pub holds-push : Holds i (k ++ (x ∷ [])) t₀ (pushed t kept (i .recording .sessions) xs x) (kept + 1)
   holds-push = record {
     counted = omega (arith, length-snoc k x, h .counted);
     fine = fine-snoc i k x (h .fine) w;
-    are = ap (λ (c : Cols). pushed c kept (i .sessions) xs x) (h .are)
+    are = ap (λ (c : Cols). pushed c kept (i .recording .sessions) xs x) (h .are)
         ∙ (let a = push-col (λ c. c .node .code) (t₀ .codes) codes in
         let b = push-col (λ c. c .node .left) (t₀ .lefts) lefts in
         let c = push-col (λ c. c .node .right) (t₀ .rights) rights in
         let d = push-col (λ c. c .node .size) (t₀ .sizes) sizes in
-        let m : paste (over (flat k) (t₀ .matrices)) (kept * i .sessions) xs (i .sessions) ≡ over (flat (k ++ (x ∷ []))) (t₀ .matrices) =
-        over-paste (flat k) (t₀ .matrices) xs (kept * i .sessions) (i .sessions)
-        (length-flat i k (h .fine) ∙ ap (λ (n : ℕ). n * i .sessions) (sym (h .counted))) l
+        let m : paste (over (flat k) (t₀ .matrices)) (kept * i .recording .sessions) xs (i .recording .sessions) ≡ over (flat (k ++ (x ∷ []))) (t₀ .matrices) =
+        over-paste (flat k) (t₀ .matrices) xs (kept * i .recording .sessions) (i .recording .sessions)
+        (length-flat i k (h .fine) ∙ ap (λ (n : ℕ). n * i .recording .sessions) (sym (h .counted))) l
         ∙ ap (λ (y : List ℕ). over (flat k ++ y) (t₀ .matrices)) (sym e) ∙ ap (λ (y : List ℕ). over y (t₀ .matrices)) (sym (flat-snoc k x)) in
         rw (a, b, c, d, m));
   }

@@ -11,7 +11,7 @@ use lib.Seq.{drop-cons}
 use lib.Dec.{eqb, ltb}
 use borrow.Author.Tests.{ltb-true}
 use Rattle.search.specs.Costs.{perUnary, perSeeds, unaries}
-use Rattle.walk.specs.Walk.{count}
+use Rattle.rules.specs.Lists.{count}
 use Rattle.walk.specs.Input.{Input}
 use Rattle.walk.specs.Promises.{Table}
 use Rattle.search.specs.declared.given.Given.{Given}

@@ -10,11 +10,12 @@ use native.Mathlib.Decide.{decLe}
 use lib.ListN.{length, getD}
 use Rattle.words.specs.Word.{width}
 use Rattle.words.proofs.At.{not-at}
-use Rattle.sequence.specs.Limits as limits
-use Rattle.sequence.specs.Operators.{Unary, Binary, unaryCode, binaryCode}
-use Rattle.sequence.specs.Refusals.{Decided}
+use Rattle.rules.specs.Limits.{mostSessions, mostPropositions}
+use Rattle.sequence.specs.Operators.{Unary, Binary, unaryCode, binaryCode, unaryOf, binaryOf}
+use Rattle.rules.specs.Refusals.{Decided}
 use Rattle.walk.specs.Walk.{none, State, kept, finish, after, walk}
-use Rattle.walk.specs.Input.{Input, Passes, lengthOf, markOf, wordOf, unaryOf, binaryOf, offer, search}
+use Rattle.walk.specs.Input.{Input, Passes, offer, search}
+use Rattle.session.specs.Recording.{lengthOf, markOf, wordOf}
 use Rattle.search.specs.declared.given.Given.{Given}
 use Rattle.search.specs.declared.layers.Stand.{Stand}
 use Rattle.search.specs.declared.layers.Stand.the-variants.{Going, Found, Full}
@@ -40,8 +41,8 @@ module _ (i : Input) (t : Cols) (d : Decided (searchRows i t) 0) where
   given : NoneOf (searchRows i t)
   given = none-given i t d
 
-  numbers : (1 ≤ i .sessions) × (i .sessions ≤ limits.sessions) × (1 ≤ i .propositions) × (i .propositions ≤ limits.propositions)
-  numbers = numbers-in (i .sessions) (i .propositions) (given .0)
+  numbers : (1 ≤ i .recording .sessions) × (i .recording .sessions ≤ mostSessions) × (1 ≤ i .recording .propositions) × (i .recording .propositions ≤ mostPropositions)
+  numbers = numbers-in (i .recording .sessions) (i .recording .propositions) (given .0)
 
   unary-op : (o : ℕ) → o < length (i .unary) → (op : Unary) × (unaryCode op ≡ getD (i .unary) o 0)
   unary-op o h = elim (decLe (suc (getD (i .unary) o 0)) 5) [
@@ -64,7 +65,7 @@ module _ (i : Input) (t : Cols) (d : Decided (searchRows i t) 0) where
   binary-good : GoodCodes false (i .binary)
   binary-good = record { in-group = binary-op; once = λ p q h l e. given .1 .1 .1 .1 .1 .1 .1 .0 (inr (inr (inr (p, q, h, l, e)))) }
 
-  short : (j : ℕ) → j < i .sessions → lengthOf i j ≤ width
+  short : (j : ℕ) → j < i .recording .sessions → lengthOf (i .recording) j ≤ width
   short j h = le-of-not-lt λ l. given .1 .1 .1 .1 .0 (j, h, l)
 
   -- where none is, the input passes the walk's checks
@@ -80,10 +81,10 @@ module _ (i : Input) (t : Cols) (d : Decided (searchRows i t) 0) where
     words-there = le-of-not-lt λ h. given .1 .1 .0 (inr (inr h));
     well-formed = λ j p h l. record {
       short = short j h;
-      clear = λ b m. not-at (wordOf i j p) b (λ w. given .1 .1 .1 .1 .1 .0 (j, h, p, l, b, m, w));
+      clear = λ b m. not-at (wordOf (i .recording) j p) b (λ w. given .1 .1 .1 .1 .1 .0 (j, h, p, l, b, m, w));
     };
     short = short;
-    marks-in = λ j h. bit-or (markOf i j) (le-of-not-lt λ l. given .1 .1 .1 .1 .1 .1 .0 (j, h, l));
+    marks-in = λ j h. bit-or (markOf (i .recording) j) (le-of-not-lt λ l. given .1 .1 .1 .1 .1 .1 .0 (j, h, l));
     unary-in = λ c m. let (o, h, e) = at-position (i .unary) c 0 m in let (op, q) = unary-op o h in (op, q ∙ e);
     unary-once = good-once (i .unary) (unary-good .once);
     binary-in = λ c m. let (o, h, e) = at-position (i .binary) c 0 m in let (op, q) = binary-op o h in (op, q ∙ e);

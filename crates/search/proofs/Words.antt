@@ -11,12 +11,11 @@ use Rattle.words.specs.Word.{width, bit, At}
 use Rattle.words.proofs.Bits.{bit-zero}
 use Rattle.words.proofs.At.{means-unique, means, at-below}
 use Rattle.words.proofs.Lengths.{Mask}
-use Rattle.sequence.specs.Operators.{Unary, Binary, unaryCode, binaryCode}
+use Rattle.sequence.specs.Operators.{Unary, Binary, unaryCode, binaryCode, unaryOf, binaryOf}
 use Rattle.sequence.specs.Masked.{UnaryWord, BinaryWord}
 use Rattle.sequence.proofs.Masked.{unary-cut, binary-cut}
 use Rattle.walk.specs.Rows.{isOn, unaryRow, binaryRow, constantRow, acceptsRow}
-use Rattle.walk.specs.Input.{unaryOf, binaryOf}
-use Rattle.walk.proofs.Nodes.{unary-of, binary-of}
+use Rattle.sequence.proofs.Decoding.{unary-of, binary-of}
 use Rattle.walk.proofs.Rows.{unary-row-only, binary-row-only, constant-row-means, and-on}
 use Rattle.search.specs.Matrix.{UnaryAt, BinaryAt, LeafAt}
 

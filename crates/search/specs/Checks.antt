@@ -6,9 +6,8 @@ use mathlib.Core.Bool.{Bool, true, false}
 use mathlib.Core.List.{List}
 use Prim.Native.Nat.{ℕ, _*_, _≤_, _<_}
 use lib.ListN.{length, getD}
-use Rattle.sequence.specs.Limits as limits
+use Rattle.rules.specs.Limits.{mostSize, mostRoom, Outside}
 use Rattle.sequence.specs.Operators.{Unary, Binary, unaryCode, binaryCode}
-use Rattle.session.specs.Numbers.{Outside}
 use Rattle.search.specs.Table.{Cols}
 use Rattle.search.specs.Refusals.{Repeated}
 
@@ -37,8 +36,8 @@ CodesTold unary codes true = GoodCodes unary codes
 CodesTold unary codes false = BadCodes unary codes
 
 abbrev pub SettingsTold : ℕ → ℕ → ℕ → Bool → Type 0
-SettingsTold bound room constants true = (1 ≤ bound) × (bound ≤ limits.size) × (1 ≤ room) × (room ≤ limits.room) × (constants ≤ 1)
-SettingsTold bound room constants false = Outside 1 limits.size bound ⊎ Outside 1 limits.room room ⊎ (1 < constants)
+SettingsTold bound room constants true = (1 ≤ bound) × (bound ≤ mostSize) × (1 ≤ room) × (room ≤ mostRoom) × (constants ≤ 1)
+SettingsTold bound room constants false = Outside 1 mostSize bound ⊎ Outside 1 mostRoom room ⊎ (1 < constants)
 
 abbrev pub RoomTold : ℕ → ℕ → Cols → Bool → Type 0
 RoomTold r room t true =

@@ -2,7 +2,7 @@
 -- small enough that the count of tried candidates never wraps.
 -- Assumes nothing.
 use Prim.Native.Nat.{ℕ, _+_, _*_}
-use Rattle.sequence.specs.Limits as limits
+use Rattle.rules.specs.Limits.{mostSize, mostRoom}
 
 -- the operators of each group: none is offered twice
 abbrev pub unaries : ℕ
@@ -17,17 +17,17 @@ perPair = 2 * binaries
 
 -- a left place with every right one; every left place; at most 16 splits, with 31 sizes
 abbrev pub perColumn : ℕ
-perColumn = perPair * limits.room
+perColumn = perPair * mostRoom
 
 abbrev pub perSplit : ℕ
-perSplit = perColumn * limits.room
+perSplit = perColumn * mostRoom
 
 abbrev pub perPairs : ℕ
 perPairs = 16 * perSplit
 
 -- every place with each unary operator
 abbrev pub perUnary : ℕ
-perUnary = unaries * limits.room
+perUnary = unaries * mostRoom
 
 -- the propositions' numbers are those of their kind, and there are two constants
 abbrev pub mostLeaves : ℕ
@@ -45,8 +45,8 @@ perTurn = perScan + 1
 
 -- a size: a scan for each formula that is kept, and one more
 abbrev pub perSize : ℕ
-perSize = perTurn * (limits.room + 1)
+perSize = perTurn * (mostRoom + 1)
 
 -- all sizes
 abbrev pub inAll : ℕ
-inAll = perSize * (limits.size + 1)
+inAll = perSize * (mostSize + 1)

@@ -7,7 +7,7 @@ use Prim.Native.Nat.{ℕ, zero, suc, _+_, _-_, _*_, _^_, _≤_, _<_}
 use lib.ListN.{length, getD, set, replicate}
 use lib.Seq.{paste}
 use Rattle.search.specs.Costs.{perSize, inAll, mostLeaves}
-use Rattle.sequence.specs.Limits as limits
+use Rattle.rules.specs.Limits.{mostSessions, mostSize, mostRoom}
 use Rattle.formula.specs.Kinds.{nodeOf}
 use Rattle.walk.specs.Walk.{Candidate, found, full, State, going, ended, consider, through}
 use Rattle.walk.specs.Input.{Input, Passes, offer}
@@ -39,10 +39,10 @@ pub record Room (g : Given) (t : Cols) : Type 0 where
 
 -- what every size asks
 pub record Sound (g : Given) (marks lengths words unary binary : List ℕ) : Type 0 where
-  pub sessions-in : g .sessions ≤ limits.sessions
+  pub sessions-in : g .sessions ≤ mostSessions
   pub propositions-in : g .propositions ≤ mostLeaves
   pub some : 1 ≤ g .propositions
-  pub room-in : g .room ≤ limits.room
+  pub room-in : g .room ≤ mostRoom
   pub marks-there : g .sessions ≤ length marks
   pub lengths-there : g .sessions ≤ length lengths
   pub words-there : g .propositions * g .sessions ≤ length words
@@ -103,7 +103,7 @@ pub record LayerAsks (g : Given) (marks lengths words unary binary starts : List
   pub room : Room g t
   pub kept-in : kept ≤ g .room
   pub starts-in : Starts starts s kept
-  pub size-in : (1 ≤ s) × (s ≤ limits.size)
+  pub size-in : (1 ≤ s) × (s ≤ mostSize)
   pub counts : tried + perSize < 2 ^ 64
 
 -- what is left of the size from the cursor on, over what is kept
@@ -154,9 +154,9 @@ walkRest g i k₀ k starts s at n = sizesLeft i (g .bound + 1 - s) s (layerRest 
 pub record LayersAsks (g : Given) (marks lengths words unary binary : List ℕ) (from : Point) (t : Cols) : Type 0 where
   pub sound : Sound g marks lengths words unary binary
   pub room : Room g t
-  pub bound-in : g .bound ≤ limits.size
+  pub bound-in : g .bound ≤ mostSize
   pub size-in : (1 ≤ from .size) × (from .size ≤ g .bound + 1)
-  pub starts-long : length (from .starts) ≡ limits.size + 2
+  pub starts-long : length (from .starts) ≡ mostSize + 2
   pub starts-below : (p : ℕ) → p ≤ from .size → getD (from .starts) p 0 ≤ from .kept
   pub kept-in : from .kept ≤ g .room
   pub counts : from .tried + inAll < 2 ^ 64

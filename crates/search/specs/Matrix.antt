@@ -8,13 +8,14 @@ use lib.ListN.{length, getD, take}
 use lib.Seq.{paste}
 use lib.Dec.{eqb, ltb}
 use Rattle.search.specs.Costs.{mostLeaves}
-use Rattle.sequence.specs.Limits as limits
+use Rattle.rules.specs.Limits.{mostSessions}
 use Rattle.words.specs.Word.{width, Wf}
-use Rattle.sequence.specs.Operators.{Unary, Binary, unaryCode, binaryCode}
-use Rattle.walk.specs.Formula.{Leaf, proposition, constant}
+use Rattle.sequence.specs.Operators.{Unary, Binary, unaryCode, binaryCode, unaryOf, binaryOf}
+use Rattle.formula.specs.Formula.{Leaf, proposition, constant}
 use Rattle.walk.specs.Walk.{Candidate}
 use Rattle.walk.specs.Rows.{unaryRow, binaryRow, constantRow, acceptsRow}
-use Rattle.walk.specs.Input.{Input, Passes, lengthOf, unaryOf, binaryOf, row, offer}
+use Rattle.walk.specs.Input.{Input, Passes, row, offer, inputOf}
+use Rattle.session.specs.Recording.{lengthOf}
 use Rattle.walk.specs.Promises.{Table}
 use Rattle.search.specs.declared.given.Given.{Given}
 
@@ -57,27 +58,17 @@ matrixAt k p = getD k p nothing .matrix
 
 -- the arguments as the walk's input
 abbrev pub input : Given → List ℕ → List ℕ → List ℕ → List ℕ → List ℕ → Input
-input g marks lengths words unary binary = record {
-  sessions = g .sessions;
-  propositions = g .propositions;
-  bound = g .bound;
-  room = g .room;
-  constants = g .constants;
-  marks = marks;
-  lengths = lengths;
-  words = words;
-  unary = unary;
-  binary = binary;
-}
+input g marks lengths words unary binary =
+    inputOf (g .sessions) (g .propositions) (g .bound) (g .room) (g .constants) marks lengths words unary binary
 
 -- a matrix with a well-formed word for each session
 pub record Fine (i : Input) (x : List ℕ) : Type 0 where
-  pub long : length x ≡ i .sessions
-  pub formed : (j : ℕ) → j < i .sessions → Wf (lengthOf i j) (row x j)
+  pub long : length x ≡ i .recording .sessions
+  pub formed : (j : ℕ) → j < i .recording .sessions → Wf (lengthOf (i .recording) j) (row x j)
 
 -- "The matrices lie in a lent slice of words, r per place"
 pub record Stored (i : Input) (k : Table) (matrices : List ℕ) : Type 0 where
-  pub words : (p j : ℕ) → p < length k → j < i .sessions → getD matrices (p * i .sessions + j) 0 ≡ row (matrixAt k p) j
+  pub words : (p j : ℕ) → p < length k → j < i .recording .sessions → getD matrices (p * i .recording .sessions + j) 0 ≡ row (matrixAt k p) j
   pub fine : (p : ℕ) → p < length k → Fine i (matrixAt k p)
 
 -- ---- a candidate by its code and fields
@@ -101,7 +92,7 @@ pub data Makes (m kept code left right : ℕ) : Type 0 where
 
 -- what is asked, so that no index is out of range
 pub record Readable (g : Given) (lengths words matrices : List ℕ) (kept : ℕ) : Type 0 where
-  pub sessions-in : g .sessions ≤ limits.sessions
+  pub sessions-in : g .sessions ≤ mostSessions
   pub propositions-in : g .propositions ≤ mostLeaves
   pub lengths-there : g .sessions ≤ length lengths
   pub words-there : g .propositions * g .sessions ≤ length words

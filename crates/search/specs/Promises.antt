@@ -8,7 +8,7 @@ use Prim.Native.Nat.{ℕ, _+_, _*_, _≤_}
 use lib.ListN.{length}
 use Rattle.formula.specs.declared.kinds.Node.{Node}
 use Rattle.formula.specs.Kinds.{nodeOf}
-use Rattle.sequence.specs.Refusals.{Decided}
+use Rattle.rules.specs.Refusals.{Decided}
 use Rattle.walk.specs.Input.{Input, Passes}
 use Rattle.walk.specs.Promises.{Table, NoneBelow, Kept, AgreeWhereRead, Wider}
 use Rattle.walk.specs.Promises as walk
@@ -30,7 +30,7 @@ pub record RoomThere (i : Input) (t : Cols) : Type 0 where
   pub lefts : i .room ≤ length (t .lefts)
   pub rights : i .room ≤ length (t .rights)
   pub sizes : i .room ≤ length (t .sizes)
-  pub matrices : i .room * i .sessions ≤ length (t .matrices)
+  pub matrices : i .room * i .recording .sessions ≤ length (t .matrices)
 
 -- no row is given exactly where the input passes the walk's checks and the lent slices have room
 abbrev pub PassesWhole : Type 0
@@ -38,9 +38,9 @@ PassesWhole = (i : Input) (t : Cols) → Decided (searchRows i t) 0 ↔ (Passes 
 
 -- marks, lengths and words are as long as they are read
 pub record DataThere (i : Input) : Type 0 where
-  pub marks : i .sessions ≤ length (i .marks)
-  pub lengths : i .sessions ≤ length (i .lengths)
-  pub words : i .propositions * i .sessions ≤ length (i .words)
+  pub marks : i .recording .sessions ≤ length (i .recording .marks)
+  pub lengths : i .recording .sessions ≤ length (i .recording .lengths)
+  pub words : i .recording .propositions * i .recording .sessions ≤ length (i .recording .words)
 
 -- what lies beyond is not looked at: inputs that agree where they are read have one result, a refusal too
 abbrev pub SameWhereRead : Type 0

@@ -5,10 +5,9 @@ use mathlib.Core.Logic.{_⊎_}
 use mathlib.Core.List.{List, [], _∷_}
 use Prim.Native.Nat.{ℕ, _*_, _<_}
 use lib.ListN.{length, getD}
-use Rattle.sequence.specs.Limits as limits
-use Rattle.sequence.specs.Refusals.{Row}
+use Rattle.rules.specs.Limits.{mostSize, mostRoom, Outside}
+use Rattle.rules.specs.Refusals.{Row}
 use Rattle.sequence.specs.Sequence.{notUnary, notBinary}
-use Rattle.session.specs.Numbers.{Outside}
 use Rattle.session.specs.Data.{outsideNumbers, tooShort, tooLong, bitAbove, markWrong}
 use Rattle.walk.specs.Input.{Input}
 use Rattle.search.specs.Table.{Cols}
@@ -20,7 +19,7 @@ Repeated codes = (p : ℕ) × (q : ℕ) × (p < q) × (q < length codes) × (get
 module _ (i : Input) where
   -- "2: B, C or the constants mark (0 or 1) wrong"
   abbrev pub settingWrong : Row
-  settingWrong = record { number = 2; given = Outside 1 limits.size (i .bound) ⊎ Outside 1 limits.room (i .room) ⊎ (1 < i .constants) }
+  settingWrong = record { number = 2; given = Outside 1 mostSize (i .bound) ⊎ Outside 1 mostRoom (i .room) ⊎ (1 < i .constants) }
 
   -- "3: a lent slice shorter than .. C x r, C"
   abbrev pub noRoom : Cols → Row
@@ -30,7 +29,7 @@ module _ (i : Input) where
         ⊎ (length (t .lefts) < i .room)
         ⊎ (length (t .rights) < i .room)
         ⊎ (length (t .sizes) < i .room)
-        ⊎ (length (t .matrices) < i .room * i .sessions);
+        ⊎ (length (t .matrices) < i .room * i .recording .sessions);
   }
 
   -- "7: code not in its group (unary 0-4, binary 5-10), or repeated"
@@ -46,12 +45,12 @@ module _ (i : Input) where
   -- "Order of checks: 1, 2, 3, 4, 5, 6, 7": those of the data are the session's
   abbrev pub searchRows : Cols → List Row
   searchRows t =
-      outsideNumbers (i .sessions) (i .propositions)
+      outsideNumbers (i .recording .sessions) (i .recording .propositions)
       ∷ settingWrong
-      ∷ tooShort (i .sessions) (i .propositions) (i .marks) (i .lengths) (i .words)
+      ∷ tooShort (i .recording .sessions) (i .recording .propositions) (i .recording .marks) (i .recording .lengths) (i .recording .words)
       ∷ noRoom t
-      ∷ tooLong (i .sessions) (i .propositions) (i .marks) (i .lengths) (i .words)
-      ∷ bitAbove (i .sessions) (i .propositions) (i .marks) (i .lengths) (i .words)
-      ∷ markWrong (i .sessions) (i .propositions) (i .marks) (i .lengths) (i .words)
+      ∷ tooLong (i .recording .sessions) (i .recording .propositions) (i .recording .marks) (i .recording .lengths) (i .recording .words)
+      ∷ bitAbove (i .recording .sessions) (i .recording .propositions) (i .recording .marks) (i .recording .lengths) (i .recording .words)
+      ∷ markWrong (i .recording .sessions) (i .recording .propositions) (i .recording .marks) (i .recording .lengths) (i .recording .words)
       ∷ codeWrong
       ∷ []

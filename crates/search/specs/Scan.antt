@@ -7,11 +7,12 @@ use Prim.Native.Nat.{ℕ, _+_, _-_, _/_, _^_, _≤_, _<_}
 use lib.ListN.{length, getD, drop}
 use lib.Dec.{eqb, ltb}
 use Rattle.search.specs.Costs.{perScan, perPairs, perSplit, perColumn, perUnary, perSeeds, perPair, unaries, binaries}
-use Rattle.sequence.specs.Limits as limits
-use Rattle.sequence.specs.Operators.{commutes}
-use Rattle.walk.specs.Nodes.{Node}
-use Rattle.walk.specs.Walk.{Candidate, found, going, ended, each, count, consider, known}
-use Rattle.walk.specs.Input.{Input, Passes, binaryOf, separating, offer}
+use Rattle.rules.specs.Limits.{mostSize, mostRoom}
+use Rattle.sequence.specs.Operators.{commutes, binaryOf}
+use Rattle.formula.specs.Nodes.{Node}
+use Rattle.walk.specs.Walk.{Candidate, found, going, ended, consider, known}
+use Rattle.rules.specs.Lists.{each, count}
+use Rattle.walk.specs.Input.{Input, Passes, separating, offer}
 use Rattle.walk.specs.Promises.{Table}
 use Rattle.search.specs.declared.given.Given.{Given}
 use Rattle.search.specs.declared.scan.Cursor.{Cursor}
@@ -61,7 +62,7 @@ module _ (i : Input) (k : Table) (s : ℕ) where
   unaryRow p codes = map (λ c. candidate i k s c p 0) codes
 
   abbrev pub leafAt : ℕ → Candidate (List ℕ)
-  leafAt p = candidate i k s (leafCode (i .propositions) p) (leafLeft (i .propositions) p) 0
+  leafAt p = candidate i k s (leafCode (i .recording .propositions) p) (leafLeft (i .recording .propositions) p) 0
 
   -- what is left from a cursor on
   abbrev pub rowRest : ℕ → ℕ → Cursor → List (Candidate (List ℕ))
@@ -129,7 +130,7 @@ pub record Stands (i : Input) (k₀ k : Table) (matrices : List ℕ) (kept : ℕ
 pub record Asks (g : Given) (marks lengths words matrices : List ℕ) (kept tried cost : ℕ) : Type 0 where
   pub readable : Readable g lengths words matrices kept
   pub marks-there : g .sessions ≤ length marks
-  pub few : kept ≤ limits.room
+  pub few : kept ≤ mostRoom
   pub counts : tried + cost < 2 ^ 64
 
 -- ---- one candidate
@@ -250,7 +251,7 @@ pub record SplitsAsks (g : Given) (marks lengths words binary matrices : List �
   pub asks : Asks g marks lengths words matrices kept tried perPairs
   pub codes : BinaryCodes binary
   pub starts-in : Starts starts s kept
-  pub size-in : s ≤ limits.size
+  pub size-in : s ≤ mostSize
   pub split-in : 1 ≤ at .split
 
 pub record SplitsDoes (g : Given) (marks lengths words binary matrices : List ℕ) (kept : ℕ) (starts : List ℕ) (s : ℕ) (at : Cursor) (tried : ℕ) (event : Event) : Type 0 where
@@ -322,7 +323,7 @@ pub record ScanAsks (g : Given) (marks lengths words unary binary matrices : Lis
   pub unary-codes : UnaryCodes unary
   pub binary-codes : BinaryCodes binary
   pub starts-in : Starts starts s kept
-  pub size-in : (1 ≤ s) × (s ≤ limits.size)
+  pub size-in : (1 ≤ s) × (s ≤ mostSize)
 
 pub record ScanDoes (g : Given) (marks lengths words unary binary matrices : List ℕ) (kept : ℕ) (starts : List ℕ) (s : ℕ) (at : Cursor) (tried : ℕ) (event : Event) : Type 0 where
   pub safe : Safe (g .propositions) kept (tried + perScan) (λ next. Unit {0}) event

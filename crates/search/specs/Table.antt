@@ -2,7 +2,7 @@
 -- Assumes nothing.
 use mathlib.Core.List.{List, map, flatMap}
 use Prim.Native.Nat.{ℕ}
-use Rattle.session.specs.Answers.{over}
+use Rattle.rules.specs.Answers.{over}
 use Rattle.walk.specs.Promises.{Table}
 
 -- "The kept formulas are a lent list of nodes: operator code, left place, right place, size": four lists of numbers. "The matrices lie in a lent

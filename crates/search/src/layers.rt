@@ -5,7 +5,7 @@ use crate::scan::Cursor;
 use crate::scan::Event;
 use crate::scan::scan;
 use formula::kinds::Node;
-use formula::kinds::Place;
+use rules::kinds::Place;
 ghost use mathlib.Core.Path.{_≡_};
 ghost use Rattle.search.specs.Table.{cols};
 ghost use Rattle.search.specs.Layers.{KeepAsks, KeepDoes, LayerAsks, LayerDoes, firstPoint, LayersAsks, LayersDoes};
@@ -15,7 +15,7 @@ ghost use Rattle.search.specs.Layers.{KeepAsks, KeepDoes, LayerAsks, Lay
 pub struct Point {
     pub size: usize,
     pub at: Cursor,
-    pub starts: [usize; session::BOUND + 2],
+    pub starts: [usize; rules::BOUND + 2],
     pub kept: usize,
     pub tried: u64,
 }
@@ -170,7 +170,7 @@ pub(crate) fn first_point() -> Point
             operator: 0,
             second: false,
         },
-        starts: [0usize; session::BOUND + 2],
+        starts: [0usize; rules::BOUND + 2],
         kept: 0,
         tried: 0,
     }

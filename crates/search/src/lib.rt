@@ -11,7 +11,8 @@ use formula::kinds::Node;
 ghost use mathlib.Core.Path.{_≡_};
 ghost use Rattle.search.specs.Table.{cols};
 ghost use Rattle.search.specs.Layers.{answerOf};
-ghost use Rattle.search.specs.Search.{inputOf, Searched};
+ghost use Rattle.search.specs.Search.{Searched};
+ghost use Rattle.walk.specs.Input.{inputOf};
 
 // FOUND with the root node over the kept list, NONE, FULL at a size, each with the number tried and the number kept; or a refusal.
 pub enum SearchAnswer {

@@ -4,7 +4,7 @@
 use crate::given::Given;
 use formula::kinds::FALSE;
 use formula::kinds::PROPOSITION;
-use formula::kinds::Place;
+use rules::kinds::Place;
 use sequence::CharSeq;
 use sequence::operators;
 ghost use mathlib.Core.Path.{_≡_};
@@ -13,15 +13,15 @@ ghost use Prim.Native.Nat.{ℕ, _+_, _*_, _≤_, _<_};
 ghost use lib.ListN.{length, take, drop};
 ghost use lib.Dec.{eqb};
 ghost use Rattle.search.specs.Costs.{mostLeaves};
-ghost use Rattle.sequence.specs.Limits.{sessions};
+ghost use Rattle.rules.specs.Limits.{mostSessions};
 ghost use Rattle.walk.specs.Rows.{acceptsRow};
 ghost use Rattle.search.specs.Matrix.{UnaryAt, BinaryAt, LeafAt, UnaryRows, BinaryRows, LeafRows, RowsAsk, RowsOf, PutAsks, PutDoes, agreesAt, SameAt, Known};
-ghost use Rattle.walk.specs.Walk.{count};
+ghost use Rattle.rules.specs.Lists.{count};
 ghost use Rattle.walk.specs.Input.{every};
 ghost use lib.Seq.{paste};
 
 // One word per session; those after the last session are not looked at.
-pub type Matrix = [u64; session::SESSIONS];
+pub type Matrix = [u64; rules::SESSIONS];
 
 // Document 01, operator codes: the first binary one; the unary ones come before it.
 const BINARY: u8 = 5;
@@ -51,7 +51,7 @@ fn leaf_at(code: u8, x: u64, length: u8) -> u64
 }
 
 fn unary_rows(r: usize, lengths: &[u8], matrices: &[u64], code: u8, from: usize, rows: &mut Matrix)
-    requires { ⌜ (r ≤ sessions) × (r ≤ length (now lengths)) × (from + r ≤ length (now matrices)) × (r ≤ length (now rows)) ⌝ }
+    requires { ⌜ (r ≤ mostSessions) × (r ≤ length (now lengths)) × (from + r ≤ length (now matrices)) × (r ≤ length (now rows)) ⌝ }
     ensures { λ u. ⌜ UnaryRows r (now (lengths .entry)) (now (matrices .entry)) code from (now (rows .exit)) ⌝ }
 {
     let mut j: usize = 0;
@@ -70,7 +70,7 @@ fn binary_rows(
     right: usize,
     rows: &mut Matrix,
 )
-    requires { ⌜ (r ≤ sessions) × (r ≤ length (now lengths)) × (left + r ≤ length (now matrices)) × (right + r ≤ length (now matrices)) × (r ≤ length (now rows)) ⌝ }
+    requires { ⌜ (r ≤ mostSessions) × (r ≤ length (now lengths)) × (left + r ≤ length (now matrices)) × (right + r ≤ length (now matrices)) × (r ≤ length (now rows)) ⌝ }
     ensures { λ u. ⌜ BinaryRows r (now (lengths .entry)) (now (matrices .entry)) code left right (now (rows .exit)) ⌝ }
 {
     let mut j: usize = 0;
@@ -89,7 +89,7 @@ fn leaf_rows(
     number: usize,
     rows: &mut Matrix,
 )
-    requires { ⌜ (r ≤ sessions) × (m ≤ mostLeaves) × (r ≤ length (now lengths)) × (number < m) × (m * r ≤ length (now words)) × (r ≤ length (now rows)) ⌝ }
+    requires { ⌜ (r ≤ mostSessions) × (m ≤ mostLeaves) × (r ≤ length (now lengths)) × (number < m) × (m * r ≤ length (now words)) × (r ≤ length (now rows)) ⌝ }
     ensures { λ u. ⌜ LeafRows r m (now (lengths .entry)) (now (words .entry)) code number (now (rows .exit)) ⌝ }
 {
     let mut j: usize = 0;
@@ -139,7 +139,7 @@ fn agrees_at(x: u64, length: u8, mark: u8) -> bool
 
 // Whether exactly the sessions marked 1 accept (is_equivalent in cm.rs).
 pub(crate) fn agrees(r: usize, marks: &[u8], lengths: &[u8], rows: &Matrix) -> bool
-    requires { ⌜ (r ≤ sessions) × (r ≤ length (now marks)) × (r ≤ length (now lengths)) ⌝ }
+    requires { ⌜ (r ≤ mostSessions) × (r ≤ length (now marks)) × (r ≤ length (now lengths)) ⌝ }
     ensures { λ b. ⌜ b ≡ every (count 0 r) (agreesAt (now (marks .entry)) (now (lengths .entry)) (now (rows .entry))) ⌝ }
 {
     let mut j: usize = 0;
@@ -155,7 +155,7 @@ pub(crate) fn agrees(r: usize, marks: &[u8], lengths: &[u8], rows: &Matrix) -> b
 
 // Whether the matrix that starts at `from` is the same in every row (what the hash of cm.rs stands for).
 fn same_at(r: usize, matrices: &[u64], rows: &Matrix, from: usize) -> bool
-    requires { ⌜ (r ≤ sessions) × (from + r ≤ length (now matrices)) ⌝ }
+    requires { ⌜ (r ≤ mostSessions) × (from + r ≤ length (now matrices)) ⌝ }
     ensures { λ b. ⌜ SameAt r (now (rows .entry)) (now (matrices .entry)) from b ⌝ }
 {
     let mut j: usize = 0;
@@ -170,7 +170,7 @@ fn same_at(r: usize, matrices: &[u64], rows: &Matrix, from: usize) -> bool
 
 // Whether one of the kept matrices is the same.
 pub(crate) fn known(r: usize, matrices: &[u64], kept: usize, rows: &Matrix) -> bool
-    requires { ⌜ (r ≤ sessions) × (kept * r ≤ length (now matrices)) ⌝ }
+    requires { ⌜ (r ≤ mostSessions) × (kept * r ≤ length (now matrices)) ⌝ }
     ensures { λ b. ⌜ Known r (now (rows .entry)) (now (matrices .entry)) kept b ⌝ }
 {
     let mut p: usize = 0;
@@ -187,7 +187,7 @@ pub(crate) fn known(r: usize, matrices: &[u64], kept: usize, rows: &Matrix) -> b
 
 // Writes the rows from `from` on.
 fn store(r: usize, matrices: &mut [u64], rows: &Matrix, from: usize)
-    requires { ⌜ (r ≤ length (now rows)) × (r ≤ sessions) × (from + r ≤ length (now matrices)) ⌝ }
+    requires { ⌜ (r ≤ length (now rows)) × (r ≤ mostSessions) × (from + r ≤ length (now matrices)) ⌝ }
     ensures { λ u. ⌜ now (matrices .exit) ≡ paste (now (matrices .entry)) from (now (rows .entry)) r ⌝ }
 {
     let mut j: usize = 0;
@@ -212,7 +212,7 @@ pub(crate) fn put_rows(
     ensures { λ u. ⌜ PutDoes given (now (lengths .entry)) (now (words .entry)) (now (matrices .entry)) place code (left .0) (right .0) (now (matrices .exit)) ⌝ }
 {
     let r = given.sessions;
-    let mut rows = [0u64; session::SESSIONS];
+    let mut rows = [0u64; rules::SESSIONS];
     rows_of(
         given,
         lengths,

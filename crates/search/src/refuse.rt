@@ -3,11 +3,11 @@ use sequence::operators::Group;
 use sequence::operators::operator_of;
 ghost use Prim.Native.Nat.{_≤_};
 ghost use lib.ListN.{length};
-ghost use Rattle.sequence.specs.Limits.{sessions, room as mostRoom};
-ghost use Rattle.sequence.specs.Refusals.{Decided};
+ghost use Rattle.rules.specs.Limits.{mostSessions, mostRoom};
+ghost use Rattle.rules.specs.Refusals.{Decided};
 ghost use Rattle.search.specs.Table.{cols};
 ghost use Rattle.search.specs.Refusals.{searchRows};
-ghost use Rattle.search.specs.Search.{inputOf};
+ghost use Rattle.walk.specs.Input.{inputOf};
 ghost use Rattle.search.specs.Checks.{Told, GroupIs, SeenIn, CodesTold, SettingsTold, RoomTold};
 
 fn in_group(code: u8, unary: bool) -> bool
@@ -61,13 +61,13 @@ fn settings_good(bound: usize, room: usize, constants: u8) -> bool
     if bound < 1 {
         return false;
     }
-    if session::BOUND < bound {
+    if rules::BOUND < bound {
         return false;
     }
     if room < 1 {
         return false;
     }
-    if session::ROOM < room {
+    if rules::ROOM < room {
         return false;
     }
     if 1 < constants {
@@ -86,7 +86,7 @@ fn has_room(
     sizes: &[u8],
     matrices: &[u64],
 ) -> bool
-    requires { ⌜ (r ≤ sessions) × (room ≤ mostRoom) ⌝ }
+    requires { ⌜ (r ≤ mostSessions) × (room ≤ mostRoom) ⌝ }
     ensures { λ b. ⌜ RoomTold r room
         (cols (now (codes .entry)) (now (lefts .entry)) (now (rights .entry)) (now (sizes .entry)) (now (matrices .entry))) b ⌝ }
 {

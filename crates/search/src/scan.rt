@@ -6,9 +6,9 @@ use crate::matrix::known;
 use crate::matrix::rows_of;
 use formula::kinds::FALSE;
 use formula::kinds::PROPOSITION;
-use formula::kinds::Place;
-use formula::kinds::Proposition;
 use formula::kinds::TRUE;
+use rules::kinds::Place;
+use rules::kinds::Proposition;
 use sequence::operators::operator_of;
 ghost use mathlib.Core.Path.{_≡_};
 ghost use Prim.Native.Nat.{_≤_};
@@ -62,7 +62,7 @@ fn one(
     ensures { λ event. ⌜ OneDoes given (now (marks .entry)) (now (lengths .entry)) (now (words .entry)) (now (matrices .entry)) kept code (left .0) (right .0) next tried event ⌝ }
 {
     let r = given.sessions;
-    let mut rows = [0u64; session::SESSIONS];
+    let mut rows = [0u64; rules::SESSIONS];
     rows_of(
         given,
         lengths,

@@ -11,9 +11,9 @@ use Rattle.words.specs.Word.{width}
 use Rattle.words.proofs.At.{not-at}
 use Rattle.sequence.specs.declared.CharSeq.{CharSeq}
 use Rattle.sequence.specs.Operators.{Unary, Binary, unaryCode, binaryCode}
-use Rattle.sequence.specs.Refusals.{Row, Decided, firstOf}
+use Rattle.rules.specs.Refusals.{Row, Decided, firstOf}
 use Rattle.sequence.specs.Sequence.{WellFormed, notUnary, notBinary, unequal, illFormed, unaryRows, binaryRows}
-use Rattle.sequence.proofs.Refusals.{Numbered, decided-both, decided-none, decided-not}
+use Rattle.rules.proofs.Refusals.{Numbered, decided-both, decided-none, decided-not}
 
 -- ---- the rows, part by part
 

@@ -1,4 +1,5 @@
-pub mod Refusals
+pub mod Agreeing
+pub mod Decoding
 pub mod Masked
 pub mod Leading
 pub mod Groups

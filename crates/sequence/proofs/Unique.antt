@@ -4,6 +4,7 @@
 use mathlib.Core.Path.{_≡_, refl, sym, ap, ap₂, _∙_, subst}
 use mathlib.Core.Logic.{_↔_}
 use mathlib.Core.Bool.{Bool, true, false}
+use mathlib.Core.List.{List}
 use Prim.Native.Nat.{ℕ, zero, suc, _-_}
 use native.Mathlib.Omega.{arith}
 use Rattle.words.specs.Ltlf.{Reading}
@@ -11,14 +12,16 @@ use Rattle.words.specs.Word.{width, At, Means}
 use Rattle.words.proofs.At.{means-unique}
 use Rattle.sequence.specs.declared.CharSeq.{CharSeq}
 use Rattle.sequence.specs.declared.Answer.{Answer}
+use Rattle.sequence.specs.declared.Answer.the-variants.{Sequence, Refused}
 use Rattle.sequence.specs.declared.operators.Operator.{Operator}
 use Rattle.sequence.specs.Operators.{Unary, Binary, unaryCode, binaryCode, unaryReading, binaryReading, not, weakNext, strongNext, finally, globally, or, and, until, release, implies, equiv}
 use Rattle.sequence.specs.Masked.{UnaryWord, BinaryWord, unaryMasked, binaryMasked}
 use Rattle.sequence.specs.Masked.UnaryWord.{word as uword, nothing as unothing}
 use Rattle.sequence.specs.Masked.BinaryWord.{word as bword, nothing as bnothing}
 use Rattle.sequence.specs.Table.{Listed, unary, binary, neither, unaryRow, binaryRow}
-use Rattle.sequence.specs.Sequence.{seq, Denotes, NewAnswer, UnaryRead, UnaryAnswer, BinaryRead, BinaryAnswer}
-use Rattle.sequence.proofs.Refusals.{answers-unique}
+use Rattle.sequence.specs.Sequence.{seq, Denotes, Answers, NewAnswer, UnaryRead, UnaryAnswer, BinaryRead, BinaryAnswer}
+use Rattle.rules.specs.Refusals.{Row}
+use Rattle.rules.proofs.Refusals.{decided-unique}
 use Rattle.sequence.proofs.Groups.{unary-below, binary-between}
 
 -- ---- tests: `CharSeq::is_well_formed`, `CharSeq::accepts`
@@ -75,6 +78,14 @@ unary-one a b e = sym (unary-back a) ∙ ap unary-at e ∙ unary-back b
 
 pub binary-one : (a b : Binary) → binaryCode a ≡ binaryCode b → a ≡ b
 binary-one a b e = sym (binary-back a) ∙ ap (λ (k : ℕ). binary-at (k - 5)) e ∙ binary-back b
+
+-- of the answers by a list, where what is asked of the sequence leaves one, there is one
+answers-unique : (rows : List Row) (asked : CharSeq → Type 0) → ((s t : CharSeq) → asked s → asked t → s ≡ t)
+    → (a b : Answer) → Answers rows asked a → Answers rows asked b → a ≡ b
+answers-unique rows asked one (Sequence s) (Sequence t) p q = ap Sequence (one s t (p .1) (q .1))
+answers-unique rows asked one (Sequence s) (Refused k) p q = absurd (omega (arith, q .1, decided-unique rows 0 k (p .0) (q .0)))
+answers-unique rows asked one (Refused k) (Sequence t) p q = absurd (omega (arith, p .1, decided-unique rows k 0 (p .0) (q .0)))
+answers-unique rows asked one (Refused k) (Refused l) p q = ap Refused (decided-unique rows k l (p .0) (q .0))
 
 pub new-unique : (n x : ℕ) (a b : Answer) → NewAnswer n x a → NewAnswer n x b → a ≡ b
 new-unique n x a b p q = answers-unique _ _ (λ s t u v. same-seq s t (u .0 ∙ sym (v .0)) (u .1 ∙ sym (v .1))) a b p q

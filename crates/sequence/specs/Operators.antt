@@ -3,6 +3,7 @@
 use mathlib.Core.Bool.{Bool, true, false}
 use mathlib.Core.List.{List, [], _∷_}
 use Prim.Native.Nat.{ℕ}
+use lib.ListN.{getD}
 use Rattle.words.specs.Ltlf.{Reading, Not, Or, And, Implies, Equiv, StrongNext, WeakNext, Finally, Globally, Until, Release}
 
 -- "unary 0-4, binary 5-10"
@@ -36,6 +37,39 @@ binaryCode until = 7
 binaryCode release = 8
 binaryCode implies = 9
 binaryCode equiv = 10
+
+-- the operator and the group of a code
+pub data Coded : Type 0 where
+  unary : Unary → Coded
+  binary : Binary → Coded
+  neither : Coded
+
+-- the operators in the order of their codes: a code is a place in this list
+abbrev pub byCode : List Coded
+byCode =
+    unary not ∷ unary weakNext ∷ unary strongNext ∷ unary finally ∷ unary globally
+    ∷ binary or ∷ binary and ∷ binary until ∷ binary release ∷ binary implies ∷ binary equiv
+    ∷ []
+
+unfoldable pub decode : ℕ → Coded
+decode code = getD byCode code neither
+
+-- the operator of a code that is known to be of the group
+abbrev pub asUnary : Coded → Unary
+asUnary (unary op) = op
+asUnary (binary op) = not
+asUnary neither = not
+
+abbrev pub asBinary : Coded → Binary
+asBinary (unary op) = or
+asBinary (binary op) = op
+asBinary neither = or
+
+abbrev pub unaryOf : ℕ → Unary
+unaryOf code = asUnary (decode code)
+
+abbrev pub binaryOf : ℕ → Binary
+binaryOf code = asBinary (decode code)
 
 -- the tokens' bytes
 abbrev pub unaryToken : Unary → List ℕ

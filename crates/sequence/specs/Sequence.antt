@@ -9,7 +9,7 @@ use Rattle.sequence.specs.declared.CharSeq.{CharSeq}
 use Rattle.sequence.specs.declared.Answer.{Answer}
 use Rattle.sequence.specs.declared.Answer.the-variants.{Sequence, Refused}
 use Rattle.sequence.specs.Operators.{Unary, Binary, unaryCode, binaryCode, unaryReading, binaryReading}
-use Rattle.sequence.specs.Refusals.{Row, Decided}
+use Rattle.rules.specs.Refusals.{Row, Decided}
 
 -- "A sequence is a length n and a 64-bit word"
 abbrev pub seq : ℕ → ℕ → CharSeq

@@ -5,7 +5,7 @@ ghost use mathlib.Core.Bool.{true};
 ghost use Prim.Native.Nat.{_<_};
 ghost use mathlib.Core.List.{[], _∷_};
 ghost use Rattle.words.specs.Word.{width, Means};
-ghost use Rattle.sequence.specs.Refusals.{Decided, firstOf};
+ghost use Rattle.rules.specs.Refusals.{Decided, firstOf};
 ghost use Rattle.sequence.specs.Sequence.{WellFormed, Accepts, illFormed, notUnary, notBinary, unequal, NewAnswer, UnaryAnswer, BinaryAnswer};
 
 pub mod operators;

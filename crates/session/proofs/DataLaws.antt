@@ -9,9 +9,9 @@ use native.Mathlib.Nat.{mul-comm, mul-le-mul-right, suc-mul}
 use native.Mathlib.Omega.{arith}
 use lib.ListN.{length}
 use Rattle.words.specs.Word.{width}
-use Rattle.sequence.specs.Refusals.{Decided}
-use Rattle.sequence.proofs.Refusals.{decided-unique}
-use Rattle.session.specs.Numbers.{sessions, propositions, Outside}
+use Rattle.rules.specs.Refusals.{Decided}
+use Rattle.rules.proofs.Refusals.{decided-unique}
+use Rattle.rules.specs.Limits.{mostSessions, mostPropositions, Outside}
 use Rattle.session.specs.Data.{tooLong, bitAbove, dataRows}
 use Rattle.session.specs.Inner.{AllUpTo, AllClear}
 
@@ -19,11 +19,11 @@ module _ (r m : ℕ) (marks lengths words : List ℕ) where
   abbrev D : ℕ → Type 0
   D k = Decided (dataRows r m marks lengths words) k
 
-  pub is-1 : Outside 1 sessions r ⊎ Outside 1 propositions m → D 1
+  pub is-1 : Outside 1 mostSessions r ⊎ Outside 1 mostPropositions m → D 1
   unfolding Decided
   is-1 h = inl (h, refl)
 
-  module _ (n1 : Outside 1 sessions r ⊎ Outside 1 propositions m → ⊥) where
+  module _ (n1 : Outside 1 mostSessions r ⊎ Outside 1 mostPropositions m → ⊥) where
     pub is-3 : (length marks < r) ⊎ (length lengths < r) ⊎ (length words < m * r) → D 3
     unfolding Decided
     is-3 h = inr (n1, inl (h, refl))
@@ -54,7 +54,7 @@ module _ (r m : ℕ) (marks lengths words : List ℕ) where
           is-0 h = inr (n1, inr (n3, inr (n4, inr (n5, inr ((λ t. omega (arith, h (t .0) (t .1), t .2)), refl)))))
 
 -- the numbers are right
-pub inside : (r m : ℕ) → 1 ≤ r → r ≤ sessions → 1 ≤ m → m ≤ propositions → Outside 1 sessions r ⊎ Outside 1 propositions m → ⊥
+pub inside : (r m : ℕ) → 1 ≤ r → r ≤ mostSessions → 1 ≤ m → m ≤ mostPropositions → Outside 1 mostSessions r ⊎ Outside 1 mostPropositions m → ⊥
 inside r m a b c d (inl (inl h)) = omega arith
 inside r m a b c d (inl (inr h)) = omega arith
 inside r m a b c d (inr (inl h)) = omega arith

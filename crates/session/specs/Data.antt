@@ -6,13 +6,13 @@ use mathlib.Core.List.{List, [], _∷_}
 use Prim.Native.Nat.{ℕ, _+_, _*_, _<_, _≤_}
 use lib.ListN.{length, getD}
 use Rattle.words.specs.Word.{width, At}
-use Rattle.sequence.specs.Refusals.{Row}
-use Rattle.session.specs.Numbers.{sessions, propositions, Outside}
+use Rattle.rules.specs.Refusals.{Row}
+use Rattle.rules.specs.Limits.{mostSessions, mostPropositions, Outside}
 
 module _ (r m : ℕ) where
   -- "1: r or m outside its numbers"
   abbrev pub outsideNumbers : Row
-  outsideNumbers = record { number = 1; given = Outside 1 sessions r ⊎ Outside 1 propositions m }
+  outsideNumbers = record { number = 1; given = Outside 1 mostSessions r ⊎ Outside 1 mostPropositions m }
 
   module _ (marks lengths words : List ℕ) where
     -- "3: a lent slice shorter than r, m x r .."

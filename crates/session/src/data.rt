@@ -4,12 +4,12 @@ ghost use mathlib.Core.Bool.{true};
 ghost use Prim.Native.Nat.{_+_, _*_, _≤_, _<_};
 ghost use lib.ListN.{length};
 ghost use Rattle.words.specs.Word.{width};
-ghost use Rattle.sequence.specs.Refusals.{Decided};
+ghost use Rattle.rules.specs.Refusals.{Decided};
 ghost use Rattle.session.specs.Data.{dataRows};
 ghost use Rattle.session.specs.Inner.{AllUpTo, Clear, AllClear};
 
 // The largest length, as lengths are lent.
-const LENGTH: u8 = crate::LENGTH as u8;
+const LENGTH: u8 = sequence::CharSeq::MAX_LENGTH as u8;
 
 // Whether each of the first n numbers is at most `most`.
 fn all_up_to(list: &[u8], n: usize, most: u8) -> bool
@@ -71,13 +71,13 @@ pub fn test(r: usize, m: usize, marks: &[u8], lengths: &[u8], words: &[u64]) -> 
     if r < 1 {
         return 1;
     }
-    if crate::SESSIONS < r {
+    if rules::SESSIONS < r {
         return 1;
     }
     if m < 1 {
         return 1;
     }
-    if crate::PROPOSITIONS < m {
+    if rules::PROPOSITIONS < m {
         return 1;
     }
     if marks.len() < r {

@@ -8,14 +8,14 @@ use native.Mathlib.Omega.{arith}
 use lib.Dec.{lit<}
 use lib.ListN.{length, drop}
 use lib.Seq.{sets, sets-eq}
-use Rattle.sequence.specs.Refusals.{Decided}
-use Rattle.sequence.proofs.Refusals.{decided-none}
+use Rattle.rules.specs.Refusals.{Decided}
+use Rattle.rules.proofs.Refusals.{decided-none}
 use Rattle.file.specs.declared.names.NamesAnswer.{NamesAnswer}
 use Rattle.file.specs.declared.names.NamesAnswer.the-variants.{Names, Broken as NamesBroken}
 use Rattle.file.specs.Offence.{Got, got, bad, wholeNames}
-use Rattle.session.specs.Answers.{Said, over}
+use Rattle.rules.specs.Answers.{Said, over}
 use Rattle.file.specs.Reading.{broken, saidNames, namesOf, namesSaid}
-use Rattle.walk.specs.Nodes.{Node}
+use Rattle.formula.specs.Nodes.{Node}
 use Rattle.formula.specs.Rule.{Broken, brokenList}
 use Rattle.text.specs.Text.{text}
 use Rattle.text.specs.Print.{shortRoom, PrintAnswer, PrintsBy, Prints}

@@ -9,7 +9,7 @@ use lib.ListN.{length, getD, take, drop, length-append, take-append-drop}
 use lib.Seq.{drop-cons, take-suc}
 use Rattle.file.specs.Numbers.{propositions, nameLength}
 use Rattle.file.specs.Format.{one, nameBytes, GoodName}
-use Rattle.session.specs.Each.{Each}
+use Rattle.rules.specs.Lists.{Each}
 use Rattle.file.specs.Offence.{name, namesUpTo}
 use Rattle.file.proofs.Spans.{Spans, first, second, head, inside, taken}
 use Rattle.file.proofs.Lists.{ones}

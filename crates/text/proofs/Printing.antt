@@ -11,9 +11,9 @@ use Rattle.sequence.specs.declared.operators.Operator.{Operator}
 use Rattle.sequence.specs.Operators.{Unary, Binary, unaryToken, binaryToken}
 use Rattle.sequence.specs.Table.{Listed}
 use Rattle.sequence.proofs.Unique.{unary-one, binary-one}
-use Rattle.walk.specs.Formula.{leaf, unary, binary, size, proposition, constant, Formula}
-use Rattle.walk.specs.Nodes.{Node, nodeAt, Spells, codes}
-use Rattle.walk.proofs.Trees.{spells-size}
+use Rattle.formula.specs.Formula.{leaf, unary, binary, size, proposition, constant, Formula}
+use Rattle.formula.specs.Nodes.{Node, nodeAt, Spells, codes}
+use Rattle.formula.proofs.Trees.{spells-size}
 use Rattle.formula.specs.Rule.{IsUnary, IsBinary, propositionCode}
 use Rattle.text.specs.Text.{text, leafText, mostText}
 use Rattle.formula.specs.Inner.{Fits}

@@ -14,8 +14,8 @@ use Rattle.sequence.specs.Table.Listed.{unary as unary-row, binary as binary-ro
 use Rattle.sequence.proofs.Groups.{unary-below, binary-between}
 use Rattle.sequence.proofs.Unique.{unary-one, binary-one}
 use Rattle.file.specs.Numbers.{nameLength}
-use Rattle.walk.specs.Formula.{leaf, unary, binary, size, Leaf, proposition, constant, Formula}
-use Rattle.walk.specs.Input.{mostSize}
+use Rattle.formula.specs.Formula.{leaf, unary, binary, size, Leaf, proposition, constant, Formula}
+use Rattle.rules.specs.Limits.{mostSize}
 use Rattle.formula.specs.Rule.{IsUnary, IsBinary}
 use Rattle.text.specs.Text.{text, leafText, bracketed, mostText}
 

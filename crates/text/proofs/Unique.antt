@@ -6,15 +6,15 @@ use Prim.Native.Nat.{ℕ}
 use native.Mathlib.Decide.{ℕ-discrete}
 use native.Mathlib.Omega.{arith}
 use lib.ListN.{length}
-use Rattle.sequence.proofs.Refusals.{decided-unique}
+use Rattle.rules.proofs.Refusals.{decided-unique}
 use Rattle.file.specs.Offence.{Got, got, bad, wholeNames}
-use Rattle.session.specs.Answers.{Said, over}
-use Rattle.walk.specs.Nodes.{Node}
+use Rattle.rules.specs.Answers.{Said, over}
+use Rattle.formula.specs.Nodes.{Node}
 use Rattle.text.specs.declared.Printed.{Printed}
 use Rattle.text.specs.declared.Printed.the-variants.{Text, Broken, Refused as NotPrinted}
 use Rattle.text.specs.Text.{text}
 use Rattle.text.specs.Print.{saidPrinted, PrintAnswer, PrintsBy, Prints}
-use Rattle.formula.proofs.Spelled.{spells-one}
+use Rattle.formula.proofs.Spelled.{one-formula}
 
 said : ℕ → List ℕ → Said
 said n vs = record { number = n; values = vs }
@@ -31,7 +31,7 @@ module _ (names : List (List ℕ)) (k : List Node) (root : Node) (old : List ℕ
         | yes e ↦
             let p = a .passed e in
             let q = b .passed (sym n ∙ e) in
-            let t = ap (text names) (spells-one k root (p .0) (q .0) (p .1) (q .1)) in
+            let t = ap (text names) (one-formula k root (p .0) (q .0) (p .1) (q .1)) in
             (same-said s r n (p .2 ∙ ap (λ (x : List ℕ). length x ∷ []) t ∙ sym (q .2)), p .3 ∙ ap (λ (x : List ℕ). over x old) t ∙ sym (q .3))
         | no e ↦
             let p = a .refused e in

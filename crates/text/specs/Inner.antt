@@ -7,8 +7,8 @@ use Prim.Native.Nat.{ℕ, _+_, _≤_}
 use lib.ListN.{length, take}
 use lib.Seq.{sets}
 use Rattle.sequence.specs.declared.operators.Operator.{Operator}
-use Rattle.walk.specs.Formula.{Formula}
-use Rattle.walk.specs.Nodes.{Node, Spells, codes}
+use Rattle.formula.specs.Formula.{Formula}
+use Rattle.formula.specs.Nodes.{Node, Spells, codes}
 use Rattle.file.specs.Format.{nameBytes}
 use Rattle.file.specs.Offence.{Got, got, bad, wholeNames}
 use Rattle.formula.specs.Inner.{Fits, AllFit}

@@ -4,12 +4,12 @@ use mathlib.Core.Path.{_≡_}
 use mathlib.Core.List.{List, [], _∷_}
 use Prim.Native.Nat.{ℕ, _<_}
 use lib.ListN.{length}
-use Rattle.sequence.specs.Refusals.{Row, Decided}
+use Rattle.rules.specs.Refusals.{Row, Decided}
 use Rattle.file.specs.Offence.{Got, got, bad, wholeNames}
-use Rattle.session.specs.Answers.{Said, over}
+use Rattle.rules.specs.Answers.{Said, over}
 use Rattle.file.specs.Reading.{broken}
-use Rattle.walk.specs.Formula.{Formula}
-use Rattle.walk.specs.Nodes.{Node, Spells, codes}
+use Rattle.formula.specs.Formula.{Formula}
+use Rattle.formula.specs.Nodes.{Node, Spells, codes}
 use Rattle.text.specs.declared.Printed.{Printed}
 use Rattle.text.specs.declared.Printed.the-variants.{Text, Broken, Refused}
 use Rattle.formula.specs.Rule.{brokenList}

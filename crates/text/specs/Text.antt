@@ -5,7 +5,7 @@ use mathlib.Core.List.{List, [], _∷_, _++_}
 use Prim.Native.Nat.{ℕ}
 use lib.ListN.{getD}
 use Rattle.sequence.specs.Operators.{unaryToken, binaryToken}
-use Rattle.walk.specs.Formula.{leaf, unary, binary, Leaf, proposition, constant, Formula}
+use Rattle.formula.specs.Formula.{leaf, unary, binary, Leaf, proposition, constant, Formula}
 
 abbrev pub space : ℕ
 space = 32

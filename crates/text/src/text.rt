@@ -2,8 +2,8 @@
 use formula::kinds::FALSE;
 use formula::kinds::Node;
 use formula::kinds::PROPOSITION;
-use formula::kinds::Proposition;
 use formula::nodes::node_at;
+use rules::kinds::Proposition;
 use sequence::operators;
 use sequence::operators::Group;
 use sequence::operators::Operator;

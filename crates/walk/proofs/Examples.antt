@@ -9,11 +9,14 @@ use native.Mathlib.Omega.{arith}
 use lib.ListN.{length}
 use Rattle.words.specs.Word.{width, bit, Wf}
 use Rattle.words.proofs.At.{lt-wf}
-use Rattle.sequence.specs.Operators.{Unary, Binary}
-use Rattle.walk.specs.Nodes.{Node}
-use Rattle.walk.specs.Walk.{Candidate, State, found, full, none, going, ended, each, count, ofSize, leftSizes, finish, orders, unaryCandidates, pairs, layer, known, judge, consider, through, after, walk}
+use Rattle.sequence.specs.Operators.{Unary, Binary, decode}
+use Rattle.formula.specs.Nodes.{Node}
+use Rattle.walk.specs.Walk.{Candidate, State, found, full, none, going, ended, ofSize, leftSizes, finish, orders, unaryCandidates, pairs, layer, known, judge, consider, through, after, walk}
+use Rattle.rules.specs.Lists.{each, count}
+use Rattle.rules.specs.Limits.{mostSize, mostRoom}
 use Rattle.walk.specs.Rows.{word, someOf, allOf, unaryRow, binaryRow, constantRow}
-use Rattle.walk.specs.Input.{mostSize, mostRoom, Input, Passes, markOf, lengthOf, wordOf, sameRows, every, separating, search}
+use Rattle.walk.specs.Input.{Input, Passes, sameRows, every, separating, search, inputOf}
+use Rattle.session.specs.Recording.{markOf, lengthOf, wordOf}
 use Rattle.walk.specs.Promises.{NoneBelow, Found, Full, begun, goOn}
 use Rattle.walk.specs.Cut.{more, over, settle, start, step, turn}
 use Rattle.walk.proofs.Promises.{found-smallest, none-means-none, full-needs-room}
@@ -35,32 +38,21 @@ brief (ended (full s) k n) = 3 ∷ s ∷ n ∷ length k ∷ []
 -- ---- S2: "two sessions of length 1, p = 1 in both, marks 1 and 0, only `!`"
 
 abbrev s2 : ℕ → ℕ → Input
-s2 bound room = record {
-  sessions = 2;
-  propositions = 1;
-  bound = bound;
-  room = room;
-  constants = 0;
-  marks = 1 ∷ 0 ∷ [];
-  lengths = 1 ∷ 1 ∷ [];
-  words = 1 ∷ 1 ∷ [];
-  unary = 0 ∷ [];
-  binary = [];
-}
+s2 bound room = inputOf 2 1 bound room 0 (1 ∷ 0 ∷ []) (1 ∷ 1 ∷ []) (1 ∷ 1 ∷ []) (0 ∷ []) []
 
 -- "B = 2 gives none, tried 2, kept 2"
 s2-none : search (s2 2 4096) ≡ ended none (at 16 0 0 1 (1 ∷ 1 ∷ []) ∷ at 0 0 0 2 (0 ∷ 0 ∷ []) ∷ []) 2
-unfolding each count ofSize leftSizes finish orders unaryCandidates pairs layer known judge consider through after walk word someOf allOf unaryRow binaryRow constantRow sameRows every separating bit
+unfolding each count ofSize leftSizes finish orders unaryCandidates pairs layer known judge consider through after walk word someOf allOf unaryRow binaryRow constantRow sameRows every separating bit decode
 s2-none = refl
 
 -- "with C = 1 full at size 2, tried 2, kept 1"
 s2-full : search (s2 2 1) ≡ ended (full 2) (at 16 0 0 1 (1 ∷ 1 ∷ []) ∷ []) 2
-unfolding each count ofSize leftSizes finish orders unaryCandidates pairs layer known judge consider through after walk word someOf allOf unaryRow binaryRow constantRow sameRows every separating bit
+unfolding each count ofSize leftSizes finish orders unaryCandidates pairs layer known judge consider through after walk word someOf allOf unaryRow binaryRow constantRow sameRows every separating bit decode
 s2-full = refl
 
 -- "B = 3 and C = 2 gives none, tried 3 (a duplicate needs no place)"
 s2-duplicate : search (s2 3 2) ≡ ended none (at 16 0 0 1 (1 ∷ 1 ∷ []) ∷ at 0 0 0 2 (0 ∷ 0 ∷ []) ∷ []) 3
-unfolding each count ofSize leftSizes finish orders unaryCandidates pairs layer known judge consider through after walk word someOf allOf unaryRow binaryRow constantRow sameRows every separating bit
+unfolding each count ofSize leftSizes finish orders unaryCandidates pairs layer known judge consider through after walk word someOf allOf unaryRow binaryRow constantRow sameRows every separating bit decode
 s2-duplicate = refl
 
 -- it passes the checks, so the theorems speak of it
@@ -81,10 +73,10 @@ s2-passes bound room hb hr = record {
   words-there = omega arith;
   well-formed = λ j p h l.
       let e : p ≡ 0 = omega arith in
-      subst (λ (p : ℕ). Wf (lengthOf (s2 bound room) j) (wordOf (s2 bound room) j p)) (sym e)
-      (two (λ (j : ℕ). Wf (lengthOf (s2 bound room) j) (wordOf (s2 bound room) j 0)) (lt-wf (omega arith) (omega arith)) (lt-wf (omega arith) (omega arith)) j h);
-  short = two (λ (j : ℕ). lengthOf (s2 bound room) j ≤ width) (omega arith) (omega arith);
-  marks-in = two (λ (j : ℕ). (markOf (s2 bound room) j ≡ 0) ⊎ (markOf (s2 bound room) j ≡ 1)) (inr refl) (inl refl);
+      subst (λ (p : ℕ). Wf (lengthOf (s2 bound room .recording) j) (wordOf (s2 bound room .recording) j p)) (sym e)
+      (two (λ (j : ℕ). Wf (lengthOf (s2 bound room .recording) j) (wordOf (s2 bound room .recording) j 0)) (lt-wf (omega arith) (omega arith)) (lt-wf (omega arith) (omega arith)) j h);
+  short = two (λ (j : ℕ). lengthOf (s2 bound room .recording) j ≤ width) (omega arith) (omega arith);
+  marks-in = two (λ (j : ℕ). (markOf (s2 bound room .recording) j ≡ 0) ⊎ (markOf (s2 bound room .recording) j ≡ 1)) (inr refl) (inl refl);
   unary-in = λ c m. (Unary.not, sym (List·Memᴰ·eq-of-singleton m));
   unary-once = (List·Memᴰ·not-nil, tt);
   binary-in = λ c m. absurd (List·Memᴰ·not-nil m);
@@ -101,31 +93,20 @@ s2-two = full-needs-room (s2 2 1) (s2-passes 2 1 (omega arith, omega arith) (ome
 
 -- cut after its first candidate the walk stands at size 2, before the first of its candidates; one candidate more, and none is left
 s2-cut : goOn (s2 2 4096) 1 (begun (s2 2 4096)) ≡ more 2 0 (at 16 0 0 1 (1 ∷ 1 ∷ []) ∷ []) 1
-unfolding each count ofSize leftSizes finish orders unaryCandidates pairs layer known judge consider through after walk word someOf allOf unaryRow binaryRow constantRow sameRows every separating bit settle start step turn
+unfolding each count ofSize leftSizes finish orders unaryCandidates pairs layer known judge consider through after walk word someOf allOf unaryRow binaryRow constantRow sameRows every separating bit settle start step turn decode
 s2-cut = refl
 
 s2-over : goOn (s2 2 4096) 1 (more 2 0 (at 16 0 0 1 (1 ∷ 1 ∷ []) ∷ []) 1) ≡ over none (at 16 0 0 1 (1 ∷ 1 ∷ []) ∷ at 0 0 0 2 (0 ∷ 0 ∷ []) ∷ []) 2
-unfolding each count ofSize leftSizes finish orders unaryCandidates pairs layer known judge consider through after walk word someOf allOf unaryRow binaryRow constantRow sameRows every separating bit settle start step turn
+unfolding each count ofSize leftSizes finish orders unaryCandidates pairs layer known judge consider through after walk word someOf allOf unaryRow binaryRow constantRow sameRows every separating bit settle start step turn decode
 s2-over = refl
 
 -- ---- S3: "only `U`, p = 3, q = 4, mark 1; p = 1, q = 4, mark 0; length 3, B = 3: `(p) U (q)`, tried 5, kept 2"
 
 abbrev s3 : Input
-s3 = record {
-  sessions = 2;
-  propositions = 2;
-  bound = 3;
-  room = 4096;
-  constants = 0;
-  marks = 1 ∷ 0 ∷ [];
-  lengths = 3 ∷ 3 ∷ [];
-  words = 3 ∷ 4 ∷ 1 ∷ 4 ∷ [];
-  unary = [];
-  binary = 7 ∷ [];
-}
+s3 = inputOf 2 2 3 4096 0 (1 ∷ 0 ∷ []) (3 ∷ 3 ∷ []) (3 ∷ 4 ∷ 1 ∷ 4 ∷ []) [] (7 ∷ [])
 
 s3-found : search s3 ≡ ended (found (node 7 0 1 3)) (at 16 0 0 1 (3 ∷ 1 ∷ []) ∷ at 16 1 0 1 (4 ∷ 4 ∷ []) ∷ []) 5
-unfolding each count ofSize leftSizes finish orders unaryCandidates pairs layer known judge consider through after walk word someOf allOf unaryRow binaryRow constantRow sameRows every separating bit
+unfolding each count ofSize leftSizes finish orders unaryCandidates pairs layer known judge consider through after walk word someOf allOf unaryRow binaryRow constantRow sameRows every separating bit decode
 s3-found = refl
 
 -- it passes the checks, so the theorem speaks of it: `(p) U (q)` separates, and nothing smaller does
@@ -140,11 +121,11 @@ s3-passes = record {
   lengths-there = omega arith;
   words-there = omega arith;
   well-formed = λ j p h l.
-      two (λ (j : ℕ). Wf (lengthOf s3 j) (wordOf s3 j p))
-      (two (λ (p : ℕ). Wf 3 (wordOf s3 0 p)) (lt-wf (omega arith) (omega arith)) (lt-wf (omega arith) (omega arith)) p l)
-      (two (λ (p : ℕ). Wf 3 (wordOf s3 1 p)) (lt-wf (omega arith) (omega arith)) (lt-wf (omega arith) (omega arith)) p l) j h;
-  short = two (λ (j : ℕ). lengthOf s3 j ≤ width) (omega arith) (omega arith);
-  marks-in = two (λ (j : ℕ). (markOf s3 j ≡ 0) ⊎ (markOf s3 j ≡ 1)) (inr refl) (inl refl);
+      two (λ (j : ℕ). Wf (lengthOf (s3 .recording) j) (wordOf (s3 .recording) j p))
+      (two (λ (p : ℕ). Wf 3 (wordOf (s3 .recording) 0 p)) (lt-wf (omega arith) (omega arith)) (lt-wf (omega arith) (omega arith)) p l)
+      (two (λ (p : ℕ). Wf 3 (wordOf (s3 .recording) 1 p)) (lt-wf (omega arith) (omega arith)) (lt-wf (omega arith) (omega arith)) p l) j h;
+  short = two (λ (j : ℕ). lengthOf (s3 .recording) j ≤ width) (omega arith) (omega arith);
+  marks-in = two (λ (j : ℕ). (markOf (s3 .recording) j ≡ 0) ⊎ (markOf (s3 .recording) j ≡ 1)) (inr refl) (inl refl);
   unary-in = λ c m. absurd (List·Memᴰ·not-nil m);
   unary-once = tt;
   binary-in = λ c m. (Binary.until, sym (List·Memᴰ·eq-of-singleton m));
@@ -157,175 +138,87 @@ s3-smallest = found-smallest s3 s3-passes (node 7 0 1 3) (at 16 0 0 1 (3 ∷ 1 �
 -- ---- S4: "one empty session, mark 1, p, all operators"
 
 abbrev s4 : ℕ → ℕ → Input
-s4 mark bound = record {
-  sessions = 1;
-  propositions = 1;
-  bound = bound;
-  room = 4096;
-  constants = 0;
-  marks = mark ∷ [];
-  lengths = 0 ∷ [];
-  words = 0 ∷ [];
-  unary = 0 ∷ 1 ∷ 2 ∷ 3 ∷ 4 ∷ [];
-  binary = 5 ∷ 6 ∷ 7 ∷ 8 ∷ 9 ∷ 10 ∷ [];
-}
+s4 mark bound = inputOf 1 1 bound 4096 0 (mark ∷ []) (0 ∷ []) (0 ∷ []) (0 ∷ 1 ∷ 2 ∷ 3 ∷ 4 ∷ []) (5 ∷ 6 ∷ 7 ∷ 8 ∷ 9 ∷ 10 ∷ [])
 
 -- "B = 2 none, tried 6, kept 1; B = 3 none, tried 15"
 s4-none : search (s4 1 2) ≡ ended none (at 16 0 0 1 (0 ∷ []) ∷ []) 6
-unfolding each count ofSize leftSizes finish orders unaryCandidates pairs layer known judge consider through after walk word someOf allOf unaryRow binaryRow constantRow sameRows every separating bit
+unfolding each count ofSize leftSizes finish orders unaryCandidates pairs layer known judge consider through after walk word someOf allOf unaryRow binaryRow constantRow sameRows every separating bit decode
 s4-none = refl
 
 s4-pairs : search (s4 1 3) ≡ ended none (at 16 0 0 1 (0 ∷ []) ∷ []) 15
-unfolding each count ofSize leftSizes finish orders unaryCandidates pairs layer known judge consider through after walk word someOf allOf unaryRow binaryRow constantRow sameRows every separating bit
+unfolding each count ofSize leftSizes finish orders unaryCandidates pairs layer known judge consider through after walk word someOf allOf unaryRow binaryRow constantRow sameRows every separating bit decode
 s4-pairs = refl
 
 -- "Mark 0: found p, tried 1, kept 0."
 s4-found : search (s4 0 3) ≡ ended (found (node 16 0 0 1)) [] 1
-unfolding each count ofSize leftSizes finish orders unaryCandidates pairs layer known judge consider through after walk word someOf allOf unaryRow binaryRow constantRow sameRows every separating bit
+unfolding each count ofSize leftSizes finish orders unaryCandidates pairs layer known judge consider through after walk word someOf allOf unaryRow binaryRow constantRow sameRows every separating bit decode
 s4-found = refl
 
 -- ---- constants: "propositions in order, then, if constants are asked for, false, then true", and after them `G` and `X`, in the given order
 
 abbrev asked : Input
-asked = record {
-  sessions = 2;
-  propositions = 1;
-  bound = 2;
-  room = 4096;
-  constants = 1;
-  marks = 1 ∷ 0 ∷ [];
-  lengths = 2 ∷ 2 ∷ [];
-  words = 1 ∷ 1 ∷ [];
-  unary = 4 ∷ 1 ∷ [];
-  binary = [];
-}
+asked = inputOf 2 1 2 4096 1 (1 ∷ 0 ∷ []) (2 ∷ 2 ∷ []) (1 ∷ 1 ∷ []) (4 ∷ 1 ∷ []) []
 
 asked-none : search asked ≡ ended none
     (at 16 0 0 1 (1 ∷ 1 ∷ []) ∷ at 17 0 0 1 (0 ∷ 0 ∷ []) ∷ at 18 0 0 1 (3 ∷ 3 ∷ []) ∷ at 1 0 0 2 (2 ∷ 2 ∷ []) ∷ []) 9
-unfolding each count ofSize leftSizes finish orders unaryCandidates pairs layer known judge consider through after walk word someOf allOf unaryRow binaryRow constantRow sameRows every separating bit
+unfolding each count ofSize leftSizes finish orders unaryCandidates pairs layer known judge consider through after walk word someOf allOf unaryRow binaryRow constantRow sameRows every separating bit decode
 asked-none = refl
 
 -- ---- the order of the loops over the left formulas, the right ones and the operators: with two of them exchanged the answer is another
 
 abbrev nested : Input
-nested = record {
-  sessions = 2;
-  propositions = 2;
-  bound = 4;
-  room = 10;
-  constants = 0;
-  marks = 1 ∷ 0 ∷ [];
-  lengths = 2 ∷ 2 ∷ [];
-  words = 2 ∷ 0 ∷ 3 ∷ 1 ∷ [];
-  unary = 2 ∷ 1 ∷ [];
-  binary = 5 ∷ 9 ∷ [];
-}
+nested = inputOf 2 2 4 10 0 (1 ∷ 0 ∷ []) (2 ∷ 2 ∷ []) (2 ∷ 0 ∷ 3 ∷ 1 ∷ []) (2 ∷ 1 ∷ []) (5 ∷ 9 ∷ [])
 
 nested-found : search nested ≡ ended (found (node 9 0 4 4))
     (at 16 0 0 1 (2 ∷ 3 ∷ []) ∷ at 16 1 0 1 (0 ∷ 1 ∷ []) ∷ at 2 0 0 2 (1 ∷ 1 ∷ []) ∷ at 1 0 0 2 (3 ∷ 3 ∷ []) ∷ at 2 1 0 2 (0 ∷ 0 ∷ []) ∷ at 1 1 0 2 (2 ∷ 2 ∷ []) ∷ []) 34
-unfolding each count ofSize leftSizes finish orders unaryCandidates pairs layer known judge consider through after walk word someOf allOf unaryRow binaryRow constantRow sameRows every separating bit
+unfolding each count ofSize leftSizes finish orders unaryCandidates pairs layer known judge consider through after walk word someOf allOf unaryRow binaryRow constantRow sameRows every separating bit decode
 nested-found = refl
 
 -- ---- the left sizes rise, and an operator that commutes has the left formula in its left field: with the sizes falling, or the fields
 -- exchanged, the answer is another
 
 abbrev rising : Input
-rising = record {
-  sessions = 3;
-  propositions = 1;
-  bound = 5;
-  room = 40;
-  constants = 0;
-  marks = 0 ∷ 0 ∷ 1 ∷ [];
-  lengths = 3 ∷ 3 ∷ 3 ∷ [];
-  words = 4 ∷ 3 ∷ 0 ∷ [];
-  unary = 3 ∷ 4 ∷ [];
-  binary = 10 ∷ [];
-}
+rising = inputOf 3 1 5 40 0 (0 ∷ 0 ∷ 1 ∷ []) (3 ∷ 3 ∷ 3 ∷ []) (4 ∷ 3 ∷ 0 ∷ []) (3 ∷ 4 ∷ []) (10 ∷ [])
 
 rising-found : brief (search rising) ≡ 1 ∷ 10 ∷ 0 ∷ 3 ∷ 5 ∷ 19 ∷ 7 ∷ []
-unfolding each count ofSize leftSizes finish orders unaryCandidates pairs layer known judge consider through after walk word someOf allOf unaryRow binaryRow constantRow sameRows every separating bit
+unfolding each count ofSize leftSizes finish orders unaryCandidates pairs layer known judge consider through after walk word someOf allOf unaryRow binaryRow constantRow sameRows every separating bit decode
 rising-found = refl
 
 -- ---- FOUND before FULL: one place, which the first proposition takes, and the second, which separates, needs none
 
 abbrev narrow : Input
-narrow = record {
-  sessions = 1;
-  propositions = 2;
-  bound = 1;
-  room = 1;
-  constants = 0;
-  marks = 1 ∷ [];
-  lengths = 1 ∷ [];
-  words = 0 ∷ 1 ∷ [];
-  unary = [];
-  binary = [];
-}
+narrow = inputOf 1 2 1 1 0 (1 ∷ []) (1 ∷ []) (0 ∷ 1 ∷ []) [] []
 
 narrow-found : search narrow ≡ ended (found (node 16 1 0 1)) (at 16 0 0 1 (0 ∷ []) ∷ []) 2
-unfolding each count ofSize leftSizes finish orders unaryCandidates pairs layer known judge consider through after walk word someOf allOf unaryRow binaryRow constantRow sameRows every separating bit
+unfolding each count ofSize leftSizes finish orders unaryCandidates pairs layer known judge consider through after walk word someOf allOf unaryRow binaryRow constantRow sameRows every separating bit decode
 narrow-found = refl
 
 -- ---- larger runs
 
 -- one proposition, constants, all operators: no formula tells two equal sessions apart
 abbrev equals : Input
-equals = record {
-  sessions = 2;
-  propositions = 1;
-  bound = 5;
-  room = 200;
-  constants = 1;
-  marks = 1 ∷ 0 ∷ [];
-  lengths = 2 ∷ 2 ∷ [];
-  words = 1 ∷ 1 ∷ [];
-  unary = 0 ∷ 1 ∷ 2 ∷ 3 ∷ 4 ∷ [];
-  binary = 5 ∷ 6 ∷ 7 ∷ 8 ∷ 9 ∷ 10 ∷ [];
-}
+equals = inputOf 2 1 5 200 1 (1 ∷ 0 ∷ []) (2 ∷ 2 ∷ []) (1 ∷ 1 ∷ []) (0 ∷ 1 ∷ 2 ∷ 3 ∷ 4 ∷ []) (5 ∷ 6 ∷ 7 ∷ 8 ∷ 9 ∷ 10 ∷ [])
 
 equals-none : brief (search equals) ≡ 2 ∷ 140 ∷ 4 ∷ []
-unfolding each count ofSize leftSizes finish orders unaryCandidates pairs layer known judge consider through after walk word someOf allOf unaryRow binaryRow constantRow sameRows every separating bit
+unfolding each count ofSize leftSizes finish orders unaryCandidates pairs layer known judge consider through after walk word someOf allOf unaryRow binaryRow constantRow sameRows every separating bit decode
 equals-none = refl
 
 -- two propositions, four sessions, all operators
 abbrev four : ℕ → Input
-four room = record {
-  sessions = 4;
-  propositions = 2;
-  bound = 5;
-  room = room;
-  constants = 0;
-  marks = 1 ∷ 1 ∷ 0 ∷ 0 ∷ [];
-  lengths = 3 ∷ 3 ∷ 3 ∷ 3 ∷ [];
-  words = 5 ∷ 2 ∷ 1 ∷ 6 ∷ 5 ∷ 6 ∷ 0 ∷ 2 ∷ [];
-  unary = 0 ∷ 1 ∷ 2 ∷ 3 ∷ 4 ∷ [];
-  binary = 5 ∷ 6 ∷ 7 ∷ 8 ∷ 9 ∷ 10 ∷ [];
-}
+four room = inputOf 4 2 5 room 0 (1 ∷ 1 ∷ 0 ∷ 0 ∷ []) (3 ∷ 3 ∷ 3 ∷ 3 ∷ []) (5 ∷ 2 ∷ 1 ∷ 6 ∷ 5 ∷ 6 ∷ 0 ∷ 2 ∷ []) (0 ∷ 1 ∷ 2 ∷ 3 ∷ 4 ∷ []) (5 ∷ 6 ∷ 7 ∷ 8 ∷ 9 ∷ 10 ∷ [])
 
 four-found : brief (search (four 200)) ≡ 1 ∷ 4 ∷ 82 ∷ 0 ∷ 5 ∷ 633 ∷ 164 ∷ []
-unfolding each count ofSize leftSizes finish orders unaryCandidates pairs layer known judge consider through after walk word someOf allOf unaryRow binaryRow constantRow sameRows every separating bit
+unfolding each count ofSize leftSizes finish orders unaryCandidates pairs layer known judge consider through after walk word someOf allOf unaryRow binaryRow constantRow sameRows every separating bit decode
 four-found = refl
 
 four-full : brief (search (four 20)) ≡ 3 ∷ 3 ∷ 25 ∷ 20 ∷ []
-unfolding each count ofSize leftSizes finish orders unaryCandidates pairs layer known judge consider through after walk word someOf allOf unaryRow binaryRow constantRow sameRows every separating bit
+unfolding each count ofSize leftSizes finish orders unaryCandidates pairs layer known judge consider through after walk word someOf allOf unaryRow binaryRow constantRow sameRows every separating bit decode
 four-full = refl
 
 -- constants, two unary and two binary operators, sessions of different lengths
 abbrev three : Input
-three = record {
-  sessions = 3;
-  propositions = 1;
-  bound = 5;
-  room = 200;
-  constants = 1;
-  marks = 1 ∷ 0 ∷ 0 ∷ [];
-  lengths = 4 ∷ 4 ∷ 2 ∷ [];
-  words = 9 ∷ 1 ∷ 1 ∷ [];
-  unary = 1 ∷ 4 ∷ [];
-  binary = 8 ∷ 7 ∷ [];
-}
+three = inputOf 3 1 5 200 1 (1 ∷ 0 ∷ 0 ∷ []) (4 ∷ 4 ∷ 2 ∷ []) (9 ∷ 1 ∷ 1 ∷ []) (1 ∷ 4 ∷ []) (8 ∷ 7 ∷ [])
 
 three-found : brief (search three) ≡ 1 ∷ 1 ∷ 8 ∷ 0 ∷ 4 ∷ 56 ∷ 11 ∷ []
-unfolding each count ofSize leftSizes finish orders unaryCandidates pairs layer known judge consider through after walk word someOf allOf unaryRow binaryRow constantRow sameRows every separating bit
+unfolding each count ofSize leftSizes finish orders unaryCandidates pairs layer known judge consider through after walk word someOf allOf unaryRow binaryRow constantRow sameRows every separating bit decode
 three-found = refl

@@ -10,11 +10,13 @@ use native.Mathlib.Omega.{arith}
 use native.Mathlib.Nat.{eq-or-lt-of-le}
 use native.Mathlib.Decide.{decLe}
 use lib.ListN.{length, length-map}
-use Rattle.walk.specs.Formula.{Tree, leaf, unary, binary, size, _∈_}
-use Rattle.walk.specs.Nodes.{Node, nodeAt, Spells}
-use Rattle.walk.specs.Walk.{Offer, Candidate, Placed, each, ofSize, leftSizes, seed, unaryOn, binaryOn, orders, unaryCandidates, pairs, layer, matrix}
+use Rattle.formula.specs.Formula.{Tree, leaf, unary, binary, size}
+use Rattle.formula.proofs.Trees.{size-pos}
+use Rattle.formula.specs.Nodes.{Node, nodeAt, Spells}
+use Rattle.walk.specs.Walk.{Offer, Candidate, Placed, ofSize, leftSizes, seed, unaryOn, binaryOn, orders, unaryCandidates, pairs, layer, matrix}
+use Rattle.rules.specs.Lists.{each, _∈_}
 use Rattle.walk.proofs.Members.{in-each, from-each, left-sizes, left-below, in-ofSize, from-ofSize, Stood}
-use Rattle.walk.proofs.Trees.{size-pos, From, Lawful, Is, is-size, Sound}
+use Rattle.walk.proofs.Trees.{From, Lawful, Is, is-size, Sound}
 
 le-or-le : (m n : ℕ) → (m ≤ n) ⊎ (n ≤ m)
 le-or-le m n = elim (decLe m n) [ yes h ↦ inl h | no h ↦ inr (omega arith) ]

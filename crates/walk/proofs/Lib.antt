@@ -1,6 +1,5 @@
 -- The laws of the walk, by subject, up to what is promised.
 pub mod Members
-pub mod Nodes
 pub mod Places
 pub mod Trees
 pub mod Layers

@@ -10,9 +10,9 @@ use native.Mathlib.Nat.{eq-or-lt-of-le}
 use lib.ListN.{length}
 use lib.Dec.{eqb}
 use borrow.Author.Tests.{eqb-true, eq-eqb}
-use Rattle.walk.specs.Formula.{_∈_}
-use Rattle.walk.specs.Nodes.{nodeAt}
-use Rattle.walk.specs.Walk.{Candidate, Placed, each, count, ofSize, keepIf, leftSizes}
+use Rattle.formula.specs.Nodes.{nodeAt}
+use Rattle.walk.specs.Walk.{Candidate, Placed, ofSize, keepIf, leftSizes}
+use Rattle.rules.specs.Lists.{each, count, _∈_}
 use Rattle.walk.specs.Promises.{LeftSizes}
 
 module _ {A B : Type 0} where

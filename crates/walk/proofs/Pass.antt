@@ -10,8 +10,8 @@ use native.Mathlib.Omega.{arith}
 use lib.ListN.{length, length-append}
 use lib.Dec.{leb}
 use borrow.Author.Tests.{leb-true, leb-false}
-use Rattle.walk.specs.Formula.{_∈_}
-use Rattle.walk.specs.Nodes.{Node}
+use Rattle.rules.specs.Lists.{_∈_}
+use Rattle.formula.specs.Nodes.{Node}
 use Rattle.walk.specs.Walk.{Offer, Candidate, Ending, found, full, none, State, going, ended, kept, known, judge, consider}
 use Rattle.walk.proofs.Trees.{Lawful}
 

@@ -11,7 +11,8 @@ use lib.ListN.{length, getD, length-append, List·getD-append}
 use lib.Seq.{getD-append-seam}
 use lib.Dec.{eqb}
 use borrow.Author.Tests.{eq-eqb, ne-eqb}
-use Rattle.walk.specs.Walk.{Offer, Candidate, Placed, each, count, ofSize, keepIf, orders, unaryOn, unaryCandidates, pairs}
+use Rattle.walk.specs.Walk.{Offer, Candidate, Placed, ofSize, keepIf, orders, unaryOn, unaryCandidates, pairs}
+use Rattle.rules.specs.Lists.{each, count}
 
 -- d stands for a formula beyond the list, which is never looked at
 module _ {Mat : Type 0} (d : Candidate Mat) where

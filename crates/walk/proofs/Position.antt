@@ -8,7 +8,7 @@ use Prim.Native.Nat.{ℕ, zero, suc, _+_}
 use native.Mathlib.Omega.{arith}
 use lib.ListN.{length}
 use lib.Dec.{leb}
-use Rattle.walk.specs.Formula.{_∈_}
+use Rattle.rules.specs.Lists.{_∈_}
 use Rattle.walk.specs.Walk.{Offer, Candidate, Ending, found, full, none, State, going, ended, kept, known, judge, layer, consider, through, after, finish, walk, trail}
 use Rattle.walk.specs.Input.{offer}
 use Rattle.walk.specs.Promises.{Nth, Has, DecidedAt, TriedIsPosition}

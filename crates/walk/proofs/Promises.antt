@@ -8,12 +8,16 @@ use Prim.Native.Nat.{ℕ, suc, _+_, _≤_, _<_}
 use native.Mathlib.Omega.{arith}
 use lib.ListN.{length}
 use Rattle.words.specs.Word.{Means}
-use Rattle.walk.specs.Formula.{Formula, size, Holds, Separates, Offered, _∈_}
-use Rattle.walk.specs.Nodes.{Node, codes}
+use Rattle.formula.specs.Formula.{Formula, size, Holds, Separates, Offered}
+use Rattle.rules.specs.Lists.{_∈_}
+use Rattle.formula.specs.Recorded.{markedTrace, markedTraces}
+use Rattle.session.specs.Recording.{lengthOf}
+use Rattle.formula.proofs.Trees.{spells-size}
+use Rattle.formula.specs.Nodes.{Node, codes}
 use Rattle.walk.specs.Walk.{Candidate, Ending, found, full, none, State, going, ended, finish, after, walk}
-use Rattle.walk.specs.Input.{Input, Passes, session, sessions, language, lengthOf, row, separating, offer, search}
+use Rattle.walk.specs.Input.{Input, Passes, language, row, separating, offer, search}
 use Rattle.walk.specs.Promises.{Table, nodes, NoneBelow, Alike, Apart, Found, KeepsNext, Full, Keeps, KeepsAll, Kept, FoundSmallest, NoneMeansNone, FullNeedsRoom, KeptDistinct, WalkEnds}
-use Rattle.walk.proofs.Trees.{Is, is-size, spells-size, Ordered}
+use Rattle.walk.proofs.Trees.{Is, is-size, Ordered}
 use Rattle.walk.proofs.Pass.{Rejected, Distinct, Tidy}
 use Rattle.walk.proofs.Smallest.{Needs, Ours, Smallest, Spills, EndsWell, Says, walk-says}
 use Rattle.walk.proofs.Reading.{lawful, from-offered, offered-from, row-means, agrees-separates, length-matrix, alike-matrix}
@@ -41,7 +45,7 @@ module _ (i : Input) (ok : Passes i) where
       }
 
   -- a candidate that was rejected does not separate
-  failed : (k : Table) (c : Candidate (List ℕ)) (t : Formula) → Is (offer i) k c t → Rejected (offer i) c → Separates (sessions i) t → ⊥
+  failed : (k : Table) (c : Candidate (List ℕ)) (t : Formula) → Is (offer i) k c t → Rejected (offer i) c → Separates (markedTraces (i .recording)) t → ⊥
   failed k c t w r p =
       true≢false (sym (agrees-separates i ok t (offered-from i ok t (w .from)) .1 p) ∙ ap (separating i) (sym (w .rows)) ∙ r)
 
@@ -61,7 +65,7 @@ module _ (i : Input) (ok : Passes i) where
         spelled = w .spelled;
         offered = o;
         long = ap length (w .rows) ∙ length-matrix i ok t;
-        means = λ j l. subst (λ (m : List ℕ). Means (lengthOf i j) (row m j) (Holds (session i j .trace) t)) (sym (w .rows)) (row-means i ok t o j l);
+        means = λ j l. subst (λ (m : List ℕ). Means (lengthOf (i .recording) j) (row m j) (Holds (markedTrace (i .recording) j .trace) t)) (sym (w .rows)) (row-means i ok t o j l);
         failed = failed x c t w r;
       }
 
@@ -113,7 +117,7 @@ module _ (i : Input) (ok : Passes i) where
         formulas = extra ∷ rest .formulas;
         beyond = omega (arith, rest .as-many, w .as-many);
         ours = λ t m. ⊎-elim
-            (λ e. subst (λ (u : Formula). Offered (language i) u × (size u ≤ s) × (Separates (sessions i) u → ⊥)) (sym e) (
+            (λ e. subst (λ (u : Formula). Offered (language i) u × (size u ≤ s) × (Separates (markedTraces (i .recording)) u → ⊥)) (sym e) (
               offered-from i ok extra (w .formula .1 .from),
               omega (arith, is-size (offer i) (w .formula .1), w .sized),
               failed k (w .extra) extra (w .formula .1) (w .rejected),

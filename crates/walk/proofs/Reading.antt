@@ -1,4 +1,4 @@
--- From words to the reading, once: row j of a formula's matrix has bit p set exactly where the formula holds at p of session j. So a matrix
+-- From words to the reading, once: row j of a formula's matrix has bit p set exactly where the formula holds at p of session (j .recording). So a matrix
 -- agrees with the marks exactly if its formula separates, and two formulas have one matrix exactly if they are alike.
 -- Assumes nothing.
 use mathlib.Core.Path.{_≡_, refl, sym, ap, ap₂, _∙_, subst, fun-ext}
@@ -13,16 +13,20 @@ use lib.Dec.{eqb, ltb}
 use borrow.Author.Tests.{eqb-true, eq-eqb, ltb-true, lt-ltb}
 use Rattle.words.specs.Word.{bit, At, Means}
 use Rattle.words.proofs.At.{means-unique}
-use Rattle.sequence.specs.Operators.{unaryCode, binaryCode}
-use Rattle.walk.specs.Formula.{leaf, unary, binary, Leaf, proposition, constant, Formula, Holds, Accepts, Separates, LeafOffered, Offered, _∈_}
-use Rattle.walk.specs.Walk.{count, matrix}
+use Rattle.sequence.specs.Operators.{unaryCode, binaryCode, unaryOf, binaryOf}
+use Rattle.formula.specs.Formula.{leaf, unary, binary, Leaf, proposition, constant, Formula, Holds, Accepts, Separates, LeafOffered, Offered}
+use Rattle.session.specs.Recording.{markOf, lengthOf}
+use Rattle.formula.specs.Recorded.{markedTrace, markedTraces}
+use Rattle.sequence.proofs.Decoding.{unary-of, binary-of}
+use Rattle.sequence.proofs.Agreeing.{means-agree, unary-agree, binary-agree}
+use Rattle.walk.specs.Walk.{matrix}
+use Rattle.rules.specs.Lists.{count, _∈_}
 use Rattle.walk.specs.Rows.{isOn, unaryRow, binaryRow, acceptsRow}
-use Rattle.walk.specs.Input.{Input, Passes, markOf, lengthOf, session, sessions, language, unaryOf, binaryOf, rows, row, sameRows, every, constantsIf, leaves, leafRow, separating, offer}
+use Rattle.walk.specs.Input.{Input, Passes, language, rows, row, sameRows, every, constantsIf, leaves, leafRow, separating, offer}
 use Rattle.walk.specs.Promises.{Alike, RowMeans}
 use Rattle.walk.proofs.Members.{in-count, from-count}
-use Rattle.walk.proofs.Nodes.{unary-of, binary-of}
 use Rattle.walk.proofs.Trees.{From, Lawful}
-use Rattle.walk.proofs.Rows.{means-agree, unary-agree, binary-agree, unary-row-means, binary-row-means, constant-row-means, binary-row-comm, and-on, beq-on}
+use Rattle.walk.proofs.Rows.{unary-row-means, binary-row-means, constant-row-means, binary-row-comm, and-on, beq-on}
 
 -- ---- the rows of a matrix
 
@@ -64,15 +68,15 @@ module _ (i : Input) where
   lawful = record {
     same-true = same-true;
     same-false = λ x y e q. true≢false (sym (same-refl x) ∙ ap (sameRows x) q ∙ e);
-    commute = λ op e x y. ap (rows (i .sessions)) (fun-ext λ j. binary-row-comm op e (lengthOf i j) (row x j) (row y j));
+    commute = λ op e x y. ap (rows (i .recording .sessions)) (fun-ext λ j. binary-row-comm op e (lengthOf (i .recording) j) (row x j) (row y j));
   }
 
   -- ---- what is offered
 
   leaf-from : (c : Leaf) → LeafOffered (language i) c → c ∈ leaves i
-  leaf-from (proposition p) h = Memᴰ·append-left _ (Memᴰ·map proposition (in-count 0 (i .propositions) p (omega arith) (omega arith)))
+  leaf-from (proposition p) h = Memᴰ·append-left _ (Memᴰ·map proposition (in-count 0 (i .recording .propositions) p (omega arith) (omega arith)))
   leaf-from (constant b) h =
-      Memᴰ·append-right (map proposition (count 0 (i .propositions)))
+      Memᴰ·append-right (map proposition (count 0 (i .recording .propositions)))
       (subst (λ (t : Bool). constant b ∈ constantsIf t) (sym (eq-eqb (i .constants) 1 h)) (either b))
     where
       either : (b : Bool) → constant b ∈ constantsIf true
@@ -82,10 +86,10 @@ module _ (i : Input) where
   pub from-leaf : (c : Leaf) → c ∈ leaves i → LeafOffered (language i) c
   from-leaf c m =
       ⊎-elim
-      (λ h. let w = Memᴰ·of-map proposition (count 0 (i .propositions)) h in
-      let v = from-count 0 (i .propositions) (w .0) (w .1) in
+      (λ h. let w = Memᴰ·of-map proposition (count 0 (i .recording .propositions)) h in
+      let v = from-count 0 (i .recording .propositions) (w .0) (w .1) in
       subst (LeafOffered (language i)) (w .2) (omega arith))
-      (λ h. given (eqb (i .constants) 1) refl h) (List·Memᴰ·append-cases (map proposition (count 0 (i .propositions))) m)
+      (λ h. given (eqb (i .constants) 1) refl h) (List·Memᴰ·append-cases (map proposition (count 0 (i .recording .propositions))) m)
     where
       given : (t : Bool) → eqb (i .constants) 1 ≡ t → c ∈ constantsIf t → LeafOffered (language i) c
       given true e h =
@@ -121,32 +125,32 @@ module _ (i : Input) (ok : Passes i) where
 
   -- ---- the step from words to the reading
 
-  row-holds : (t : Formula) → Offered (language i) t → (j : ℕ) → j < i .sessions
-      → Means (lengthOf i j) (row (matrix (offer i) t) j) (Holds (session i j .trace) t)
+  row-holds : (t : Formula) → Offered (language i) t → (j : ℕ) → j < i .recording .sessions
+      → Means (lengthOf (i .recording) j) (row (matrix (offer i) t) j) (Holds (markedTrace (i .recording) j .trace) t)
   row-holds (leaf (proposition p)) h j l =
-      rw (row-rows (i .sessions) (leafRow i (proposition p)) j l) (record { wf = ok .well-formed j p l h; holds = λ q m. (λ z. z, λ z. z) })
+      rw (row-rows (i .recording .sessions) (leafRow i (proposition p)) j l) (record { wf = ok .well-formed j p l h; holds = λ q m. (λ z. z, λ z. z) })
   row-holds (leaf (constant b)) h j l =
-      rw (row-rows (i .sessions) (leafRow i (constant b)) j l) (constant-row-means b (ok .short j l))
+      rw (row-rows (i .recording .sessions) (leafRow i (constant b)) j l) (constant-row-means b (ok .short j l))
   row-holds (unary op t) h j l =
       let m = row-holds t (h .1) j l in
-      rw (row-rows (i .sessions) (λ j. unaryRow op (lengthOf i j) (row (matrix (offer i) t) j)) j l)
+      rw (row-rows (i .recording .sessions) (λ j. unaryRow op (lengthOf (i .recording) j) (row (matrix (offer i) t) j)) j l)
       (means-agree (unary-row-means op (row (matrix (offer i) t) j) (ok .short j l))
-      (unary-agree op (lengthOf i j) (At (row (matrix (offer i) t) j)) (Holds (session i j .trace) t) (m .holds)))
+      (unary-agree op (lengthOf (i .recording) j) (At (row (matrix (offer i) t) j)) (Holds (markedTrace (i .recording) j .trace) t) (m .holds)))
   row-holds (binary op a b) h j l =
       let m = row-holds a (h .1) j l in
       let n = row-holds b (h .2) j l in
-      rw (row-rows (i .sessions) (λ j. binaryRow op (lengthOf i j) (row (matrix (offer i) a) j) (row (matrix (offer i) b) j)) j l)
+      rw (row-rows (i .recording .sessions) (λ j. binaryRow op (lengthOf (i .recording) j) (row (matrix (offer i) a) j) (row (matrix (offer i) b) j)) j l)
       (means-agree (binary-row-means op (row (matrix (offer i) a) j) (row (matrix (offer i) b) j) (ok .short j l))
-      (binary-agree op (lengthOf i j)
-      (At (row (matrix (offer i) a) j)) (Holds (session i j .trace) a)
-      (At (row (matrix (offer i) b) j)) (Holds (session i j .trace) b) (m .holds) (n .holds)))
+      (binary-agree op (lengthOf (i .recording) j)
+      (At (row (matrix (offer i) a) j)) (Holds (markedTrace (i .recording) j .trace) a)
+      (At (row (matrix (offer i) b) j)) (Holds (markedTrace (i .recording) j .trace) b) (m .holds) (n .holds)))
 
   -- ---- acceptance
 
-  accepts-row : (t : Formula) → Offered (language i) t → (j : ℕ) → j < i .sessions
-      → (acceptsRow (lengthOf i j) (row (matrix (offer i) t) j) ≡ true) ↔ Accepts (session i j .trace) t
+  accepts-row : (t : Formula) → Offered (language i) t → (j : ℕ) → j < i .recording .sessions
+      → (acceptsRow (lengthOf (i .recording) j) (row (matrix (offer i) t) j) ≡ true) ↔ Accepts (markedTrace (i .recording) j .trace) t
   accepts-row t h j l =
-      let n = lengthOf i j in
+      let n = lengthOf (i .recording) j in
       let x = row (matrix (offer i) t) j in
       let both = and-on (ltb 0 n) (isOn x 0) in
       let at = row-holds t h j l .holds 0 in (
@@ -154,38 +158,38 @@ module _ (i : Input) (ok : Passes i) where
         λ p. both .1 (lt-ltb 0 n (p .0), eq-eqb (bit x 0) 1 (at (p .0) .1 (p .1))),
       )
 
-  separates-each : (t : Formula) → Offered (language i) t → (js : List ℕ) → ((j : ℕ) → j ∈ js → j < i .sessions)
-      → (every js (λ j. Bool·beq (acceptsRow (lengthOf i j) (row (matrix (offer i) t) j)) (eqb (markOf i j) 1)) ≡ true) ↔ Separates (map (session i) js) t
+  separates-each : (t : Formula) → Offered (language i) t → (js : List ℕ) → ((j : ℕ) → j ∈ js → j < i .recording .sessions)
+      → (every js (λ j. Bool·beq (acceptsRow (lengthOf (i .recording) j) (row (matrix (offer i) t) j)) (eqb (markOf (i .recording) j) 1)) ≡ true) ↔ Separates (map (markedTrace (i .recording)) js) t
   unfolding every
   separates-each t h [] l = (λ p. tt, λ p. refl)
   separates-each t h (j ∷ js) l =
       let rest = separates-each t h js (λ k m. l k (List·Memᴰ·tail m)) in
-      let a = acceptsRow (lengthOf i j) (row (matrix (offer i) t) j) in
-      let both = and-on (Bool·beq a (eqb (markOf i j) 1)) (every js (λ j. Bool·beq (acceptsRow (lengthOf i j) (row (matrix (offer i) t) j)) (eqb (markOf i j) 1))) in
-      let same = beq-on a (eqb (markOf i j) 1) in
+      let a = acceptsRow (lengthOf (i .recording) j) (row (matrix (offer i) t) j) in
+      let both = and-on (Bool·beq a (eqb (markOf (i .recording) j) 1)) (every js (λ j. Bool·beq (acceptsRow (lengthOf (i .recording) j) (row (matrix (offer i) t) j)) (eqb (markOf (i .recording) j) 1))) in
+      let same = beq-on a (eqb (markOf (i .recording) j) 1) in
       let acc = accepts-row t h j (l j (List·Memᴰ·head refl)) in (
         λ p. let q = both .0 p in
             let w = same .0 (q .0) in
-            ((λ g. acc .0 (w .1 (eq-eqb (markOf i j) 1 g)), λ g. eqb-true (markOf i j) 1 (w .0 (acc .1 g))), rest .0 (q .1)),
-        λ p. both .1 (same .1 (λ g. eq-eqb (markOf i j) 1 (p .0 .1 (acc .0 g)), λ g. acc .1 (p .0 .0 (eqb-true (markOf i j) 1 g))), rest .1 (p .1)),
+            ((λ g. acc .0 (w .1 (eq-eqb (markOf (i .recording) j) 1 g)), λ g. eqb-true (markOf (i .recording) j) 1 (w .0 (acc .1 g))), rest .0 (q .1)),
+        λ p. both .1 (same .1 (λ g. eq-eqb (markOf (i .recording) j) 1 (p .0 .1 (acc .0 g)), λ g. acc .1 (p .0 .0 (eqb-true (markOf (i .recording) j) 1 g))), rest .1 (p .1)),
       )
 
-  pub agrees-separates : (t : Formula) → Offered (language i) t → (separating i (matrix (offer i) t) ≡ true) ↔ Separates (sessions i) t
+  pub agrees-separates : (t : Formula) → Offered (language i) t → (separating i (matrix (offer i) t) ≡ true) ↔ Separates (markedTraces (i .recording)) t
   unfolding separating
-  agrees-separates t h = separates-each t h (count 0 (i .sessions)) (λ j m. let w = from-count 0 (i .sessions) j m in omega arith)
+  agrees-separates t h = separates-each t h (count 0 (i .recording .sessions)) (λ j m. let w = from-count 0 (i .recording .sessions) j m in omega arith)
 
   -- ---- alike
 
-  pub length-matrix : (t : Formula) → length (matrix (offer i) t) ≡ i .sessions
-  length-matrix (leaf c) = length-rows 0 (i .sessions) (leafRow i c)
-  length-matrix (unary op t) = length-rows 0 (i .sessions) (λ j. unaryRow op (lengthOf i j) (row (matrix (offer i) t) j))
+  pub length-matrix : (t : Formula) → length (matrix (offer i) t) ≡ i .recording .sessions
+  length-matrix (leaf c) = length-rows 0 (i .recording .sessions) (leafRow i c)
+  length-matrix (unary op t) = length-rows 0 (i .recording .sessions) (λ j. unaryRow op (lengthOf (i .recording) j) (row (matrix (offer i) t) j))
   length-matrix (binary op l r) =
-      length-rows 0 (i .sessions) (λ j. binaryRow op (lengthOf i j) (row (matrix (offer i) l) j) (row (matrix (offer i) r) j))
+      length-rows 0 (i .recording .sessions) (λ j. binaryRow op (lengthOf (i .recording) j) (row (matrix (offer i) l) j) (row (matrix (offer i) r) j))
 
   pub alike-matrix : (t u : Formula) → Offered (language i) t → Offered (language i) u → Alike i t u → matrix (offer i) t ≡ matrix (offer i) u
   alike-matrix t u ht hu a =
       ext-getD 0 (matrix (offer i) t) (matrix (offer i) u) (length-matrix t ∙ sym (length-matrix u))
-      (λ j h. let l : j < i .sessions = omega (arith, length-matrix t) in
+      (λ j h. let l : j < i .recording .sessions = omega (arith, length-matrix t) in
       means-unique (means-agree (row-holds t ht j l) (λ p m. a j p l m)) (row-holds u hu j l))
 
 pub row-means : RowMeans

@@ -10,10 +10,11 @@ use native.Mathlib.Nat.{mul-comm, mul-le-mul-right, suc-mul}
 use lib.ListN.{length, getD}
 use lib.Dec.{eqb, leb}
 use Rattle.sequence.specs.Operators.{Unary, Binary}
-use Rattle.walk.specs.Formula.{_∈_, Leaf, proposition, constant}
-use Rattle.walk.specs.Walk.{Offer, Candidate, Placed, State, going, ended, kept, count, seed, orders, unaryCandidates, pairs, layer, known, judge, consider, through, after, finish, walk}
+use Rattle.formula.specs.Formula.{Leaf, proposition, constant}
+use Rattle.walk.specs.Walk.{Offer, Candidate, Placed, State, going, ended, kept, seed, orders, unaryCandidates, pairs, layer, known, judge, consider, through, after, finish, walk}
+use Rattle.rules.specs.Lists.{count, _∈_}
 use Rattle.walk.specs.Rows.{unaryRow, binaryRow, constantRow, acceptsRow}
-use Rattle.walk.specs.Input.{Input, row, rows, every, leaves, separating, offer, search}
+use Rattle.walk.specs.Input.{Input, row, rows, every, leaves, separating, offer, search, inputOf}
 use Rattle.walk.specs.Promises.{SameWhereRead}
 use Rattle.walk.proofs.Members.{from-count}
 use Rattle.walk.proofs.Reading.{from-leaf}
@@ -105,18 +106,7 @@ inside m r q p h l = omega (arith, suc-mul q m, mul-le-mul-right m h, mul-comm m
 
 module _ (r m b room constants : ℕ) (us bs : List ℕ) where
   abbrev input : List ℕ → List ℕ → List ℕ → Input
-  input M N W = record {
-    sessions = r;
-    propositions = m;
-    bound = b;
-    room = room;
-    constants = constants;
-    marks = M;
-    lengths = N;
-    words = W;
-    unary = us;
-    binary = bs;
-  }
+  input M N W = inputOf r m b room constants M N W us bs
 
   searchOf : List ℕ → List ℕ → List ℕ → State (List ℕ)
   searchOf M N W = search (input M N W)
@@ -171,14 +161,14 @@ module _ (r m b room constants : ℕ) (us bs : List ℕ) where
         ∙ ap (λ (o : Offer Leaf Unary Binary (List ℕ)). walk o room b) same-offer
 
 search-of : (i : Input)
-    → searchOf (i .sessions) (i .propositions) (i .bound) (i .room) (i .constants) (i .unary) (i .binary) (i .marks) (i .lengths) (i .words) ≡ search i
+    → searchOf (i .recording .sessions) (i .recording .propositions) (i .bound) (i .room) (i .constants) (i .unary) (i .binary) (i .recording .marks) (i .recording .lengths) (i .recording .words) ≡ search i
 unfolding searchOf
 search-of i = refl
 
 pub same-where-read : SameWhereRead
 same-where-read i j s =
     sym (search-of i)
-    ∙ same-search (i .sessions) (i .propositions) (i .bound) (i .room) (i .constants) (i .unary) (i .binary)
-    (i .marks) (j .marks) (i .lengths) (j .lengths) (i .words) (j .words) (s .marks) (s .lengths) (s .words)
+    ∙ same-search (i .recording .sessions) (i .recording .propositions) (i .bound) (i .room) (i .constants) (i .unary) (i .binary)
+    (i .recording .marks) (j .recording .marks) (i .recording .lengths) (j .recording .lengths) (i .recording .words) (j .recording .words) (s .marks) (s .lengths) (s .words)
     ∙ (cc)
     ∙ search-of j

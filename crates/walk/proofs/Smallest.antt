@@ -10,10 +10,12 @@ use native.Mathlib.Omega.{arith}
 use native.Mathlib.Nat.{eq-or-lt-of-le}
 use native.Mathlib.Decide.{decLe}
 use lib.ListN.{length}
-use Rattle.walk.specs.Formula.{Tree, size, _∈_}
-use Rattle.walk.specs.Nodes.{Node, Spells}
+use Rattle.formula.specs.Formula.{Tree, size}
+use Rattle.rules.specs.Lists.{_∈_}
+use Rattle.formula.proofs.Trees.{size-pos}
+use Rattle.formula.specs.Nodes.{Node, Spells}
 use Rattle.walk.specs.Walk.{Offer, Candidate, Ending, found, full, none, State, going, ended, kept, layer, consider, through, after, finish, walk, matrix}
-use Rattle.walk.proofs.Trees.{size-pos, From, Lawful, Is, is-size, is-longer, Sound, Ordered, ordered-sound, ordered-append}
+use Rattle.walk.proofs.Trees.{From, Lawful, Is, is-size, is-longer, Sound, Ordered, ordered-sound, ordered-append}
 use Rattle.walk.proofs.Layers.{Complete, layer-fits, layer-has}
 use Rattle.walk.proofs.Pass.{Rejected, Grows, grows-keeps, grows-from, Covers, Pass, pass, stays, Tidy, tidy}
 

@@ -11,7 +11,7 @@ use native.Mathlib.Nat.{eq-or-lt-of-le}
 use lib.ListN.{length}
 use lib.Dec.{leb}
 use borrow.Author.Tests.{leb-true, leb-false}
-use Rattle.walk.specs.Nodes.{Node}
+use Rattle.formula.specs.Nodes.{Node}
 use Rattle.walk.specs.Walk.{Offer, Candidate, Ending, found, full, State, going, ended, kept, known, judge, layer, consider, through, after, finish, walk}
 use Rattle.walk.specs.Input.{Input, separating, offer, search}
 use Rattle.walk.specs.Promises.{Table, again, KeepsNext, LargerBoundSame, LargerRoomSame, FoundStays}

@@ -1,6 +1,4 @@
--- What a reader must believe of the walk: formulas and their reading, nodes, the walk itself, its input, and what is promised of it.
-pub mod Formula
-pub mod Nodes
+-- What a reader must believe of the walk: the walk itself, its input, and what is promised of it.
 pub mod Walk
 pub mod Rows
 pub mod Input

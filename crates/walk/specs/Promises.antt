@@ -1,6 +1,6 @@
 -- What is promised of every answer of the walk, for every input that passes the checks. Each is proved under its name, in proofs/: found-smallest
 -- and so on (Promises), larger-bound-same, found-stays (Steady), tried-is-position (Position), cut-resume (Resume), row-means (Reading),
--- unary-row-only and binary-row-only (Rows), same-where-read (Same), one-formula (Nodes).
+-- unary-row-only and binary-row-only (Rows), same-where-read (Same).
 -- Assumes nothing.
 use mathlib.Core.Path.{_≡_}
 use mathlib.Core.Logic.{_↔_, _⊎_}
@@ -10,11 +10,14 @@ use Prim.Native.Nat.{ℕ, suc, _+_, _*_, _≤_, _<_}
 use lib.ListN.{length, take, getD}
 use Rattle.words.specs.Word.{At, Means}
 use Rattle.sequence.specs.Operators.{Unary, Binary, unaryReading, binaryReading}
-use Rattle.walk.specs.Formula.{Formula, size, Holds, Separates, Offered, _∈_}
-use Rattle.walk.specs.Nodes.{Node, Spells, codes}
+use Rattle.formula.specs.Formula.{Formula, size, Holds, Separates, Offered}
+use Rattle.rules.specs.Lists.{_∈_}
+use Rattle.formula.specs.Recorded.{markedTrace, markedTraces}
+use Rattle.session.specs.Recording.{lengthOf}
+use Rattle.formula.specs.Nodes.{Node, Spells, codes}
 use Rattle.walk.specs.Walk.{Candidate, Ending, found, full, none, going, ended, kept, tried, matrix, leftSizes, consider, trail}
 use Rattle.walk.specs.Rows.{unaryRow, binaryRow}
-use Rattle.walk.specs.Input.{Input, Passes, session, sessions, language, lengthOf, row, separating, offer, search}
+use Rattle.walk.specs.Input.{Input, Passes, language, row, separating, offer, search}
 use Rattle.walk.specs.Cut.{Cut, more, over, start, turn}
 
 -- what a walk keeps
@@ -26,29 +29,18 @@ nodes k = map (λ c. c .node) k
 
 -- the same input but for bound and room
 abbrev pub again : Input → ℕ → ℕ → Input
-again i b c = record {
-  sessions = i .sessions;
-  propositions = i .propositions;
-  bound = b;
-  room = c;
-  constants = i .constants;
-  marks = i .marks;
-  lengths = i .lengths;
-  words = i .words;
-  unary = i .unary;
-  binary = i .binary;
-}
+again i b c = record { recording = i .recording; bound = b; room = c; constants = i .constants; unary = i .unary; binary = i .binary }
 
 module _ (i : Input) where
   -- ---- in terms of the reading
 
   -- no formula over what was offered that is smaller than s separates
   abbrev pub NoneBelow : ℕ → Type 0
-  NoneBelow s = (t : Formula) → Offered (language i) t → size t < s → Separates (sessions i) t → ⊥
+  NoneBelow s = (t : Formula) → Offered (language i) t → size t < s → Separates (markedTraces (i .recording)) t → ⊥
 
   -- the two hold at the same positions of every session
   abbrev pub Alike : Formula → Formula → Type 0
-  Alike t u = (j p : ℕ) → j < i .sessions → p < lengthOf i j → Holds (session i j .trace) t p ↔ Holds (session i j .trace) u p
+  Alike t u = (j p : ℕ) → j < i .recording .sessions → p < lengthOf (i .recording) j → Holds (markedTrace (i .recording) j .trace) t p ↔ Holds (markedTrace (i .recording) j .trace) u p
 
   -- no two are alike
   abbrev pub Apart : List Formula → Type 0
@@ -65,7 +57,7 @@ module _ (i : Input) where
     pub offered : Offered (language i) formula
     pub sized : root .size ≡ size formula
     pub within : size formula ≤ i .bound
-    pub separates : Separates (sessions i) formula
+    pub separates : Separates (markedTraces (i .recording)) formula
     pub smallest : NoneBelow (size formula)
 
   -- with room c the walk keeps all of k and, at the place after them, a formula of size s
@@ -83,19 +75,19 @@ module _ (i : Input) where
     pub needs : (c : ℕ) → i .room < c → KeepsNext s k c
     pub formulas : List Formula
     pub beyond : length formulas ≡ i .room + 1
-    pub ours : (t : Formula) → t ∈ formulas → Offered (language i) t × (size t ≤ s) × (Separates (sessions i) t → ⊥)
+    pub ours : (t : Formula) → t ∈ formulas → Offered (language i) t × (size t ≤ s) × (Separates (markedTraces (i .recording)) t → ⊥)
     pub apart : Apart formulas
     pub within : s ≤ i .bound
     pub smaller : NoneBelow s
 
   -- a kept formula: its node, over those kept before it, and its matrix of r words, of which row j has bit p set exactly where the formula
-  -- holds at p of session j
+  -- holds at p of session (j .recording)
   pub record Keeps (before : Table) (c : Candidate (List ℕ)) (t : Formula) : Type 0 where
     pub spelled : Spells codes (nodes before) (c .node) t
     pub offered : Offered (language i) t
-    pub long : length (c .matrix) ≡ i .sessions
-    pub means : (j : ℕ) → j < i .sessions → Means (lengthOf i j) (row (c .matrix) j) (Holds (session i j .trace) t)
-    pub failed : Separates (sessions i) t → ⊥
+    pub long : length (c .matrix) ≡ i .recording .sessions
+    pub means : (j : ℕ) → j < i .recording .sessions → Means (lengthOf (i .recording) j) (row (c .matrix) j) (Holds (markedTrace (i .recording) j .trace) t)
+    pub failed : Separates (markedTraces (i .recording)) t → ⊥
 
   -- the formulas of a list, one by one, after those before it
   abbrev pub KeepsAll : Table → Table → List Formula → Type 0
@@ -111,11 +103,11 @@ module _ (i : Input) where
     pub kept : KeepsAll [] k formulas
     pub apart : Apart formulas
 
--- ---- from words to the reading: row j of a formula's matrix has bit p set exactly where the formula holds at p of session j
+-- ---- from words to the reading: row j of a formula's matrix has bit p set exactly where the formula holds at p of session (j .recording)
 
 abbrev pub RowMeans : Type 0
-RowMeans = (i : Input) → Passes i → (t : Formula) → Offered (language i) t → (j : ℕ) → j < i .sessions
-    → Means (lengthOf i j) (row (matrix (offer i) t) j) (Holds (session i j .trace) t)
+RowMeans = (i : Input) → Passes i → (t : Formula) → Offered (language i) t → (j : ℕ) → j < i .recording .sessions
+    → Means (lengthOf (i .recording) j) (row (matrix (offer i) t) j) (Holds (markedTrace (i .recording) j .trace) t)
 
 -- an operator's row is the only word with that meaning, so the operators' contracts, which say what the word means, fix the same word
 abbrev pub UnaryRowOnly : Type 0
@@ -123,11 +115,6 @@ UnaryRowOnly = (op : Unary) (n r x : ℕ) → Means n r (unaryReading op n (At x
 
 abbrev pub BinaryRowOnly : Type 0
 BinaryRowOnly = (op : Binary) (n r x y : ℕ) → Means n r (binaryReading op n (At x) (At y)) → r ≡ binaryRow op n x y
-
--- ---- "The answer's formula is its root node over that list": there is no other
-
-abbrev pub OneFormula : Type 0
-OneFormula = (k : List Node) (n : Node) (t u : Formula) → Spells codes k n t → Spells codes k n u → t ≡ u
 
 -- ---- (1) to (3): FOUND, NONE, FULL
 
@@ -154,16 +141,16 @@ LargerRoomSame = (i : Input) (c : ℕ) → i .room ≤ c
 
 -- the two inputs agree where they are looked at: of marks, lengths and words below r, r and m x r
 pub record AgreeWhereRead (i j : Input) : Type 0 where
-  pub sessions : i .sessions ≡ j .sessions
-  pub propositions : i .propositions ≡ j .propositions
+  pub sessions : i .recording .sessions ≡ j .recording .sessions
+  pub propositions : i .recording .propositions ≡ j .recording .propositions
   pub bound : i .bound ≡ j .bound
   pub room : i .room ≡ j .room
   pub constants : i .constants ≡ j .constants
   pub unary : i .unary ≡ j .unary
   pub binary : i .binary ≡ j .binary
-  pub marks : (p : ℕ) → p < i .sessions → getD (i .marks) p 0 ≡ getD (j .marks) p 0
-  pub lengths : (p : ℕ) → p < i .sessions → getD (i .lengths) p 0 ≡ getD (j .lengths) p 0
-  pub words : (p : ℕ) → p < i .propositions * i .sessions → getD (i .words) p 0 ≡ getD (j .words) p 0
+  pub marks : (p : ℕ) → p < i .recording .sessions → getD (i .recording .marks) p 0 ≡ getD (j .recording .marks) p 0
+  pub lengths : (p : ℕ) → p < i .recording .sessions → getD (i .recording .lengths) p 0 ≡ getD (j .recording .lengths) p 0
+  pub words : (p : ℕ) → p < i .recording .propositions * i .recording .sessions → getD (i .recording .words) p 0 ≡ getD (j .recording .words) p 0
 
 -- so "the same sessions" are the same where they are looked at, whatever lies beyond
 abbrev pub SameWhereRead : Type 0

@@ -5,8 +5,9 @@ use mathlib.Core.List.{List, [], _∷_, _++_, map, foldl}
 use Prim.Native.Nat.{ℕ, zero, suc, _+_, _-_, _/_}
 use lib.ListN.{length}
 use lib.Dec.{eqb, leb}
-use Rattle.walk.specs.Formula.{Tree, leaf, unary, binary}
-use Rattle.walk.specs.Nodes.{Node, Codes}
+use Rattle.rules.specs.Lists.{each, count}
+use Rattle.formula.specs.Formula.{Tree, leaf, unary, binary}
+use Rattle.formula.specs.Nodes.{Node, Codes}
 
 -- what is offered: leaves and operators in their order, with their codes; what each makes of its children's matrices; which operators are
 -- marked as commuting; when two matrices are equal; when a matrix's acceptance equals the marks
@@ -50,16 +51,6 @@ kept (ended e k n) = k
 abbrev pub tried : {Mat : Type 0} → State Mat → ℕ
 tried (going k n) = n
 tried (ended e k n) = n
-
--- f of each, one list after the other
-unfoldable pub each : {A B : Type 0} → List A → (A → List B) → List B
-each [] f = []
-each (x ∷ xs) f = f x ++ each xs f
-
--- n numbers from a on
-unfoldable pub count : ℕ → ℕ → List ℕ
-count a zero = []
-count a (suc n) = a ∷ count (suc a) n
 
 abbrev pub keepIf : {A : Type 0} → Bool → A → List A → List A
 keepIf true x xs = x ∷ xs

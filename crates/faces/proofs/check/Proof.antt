@@ -41,7 +41,8 @@ use denote.Triple.Walked.{says, Stays, stay-none, stay-none-slice, walkOf, Walks
 use Rattle.formula.specs.declared.kinds.Node.{Node}
 use Rattle.formula.specs.declared.Verdict.{Verdict}
 use Rattle.formula.specs.Kinds.{nodeOf}
-use Rattle.formula.specs.Check.{saidVerdict, recorded, CheckAnswer}
+use Rattle.formula.specs.Check.{saidVerdict, CheckAnswer}
+use Rattle.session.specs.Recording.{recording}
 use Rattle.formula.proofs.Verdict as Said-type
 use Rattle.formula.proofs.Verdict.Laws as Said-laws
 use Rattle.formula.proofs.kinds.Node as T
@@ -166,13 +167,13 @@ module _ {M : Type 1} (𝓤 : URA M) (H : Heap 𝓤) (A : Atoms 𝓤) (W : Given
   goes-work : n₀ < 2 ^ 64 → n₁ < 2 ^ 64 → length xs₅ < 2 ^ 64 → (ys : List Node) (u : Val) → ent 𝓤 (⋆ 𝓤 H A (Tok₀ ∷ Tok₁ ∷ Tok₂ ∷ Own₂ ∷ Own₃ ∷ Own₄ ∷ ‵ (Nodes .own ys (u ∷ [])) ∷ Own₆ ∷ [])) (Works 𝓤 H A mem run .pre (to-work ys u))
   goes-work f₀ f₁ g ys u = qed W (Tok₀ ∷ Tok₁ ∷ Tok₂ ∷ Own₂ ∷ Own₃ ∷ Own₄ ∷ ‵ (Nodes .own ys (u ∷ [])) ∷ Own₆ ∷ []) ∵ nothing ! $ move ! (8 ∷ 0 ∷ []) $ fjoin ! $ owned ! usize (Is usize) (uint-makes 𝓤 H A W w64) (length xs₅) (vint w64 (length xs₅) ∷ []) (refl, g) $ fjoin ! $ move ! (7 ∷ 0 ∷ []) $ fjoin ! $ move ! (6 ∷ 0 ∷ []) $ fjoin ! $ move ! (5 ∷ 0 ∷ []) $ fjoin ! $ move ! (4 ∷ 0 ∷ []) $ fjoin ! $ owned ! usize (Is usize) (uint-makes 𝓤 H A W w64) (n₁) (vint w64 n₁ ∷ []) (refl, f₁) $ fjoin ! $ owned ! usize (Is usize) (uint-makes 𝓤 H A W w64) (n₀) (vint w64 n₀ ∷ []) (refl, f₀) $ fjoin ! $ nothing ! $ move ! (4 ∷ 0 ∷ []) $ join ! $ move ! (3 ∷ 0 ∷ []) $ join ! $ move ! (2 ∷ 0 ∷ []) $ join ! $ join ! $ frame ! $ done !
 
-  work-said : (ys : List Node) (r : Verdict) → ent 𝓤 (ensured 𝓤 H A work.ended (work.clauses 𝓤 H A mem run) (κ₀, (κ₁, (κ₂, tt))) (args-w ys) tt r) (fact 𝓤 (Checks (recorded n₀ n₁ xs₂ xs₃ xs₄) ys (length xs₅) (nodeOf n₆) (saidVerdict r)))
-  work-said ys r = exE 𝓤 _ (λ ws. snd∗ 𝓤 (sem 𝓤 H A (lasts work.ended (κ₀, (κ₁, (κ₂, tt))) (args-w ys) ws)) (fact 𝓤 (Checks (recorded n₀ n₁ xs₂ xs₃ xs₄) ys (length xs₅) (nodeOf n₆) (saidVerdict r))))
+  work-said : (ys : List Node) (r : Verdict) → ent 𝓤 (ensured 𝓤 H A work.ended (work.clauses 𝓤 H A mem run) (κ₀, (κ₁, (κ₂, tt))) (args-w ys) tt r) (fact 𝓤 (Checks (recording n₀ n₁ xs₂ xs₃ xs₄) ys (length xs₅) (nodeOf n₆) (saidVerdict r)))
+  work-said ys r = exE 𝓤 _ (λ ws. snd∗ 𝓤 (sem 𝓤 H A (lasts work.ended (κ₀, (κ₁, (κ₂, tt))) (args-w ys) ws)) (fact 𝓤 (Checks (recording n₀ n₁ xs₂ xs₃ xs₄) ys (length xs₅) (nodeOf n₆) (saidVerdict r))))
 
   abbrev Last : Verdict → Val → List (Item 𝓤)
   Last r w = Tok₀ ∷ Tok₁ ∷ Tok₂ ∷ Tok₃ ∷ Own₂ ∷ Own₃ ∷ Own₄ ∷ Own₅ ∷ Own₆ ∷ ‵ (Said-type.the-row .own r (w ∷ [])) ∷ []
 
-  exits : n₀ < 2 ^ 64 → n₁ < 2 ^ 64 → (r : Verdict) (w : Val) → CheckAnswer (recorded n₀ n₁ xs₂ xs₃ xs₄) (plain xs₅) (nodeOf n₆) (saidVerdict r) → ent 𝓤 (⋆ 𝓤 H A (Last r w)) (Post w)
+  exits : n₀ < 2 ^ 64 → n₁ < 2 ^ 64 → (r : Verdict) (w : Val) → CheckAnswer (recording n₀ n₁ xs₂ xs₃ xs₄) (plain xs₅) (nodeOf n₆) (saidVerdict r) → ent 𝓤 (⋆ 𝓤 H A (Last r w)) (Post w)
   exits f₀ f₁ r w d =
       qed W (Last r w) ∵ suffices ! _ (ends-at 𝓤 H A this.ended stayed (this.clauses 𝓤 H A mem run) W (((κ₀, (κ₁, (κ₂, (κ₃, tt)))), (q₀, (q₁, (q₂, (q₃, tt)))), tt, a, at), tt) w r (tt, (tt, (tt, (tt, (tt, (tt, (tt, tt))))))) (tt, (tt, (tt, (tt, (tt, (tt, (tt, tt)))))))) $ says ! d $
       nothing ! $ move ! (4 ∷ 0 ∷ []) $ join ! $ move ! (3 ∷ 0 ∷ []) $ join ! $ move ! (2 ∷ 0 ∷ []) $ join ! $ move ! (1 ∷ 0 ∷ []) $ join ! $ frame ! $ nothing ! $ move ! (5 ∷ 0 ∷ []) $ fjoin ! $ move ! (4 ∷ 0 ∷ []) $ fjoin ! $ move ! (3 ∷ 0 ∷ []) $ fjoin ! $ move ! (2 ∷ 0 ∷ []) $ fjoin ! $ move ! (1 ∷ 0 ∷ []) $ fjoin ! $ owned ! usize (Is usize) (uint-makes 𝓤 H A W w64) n₁ (vint w64 n₁ ∷ []) (refl, f₁) $ fjoin ! $ owned ! usize (Is usize) (uint-makes 𝓤 H A W w64) n₀ (vint w64 n₀ ∷ []) (refl, f₀) $ fjoin ! $ frame ! $ done !
@@ -200,7 +201,7 @@ module _ {M : Type 1} (𝓤 : URA M) (H : Heap 𝓤) (A : Atoms 𝓤) (W : Given
         move ! (13 ∷ 12 ∷ 11 ∷ 6 ∷ 4 ∷ 2 ∷ 9 ∷ 0 ∷ []) $ move ! (6 ∷ 7 ∷ []) $ join ! $ move ! (6 ∷ 0 ∷ []) $ join ! $ move ! (5 ∷ 0 ∷ []) $ join ! $ move ! (4 ∷ 0 ∷ []) $ join ! $ move ! (3 ∷ 0 ∷ []) $ join ! $ move ! (2 ∷ 0 ∷ []) $ join ! $ move ! (1 ∷ 0 ∷ []) $ join ! $ use1 W (raw (Works 𝓤 H A mem run .pre (to-work ys u))) (goes-work f₀ f₁ (g₅ .0) ys u) $
         calls-at ! fm (Works 𝓤 H A mem run) known-w (to-work ys u) (and-then ! (load ! (from ! (stop !)) (look ! 23 refl)) (and-then ! (load ! (from ! (stop !)) (look ! 21 refl)) (and-then ! (load ! (from ! (stop !)) (look ! 19 refl)) (and-then ! (load ! (from ! (stop !)) (look ! 17 refl)) (and-then ! (load ! (from ! (stop !)) (look ! 15 refl)) (and-then ! (load ! (from ! (stop !)) (look ! 9 refl)) (and-then ! (load ! (from ! (stop !)) (look ! 7 refl)) (and-then ! (load ! (from ! (stop !)) (look ! 11 refl)) (no-more !))))))))) (λ w.
         use1 W (later (some (λ (r : Verdict). ((Tok₀ ⊛ (Tok₁ ⊛ (Tok₂ ⊛ (‵ ftrue)))) ⊛ ‵ (Said-type.the-row .own r (w ∷ []))) ⊛ raw (ensured 𝓤 H A work.ended (work.clauses 𝓤 H A mem run) (κ₀, (κ₁, (κ₂, tt))) (args-w ys) tt r)))) (id⊢ 𝓤 _) $ await ! tt $ pick ! (λ r.
-        split ! $ move ! (1 ∷ []) $ use1 W (raw (fact 𝓤 (Checks (recorded n₀ n₁ xs₂ xs₃ xs₄) ys (length xs₅) (nodeOf n₆) (saidVerdict r)))) (work-said ys r) $ heard ! (Checks (recorded n₀ n₁ xs₂ xs₃ xs₄) ys (length xs₅) (nodeOf n₆) (saidVerdict r)) (λ d.
+        split ! $ move ! (1 ∷ []) $ use1 W (raw (fact 𝓤 (Checks (recording n₀ n₁ xs₂ xs₃ xs₄) ys (length xs₅) (nodeOf n₆) (saidVerdict r)))) (work-said ys r) $ heard ! (Checks (recording n₀ n₁ xs₂ xs₃ xs₄) ys (length xs₅) (nodeOf n₆) (saidVerdict r)) (λ d.
         split ! $ move ! (1 ∷ []) $ peeks ! Said-type.the-row (Is Said-type.the-row) (shows 𝓤 H A Said-type.the-row) r (w ∷ []) (λ is′. land ! (from ! (stop !)) (init ! 26 refl (EL.lawful Said-type.the-type Said-laws.the-laws 𝓤 H A W tt .typed r _ is′ .0)) $
         move ! (1 ∷ []) $ split ! $ move ! (1 ∷ []) $ split ! $ move ! (1 ∷ []) $ split ! $ move ! (1 ∷ []) $ drop ! $
         returns ! (look ! 28 refl) $ forget ! 28 refl $ forget ! 26 refl $ forget ! 24 refl $ forget ! 22 refl $ forget ! 20 refl $ forget ! 18 refl $ forget ! 16 refl $ forget ! 14 refl $ forget ! 12 refl $ forget ! 10 refl $

@@ -44,7 +44,8 @@ use denote.Triple.Walked.{says, Stays, stay-none, stay-none-slice, gave-slice, w
 use Rattle.formula.specs.declared.kinds.Node.{Node}
 use Rattle.formula.proofs.kinds.Node as T
 use Rattle.search.specs.declared.SearchAnswer.{SearchAnswer}
-use Rattle.search.specs.Search.{inputOf, Searched}
+use Rattle.search.specs.Search.{Searched}
+use Rattle.walk.specs.Input.{inputOf}
 use Rattle.search.proofs.SearchAnswer as Said-type
 use Rattle.search.proofs.SearchAnswer.Laws as Said-laws
 use Rattle.faces.specs.declared.lists.Done.{Done}

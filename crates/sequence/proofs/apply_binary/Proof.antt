@@ -7,7 +7,7 @@ use borrow.Author.Needs.{needs}
 use Rattle.words.specs.Word.{Wf}
 use Rattle.words.proofs.Lengths.{Mask}
 use Rattle.sequence.specs.declared.CharSeq.{CharSeq}
-use Rattle.sequence.specs.Refusals.{Decided}
+use Rattle.rules.specs.Refusals.{Decided}
 use Rattle.sequence.specs.Masked.{BinaryWord}
 use Rattle.sequence.specs.Masked.BinaryWord.{word, nothing}
 use Rattle.sequence.specs.Sequence.{binaryRows, BinaryRead}

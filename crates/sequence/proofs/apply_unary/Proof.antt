@@ -6,7 +6,7 @@ use native.Mathlib.Omega.{arith}
 use borrow.Author.Needs.{needs}
 use Rattle.words.proofs.Lengths.{Mask}
 use Rattle.sequence.specs.declared.CharSeq.{CharSeq}
-use Rattle.sequence.specs.Refusals.{Decided}
+use Rattle.rules.specs.Refusals.{Decided}
 use Rattle.sequence.specs.Masked.{UnaryWord}
 use Rattle.sequence.specs.Masked.UnaryWord.{word, nothing}
 use Rattle.sequence.specs.Sequence.{unaryRows, UnaryRead}

@@ -5,7 +5,7 @@ use Prim.Native.Nat.{ℕ}
 use native.Mathlib.Omega.{arith}
 use borrow.Author.Needs.{needs}
 use Rattle.sequence.specs.Sequence.{notBinary}
-use Rattle.sequence.proofs.Refusals.{decided-given, decided-not}
+use Rattle.rules.proofs.Refusals.{decided-given, decided-not}
 use Rattle.sequence.proofs.Groups.{in-binary, off-binary}
 use Rattle.sequence.proofs.binary_refusal.Statement.{statement}
 use Rattle.sequence.proofs.binary_refusal.Tie as tie

@@ -3,7 +3,7 @@
 use mathlib.Core.Path.{sym}
 use native.Mathlib.Omega.{arith}
 use borrow.Author.Needs.{needs}
-use Rattle.sequence.proofs.Refusals.{first-some}
+use Rattle.rules.proofs.Refusals.{first-some}
 use Rattle.sequence.proofs.first.Statement.{statement}
 use Rattle.sequence.proofs.first.Tie as tie
 

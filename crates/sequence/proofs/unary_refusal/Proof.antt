@@ -5,7 +5,7 @@ use Prim.Native.Nat.{ℕ}
 use native.Mathlib.Omega.{arith}
 use borrow.Author.Needs.{needs}
 use Rattle.sequence.specs.Sequence.{notUnary}
-use Rattle.sequence.proofs.Refusals.{decided-given, decided-not}
+use Rattle.rules.proofs.Refusals.{decided-given, decided-not}
 use Rattle.sequence.proofs.Groups.{in-unary, off-unary}
 use Rattle.sequence.proofs.unary_refusal.Statement.{statement}
 use Rattle.sequence.proofs.unary_refusal.Tie as tie

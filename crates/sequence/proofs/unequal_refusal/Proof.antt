@@ -1,7 +1,7 @@
 -- `unequal_refusal` meets its contract.
 -- Assumes nothing.
 use Rattle.sequence.specs.Sequence.{unequal}
-use Rattle.sequence.proofs.Refusals.{decided-given, decided-not}
+use Rattle.rules.proofs.Refusals.{decided-given, decided-not}
 use Rattle.sequence.proofs.unequal_refusal.Statement.{statement}
 use Rattle.sequence.proofs.unequal_refusal.Tie as tie
 

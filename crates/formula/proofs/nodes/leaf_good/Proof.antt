@@ -2,7 +2,7 @@
 -- Assumes nothing.
 use native.Mathlib.Omega.{arith}
 use mathlib.Core.Path.{refl}
-use Rattle.walk.specs.Formula.{proposition}
+use Rattle.formula.specs.Formula.{proposition}
 use Rattle.formula.specs.Rule.Fault.{unknownCode, noProposition, leftUnused, rightUnused, leafSize}
 use Rattle.formula.specs.Inner.Fits.{leaf}
 use Rattle.formula.proofs.Faults.{is-leaf, unknown, constant-fits}

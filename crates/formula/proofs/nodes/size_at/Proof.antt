@@ -2,7 +2,7 @@
 -- Assumes nothing.
 use mathlib.Core.Path.{sym, ap}
 use native.Mathlib.Omega.{arith}
-use Rattle.walk.specs.Nodes.{Node}
+use Rattle.formula.specs.Nodes.{Node}
 use Rattle.formula.proofs.Listed.{node-at}
 use borrow.Author.Needs.{needs}
 use Rattle.formula.proofs.nodes.size_at.Statement.{statement}

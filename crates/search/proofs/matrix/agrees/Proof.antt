@@ -5,7 +5,7 @@ use mathlib.Core.Bool.{Bool, _&&_}
 use Prim.Native.Nat.{_+_, _-_, _≤_}
 use native.Mathlib.Omega.{arith}
 use borrow.Author.Needs.{needs}
-use Rattle.walk.specs.Walk.{count}
+use Rattle.rules.specs.Lists.{count}
 use Rattle.walk.specs.Input.{every}
 use Rattle.search.specs.Matrix.{agreesAt}
 use Rattle.search.proofs.Matrices.{every-start, every-turn, every-end}

@@ -3,7 +3,7 @@
 use borrow.Author.Tests.{not-true, not-false}
 use borrow.Author.Needs.{needs}
 use Rattle.search.specs.Table.{cols}
-use Rattle.search.specs.Search.{inputOf}
+use Rattle.walk.specs.Input.{inputOf}
 use Rattle.search.proofs.Decide.{is-one, is-two, is-three, no-room, is-data, is-seven, is-zero, settings-fine, room-fine, unary-bad, binary-bad, codes-fine, not-one-in}
 use Rattle.search.proofs.refuse.refusal.Statement.{statement}
 use Rattle.search.proofs.refuse.refusal.Tie as tie

@@ -2,7 +2,7 @@
 -- Assumes nothing.
 use mathlib.Core.Path.{refl, subst}
 use borrow.Author.Needs.{needs}
-use Rattle.sequence.specs.Refusals.{Decided}
+use Rattle.rules.specs.Refusals.{Decided}
 use Rattle.sequence.proofs.CharSeq.new.Statement.{statement}
 use Rattle.sequence.proofs.CharSeq.new.Tie as tie
 

@@ -6,7 +6,7 @@ use mathlib.Core.Logic.{inl, inr, ⊎-elim}
 use native.Mathlib.Omega.{arith}
 use borrow.Author.Needs.{needs}
 use Rattle.words.proofs.At.{wf-or-above}
-use Rattle.sequence.specs.Refusals.{Decided}
+use Rattle.rules.specs.Refusals.{Decided}
 use Rattle.sequence.proofs.CharSeq.refusal.Statement.{statement}
 use Rattle.sequence.proofs.CharSeq.refusal.Tie as tie
 

@@ -6,7 +6,7 @@ use mathlib.Core.List.{List}
 use Prim.Native.Nat.{ℕ, _<_}
 use lib.ListN.{length, getD}
 use Rattle.sequence.specs.Operators.{Unary, Binary, unaryCode, binaryCode}
-use Rattle.walk.specs.Formula.{Tree, leaf, unary, binary, size, Leaf, proposition, constant}
+use Rattle.formula.specs.Formula.{Tree, leaf, unary, binary, size, Leaf, proposition, constant}
 
 -- "a lent list of nodes: operator code, left place, right place, size"
 pub record Node : Type 0 where

@@ -1,15 +1,11 @@
--- The laws of the decision list: it decides one number, lists decide one after the other, and an answer by it is unique.
+-- The laws of the decision list: it decides one number, and lists decide one after the other.
 -- Assumes nothing.
-use mathlib.Core.Path.{_≡_, refl, sym, ap, _∙_, subst}
+use mathlib.Core.Path.{_≡_, refl, sym, _∙_, subst}
 use mathlib.Core.Logic.{inl, inr}
 use mathlib.Core.List.{List, [], _∷_, _++_}
 use Prim.Native.Nat.{ℕ, zero, suc, _<_}
 use native.Mathlib.Omega.{arith}
-use Rattle.sequence.specs.declared.CharSeq.{CharSeq}
-use Rattle.sequence.specs.declared.Answer.{Answer}
-use Rattle.sequence.specs.declared.Answer.the-variants.{Sequence, Refused}
-use Rattle.sequence.specs.Refusals.{Row, Decided, firstOf}
-use Rattle.sequence.specs.Sequence.{Answers}
+use Rattle.rules.specs.Refusals.{Row, Decided, firstOf}
 
 pub decided-unique : (rows : List Row) (a b : ℕ) → Decided rows a → Decided rows b → a ≡ b
 unfolding Decided
@@ -49,11 +45,3 @@ pub decided-none : (row : Row) (rows : List Row) → Numbered (row ∷ rows) →
 unfolding Decided
 decided-none row rows n (inl p) = absurd (omega (arith, n .0, p .1))
 decided-none row rows n (inr p) = p
-
--- of the answers by a list, where what is asked of the sequence leaves one, there is one
-pub answers-unique : (rows : List Row) (asked : CharSeq → Type 0) → ((s t : CharSeq) → asked s → asked t → s ≡ t)
-    → (a b : Answer) → Answers rows asked a → Answers rows asked b → a ≡ b
-answers-unique rows asked one (Sequence s) (Sequence t) p q = ap Sequence (one s t (p .1) (q .1))
-answers-unique rows asked one (Sequence s) (Refused k) p q = absurd (omega (arith, q .1, decided-unique rows 0 k (p .0) (q .0)))
-answers-unique rows asked one (Refused k) (Sequence t) p q = absurd (omega (arith, p .1, decided-unique rows k 0 (p .0) (q .0)))
-answers-unique rows asked one (Refused k) (Refused l) p q = ap Refused (decided-unique rows k l (p .0) (q .0))

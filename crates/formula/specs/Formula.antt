@@ -3,8 +3,9 @@
 use mathlib.Core.Path.{_≡_}
 use mathlib.Core.Logic.{_↔_}
 use mathlib.Core.Bool.{Bool, true}
-use mathlib.Core.List.{List, [], _∷_, List·Memᴰ}
+use mathlib.Core.List.{List, [], _∷_}
 use Prim.Native.Nat.{ℕ, _+_, _<_}
+use Rattle.rules.specs.Lists.{_∈_}
 use Rattle.words.specs.Ltlf.{Reading}
 use Rattle.sequence.specs.Operators.{Unary, Binary, unaryCode, binaryCode, unaryReading, binaryReading}
 
@@ -51,20 +52,16 @@ abbrev pub Accepts : Trace → Formula → Type 0
 Accepts τ t = (0 < τ .length) × Holds τ t 0
 
 -- a recorded session and its mark, 1 for good and 0 for bad
-pub record Session : Type 1 where
+pub record MarkedTrace : Type 1 where
   pub mark : ℕ
   pub trace : Trace
 
 -- exactly the good sessions accept the formula
-abbrev pub Separates : List Session → Formula → Type 0
+abbrev pub Separates : List MarkedTrace → Formula → Type 0
 Separates [] t = Unit {0}
 Separates (s ∷ ss) t = ((s .mark ≡ 1) ↔ Accepts (s .trace) t) × Separates ss t
 
 -- ---- what was offered
-
-infix 4 _∈_
-abbrev pub _∈_ : {A : Type 0} → A → List A → Type 0
-a ∈ l = List·Memᴰ a l
 
 -- how many propositions, the constants' mark, and the operators' codes
 pub record Language : Type 0 where

@@ -1,0 +1,25 @@
+-- The numbers of document 01 ("Numbers") that bound what the library takes, each under one name; in code they are the constants of src/lib.rt. The
+-- largest length is `width`, of `words`; the session file has limits of its own.
+-- Assumes nothing.
+use mathlib.Core.Logic.{_⊎_}
+use Prim.Native.Nat.{ℕ, _<_}
+
+-- "sessions r 1 to 32"
+abbrev pub mostSessions : ℕ
+mostSessions = 32
+
+-- "propositions m 1 to 16"
+abbrev pub mostPropositions : ℕ
+mostPropositions = 16
+
+-- "size bound B 1 to 31"
+abbrev pub mostSize : ℕ
+mostSize = 31
+
+-- "table room C 1 to 4,096 formulas", and "a node list of 0 to 4,096 nodes"
+abbrev pub mostRoom : ℕ
+mostRoom = 4096
+
+-- n is none of the numbers from lo to hi
+abbrev pub Outside : ℕ → ℕ → ℕ → Type 0
+Outside lo hi n = (n < lo) ⊎ (hi < n)
