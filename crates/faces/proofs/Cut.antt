@@ -11,7 +11,8 @@ use lib.Seq.{take-all}
 use Rattle.sequence.specs.Refusals.{Row, Decided}
 use Rattle.sequence.proofs.Refusals.{Numbered, decided-none}
 use Rattle.session.specs.Data.{dataRows}
-use Rattle.file.specs.Offence.{Got, got, bad, wholeNames}
+use Rattle.reading.specs.Reading.{Got, got, bad}
+use Rattle.names.specs.Names.{wholeNames}
 use Rattle.session.specs.Answers.{Said}
 use Rattle.walk.specs.Nodes as walk
 use Rattle.walk.specs.Input.{Input, mostRoom}

@@ -17,7 +17,7 @@ use Rattle.formula.specs.declared.kinds.Node.{Node}
 use Rattle.formula.specs.Kinds.{nodeOf, nodes}
 use Rattle.formula.specs.Rule.{Broken}
 use Rattle.text.specs.Text.{text}
-use Rattle.text.specs.Inner.{Wrote}
+use Rattle.writing.specs.Writing.{Wrote}
 use Rattle.search.specs.declared.SearchAnswer.{SearchAnswer}
 use Rattle.search.specs.declared.SearchAnswer.the-variants.{Found, None, Full, Refused}
 use Rattle.search.specs.Table.{Cols}

@@ -12,17 +12,20 @@ use lib.Seq.{sets-eq, length-take-le}
 use borrow.Author.Tests.{le-leb}
 use Rattle.file.specs.declared.ReadAnswer.{ReadAnswer}
 use Rattle.file.specs.declared.ReadAnswer.the-variants.{Parts as AllParts, Broken, Room}
-use Rattle.file.specs.Format.{Parts, Good, section, nameBytes, fileBytes}
-use Rattle.file.specs.Offence.{Got, got, bad, wholeFile, wholeNames}
+use Rattle.file.specs.Format.{Parts, Good, fileBytes}
+use Rattle.reading.specs.Reading.{section, Got, got, bad}
+use Rattle.names.specs.Names.{nameBytes, wholeNames}
+use Rattle.file.specs.Offence.{wholeFile}
 use Rattle.session.specs.Answers.{Said, over}
 use Rattle.file.specs.Reading.{said, Lent, After, after, marksOf, lengthsOf, wordsOf, roomFor, handedOut, outcome, readOf}
 use Rattle.file.proofs.Numbers.{Bytes}
 use Rattle.file.proofs.Positions.{length-all-words}
 use Rattle.file.proofs.CodeLaws.{good-unary, good-binary}
-use Rattle.file.proofs.Whole.{each-map, few-unary, few-binary, passed-is-good}
+use Rattle.reading.proofs.Ends.{each-map}
+use Rattle.file.proofs.Whole.{few-unary, few-binary, passed-is-good}
 use Rattle.file.proofs.Theorems.{front-is-names}
 use Rattle.walk.specs.Input.{Input}
-use Rattle.text.specs.Inner.{Wrote}
+use Rattle.writing.specs.Writing.{Wrote}
 use Rattle.search.specs.Search as searching
 use Rattle.report.specs.Line.{brokenLine}
 use Rattle.report.specs.Report.{inputOf, Says, Reports}

@@ -5,7 +5,7 @@ use mathlib.Core.List.{List}
 use Prim.Native.Nat.{ℕ}
 use lib.ListN.{take}
 use Rattle.file.specs.Format.{Parts}
-use Rattle.file.specs.Offence.{Got}
+use Rattle.reading.specs.Reading.{Got}
 use Rattle.file.proofs.Prefix.{first-bytes-decide}
 use Rattle.report.specs.Report.{Says, Reports}
 

@@ -8,8 +8,8 @@ use native.Mathlib.Omega.{arith}
 use lib.ListN.{length, getD, take, drop, length-append}
 use lib.Seq.{take-append-seam}
 use Rattle.sequence.specs.Refusals.{Decided}
-use Rattle.file.specs.Numbers.{nameLength}
-use Rattle.file.specs.Offence.{Got, got, wholeNames}
+use Rattle.names.specs.Names.{nameLength, wholeNames, listed, namesIn}
+use Rattle.reading.specs.Reading.{Got, got}
 use Rattle.session.specs.Answers.{over}
 use Rattle.walk.specs.Formula.{size, Formula}
 use Rattle.walk.specs.Nodes.{Node, Spells, codes}
@@ -19,13 +19,12 @@ use Rattle.text.specs.declared.Printed.the-variants.{Text, Broken as NamesBroke
 use Rattle.formula.specs.Rule.{Broken}
 use Rattle.text.specs.Text.{text, mostText}
 use Rattle.text.specs.Print.{saidPrinted, printRows, PrintAnswer, PrintsBy, Prints}
-use Rattle.text.specs.Inner.{listed, namesIn}
-use Rattle.text.proofs.Names.{short-names}
+use Rattle.names.proofs.Starts.{short-names}
 use Rattle.text.proofs.Texts.{text-fits}
 use Rattle.formula.proofs.Spelled.{list-spells}
-use Rattle.text.specs.Inner.{Wrote}
-use Rattle.text.proofs.Writing.{wrote-both}
-use Rattle.file.proofs.Readers.{got-value}
+use Rattle.writing.specs.Writing.{Wrote}
+use Rattle.writing.proofs.Writing.{wrote-both}
+use Rattle.reading.proofs.Readers.{got-value}
 use Rattle.report.specs.Line.{newline, foundLine}
 use Rattle.report.specs.Inner.{Showable}
 

@@ -11,7 +11,8 @@ use lib.ListN.{length, drop, length-append}
 use Rattle.sequence.specs.Limits as limits
 use Rattle.session.specs.Numbers.{Outside}
 use Rattle.file.specs.Format.{Parts}
-use Rattle.file.specs.Offence.{Got, got, bad, wholeFile}
+use Rattle.reading.specs.Reading.{Got, got, bad}
+use Rattle.file.specs.Offence.{wholeFile}
 use Rattle.session.specs.Answers.{over}
 use Rattle.walk.specs.Formula.{Formula}
 use Rattle.walk.specs.Walk.{Ending, found, none, full, ended}

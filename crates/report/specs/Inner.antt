@@ -5,13 +5,14 @@ use mathlib.Core.List.{List, _++_}
 use Prim.Native.Nat.{ℕ, _≤_}
 use lib.ListN.{length}
 use Rattle.file.specs.Format.{Parts, Good}
-use Rattle.file.specs.Offence.{got, wholeNames}
+use Rattle.reading.specs.Reading.{got}
+use Rattle.names.specs.Names.{wholeNames}
 use Rattle.walk.specs.Formula.{Formula}
 use Rattle.walk.specs.Nodes.{Node, Spells, codes}
 use Rattle.walk.specs.Input.{Input}
 use Rattle.formula.specs.Rule.{Broken}
 use Rattle.text.specs.Text.{text}
-use Rattle.text.specs.Inner.{Wrote}
+use Rattle.writing.specs.Writing.{Wrote}
 use Rattle.report.specs.Line.{newline, foundLine}
 use Rattle.report.specs.Report.{inputOf, GoodSays}
 

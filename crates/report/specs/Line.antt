@@ -1,27 +1,8 @@
 -- The lines that the bench writes, byte by byte. Every line ends in a newline.
 -- Assumes nothing.
-use mathlib.Core.Bool.{cond}
 use mathlib.Core.List.{List, [], _∷_, _++_}
-use Prim.Native.Nat.{ℕ, zero, suc, _+_, _/_, _%_}
-use lib.Dec.{ltb}
-
--- ---- decimal numbers
-
--- `0` to `9`
-abbrev pub digit : ℕ → ℕ
-digit d = 48 + d
-
--- the digits of a number, the most significant first and that one not 0 but for 0 itself; at most so many, counted from the last
-unfoldable pub digits : ℕ → ℕ → List ℕ
-digits zero n = []
-digits (suc k) n = cond (ltb n 10) (digit n ∷ []) (digits k (n / 10) ++ (digit (n % 10) ∷ []))
-
--- 20 digits hold every number below 10 ^ 20, and so every one of 64 bits
-abbrev pub mostDigits : ℕ
-mostDigits = 20
-
-abbrev pub decimal : ℕ → List ℕ
-decimal n = digits mostDigits n
+use Prim.Native.Nat.{ℕ}
+use Rattle.writing.specs.Writing.{decimal}
 
 -- ---- the words of a line, as bytes
 

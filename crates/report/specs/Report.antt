@@ -7,7 +7,8 @@ use lib.ListN.{length}
 use Rattle.sequence.specs.Limits as limits
 use Rattle.session.specs.Numbers.{Outside}
 use Rattle.file.specs.Format.{Parts}
-use Rattle.file.specs.Offence.{Got, got, bad, wholeFile}
+use Rattle.reading.specs.Reading.{Got, got, bad}
+use Rattle.file.specs.Offence.{wholeFile}
 use Rattle.file.specs.Reading.{marksOf, lengthsOf, wordsOf}
 use Rattle.session.specs.Answers.{over}
 use Rattle.walk.specs.Formula.{Formula}

@@ -5,6 +5,7 @@ use file::ReadAnswer;
 use formula::kinds::Node;
 use search::SearchAnswer;
 use text::Printed;
+use writing::put;
 ghost use mathlib.Core.Path.{_≡_};
 ghost use Prim.Native.Nat.{_≤_};
 ghost use lib.ListN.{length};
@@ -25,7 +26,7 @@ fn found(
     text: &mut [u8],
 ) -> usize
     requires { ⌜ Showable (now names) (nodes (now codes) (now lefts) (now rights) (now sizes)) (nodeOf root)
-        × (length (now codes) ≡ length (nodes (now codes) (now lefts) (now rights) (now sizes))) × (512 ≤ length (now text)) ⌝ }
+        × (length (now codes) ≡ length (nodes (now codes) (now lefts) (now rights) (now sizes))) ⌝ }
     ensures { λ r. ⌜ ShownBy (now (names .entry)) (nodes (now (codes .entry)) (now (lefts .entry)) (now (rights .entry)) (now (sizes .entry))) (nodeOf root) tried
         (now (text .entry)) r (now (text .exit)) ⌝ }
 {
@@ -34,8 +35,8 @@ fn found(
     match printed {
         Printed::Text(length) => {
             let a = line::found(text, root.size, tried, codes.len());
-            let b = line::put(text, a, &shown[..length]);
-            line::put(text, b, b"\n")
+            let b = put(text, a, &shown[..length]);
+            put(text, b, b"\n")
         }
         Printed::Broken(at) => line::broken(text, at),
         Printed::Refused(number) => line::refused(text, number),

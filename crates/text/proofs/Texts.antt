@@ -13,7 +13,7 @@ use Rattle.sequence.specs.Table.{Listed, unaryRow, binaryRow}
 use Rattle.sequence.specs.Table.Listed.{unary as unary-row, binary as binary-row, neither as no-row}
 use Rattle.sequence.proofs.Groups.{unary-below, binary-between}
 use Rattle.sequence.proofs.Unique.{unary-one, binary-one}
-use Rattle.file.specs.Numbers.{nameLength}
+use Rattle.names.specs.Names.{nameLength}
 use Rattle.walk.specs.Formula.{leaf, unary, binary, size, Leaf, proposition, constant, Formula}
 use Rattle.walk.specs.Input.{mostSize}
 use Rattle.formula.specs.Rule.{IsUnary, IsBinary}

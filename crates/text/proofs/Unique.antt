@@ -7,7 +7,8 @@ use native.Mathlib.Decide.{ℕ-discrete}
 use native.Mathlib.Omega.{arith}
 use lib.ListN.{length}
 use Rattle.sequence.proofs.Refusals.{decided-unique}
-use Rattle.file.specs.Offence.{Got, got, bad, wholeNames}
+use Rattle.reading.specs.Reading.{Got, got, bad}
+use Rattle.names.specs.Names.{wholeNames}
 use Rattle.session.specs.Answers.{Said, over}
 use Rattle.walk.specs.Nodes.{Node}
 use Rattle.text.specs.declared.Printed.{Printed}

@@ -1,11 +1,8 @@
 -- `found` meets its contract: the names and the list can be printed, so the counts, the text and the line's end are written.
 -- Assumes nothing.
 use mathlib.Core.Path.{refl, sym, ap, _∙_}
-use native.Mathlib.Omega.{arith}
 use lib.ListN.{length}
 use Rattle.formula.specs.Kinds.{nodeOf, nodes}
-use Rattle.text.proofs.Writing.{wrote-length}
-use Rattle.report.proofs.Digits.{found-short}
 use Rattle.report.proofs.Shown.{text-front, found-written, no-offset, no-number}
 use borrow.Author.Needs.{needs}
 use Rattle.report.proofs.found.Statement.{statement}
@@ -15,7 +12,7 @@ use Rattle.report.proofs.found.Lts as lts
 use Rattle.text.proofs.print.Reads as print-reads
 use Rattle.report.proofs.line.broken.Reads as broken-reads
 use Rattle.report.proofs.line.found.Reads as found-reads
-use Rattle.report.proofs.line.put.Reads as put-reads
+use Rattle.writing.proofs.put.Reads as put-reads
 use Rattle.report.proofs.line.refused.Reads as refused-reads
 
 -- src/lib.rt:33:76
@@ -44,7 +41,7 @@ slice-aggregate-put c = let a = c .before .before .before .before .before .befor
 
 -- src/lib.rt:37:17
 put-requires : tie.Need-put-requires
-put-requires c κs = let a = c .before .before .before .before .before .before .before .before .before .before .before .before .before .before .before .before .before .before .args in let f = text-front (a .names .now) (nodes (a .codes .now) (a .lefts .now) (a .rights .now) (a .sizes .now)) (nodeOf (a .root)) (c .before .before .before .before .before .before .before .before .before .before .before .before .before .before .before .before .before .before .pre .0) _ refl (c .before .before .before .before .before .before .before .before .before .before .print .result) _ (c .before .before .before .before .before .before .before .before .before .before .print .ensures) (c .before .before .before .before .before .before .before .printed .given .1) in let w = c .before .before .before .before .found .ensures in omega (arith, w .next, found-short (a .root .size) (a .tried) (length (a .codes .now)), wrote-length _ w, ap length (f .is), f .few, f .long, c .before .before .before .before .before .before .before .before .before .before .before .before .before .before .before .before .before .before .pre .2)
+put-requires c κs = search needs
 
 -- src/lib.rt:38:32
 slice-aggregate-put-2 : tie.Need-slice-aggregate-put-2
@@ -52,7 +49,7 @@ slice-aggregate-put-2 c = search needs
 
 -- src/lib.rt:38:13
 put-requires-2 : tie.Need-put-requires-2
-put-requires-2 c κs = let a = c .before .before .before .before .before .before .before .before .before .before .before .before .before .before .before .before .before .before .before .before .before .before .before .args in let f = text-front (a .names .now) (nodes (a .codes .now) (a .lefts .now) (a .rights .now) (a .sizes .now)) (nodeOf (a .root)) (c .before .before .before .before .before .before .before .before .before .before .before .before .before .before .before .before .before .before .before .before .before .before .before .pre .0) _ refl (c .before .before .before .before .before .before .before .before .before .before .before .before .before .before .before .print .result) _ (c .before .before .before .before .before .before .before .before .before .before .before .before .before .before .before .print .ensures) (c .before .before .before .before .before .before .before .before .before .before .before .before .printed .given .1) in let w = c .before .before .before .before .before .before .before .before .before .found .ensures in let v = c .before .before .before .before .put .ensures in omega (arith, w .next, v .next, found-short (a .root .size) (a .tried) (length (a .codes .now)), wrote-length _ w, wrote-length _ v, ap length (f .is), f .few, f .long, c .before .before .before .before .before .before .before .before .before .before .before .before .before .before .before .before .before .before .before .before .before .before .before .pre .2)
+put-requires-2 c κs = search needs
 
 -- src/lib.rt:40:25
 enum-known-printed-2 : tie.Need-enum-known-printed-2

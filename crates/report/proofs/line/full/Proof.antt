@@ -1,10 +1,9 @@
 -- `full` meets its contract: the size with its word, and the counts.
 -- Assumes nothing.
-use native.Mathlib.Omega.{arith}
-use Rattle.text.proofs.Writing.{wrote-both}
+use Rattle.writing.proofs.Writing.{wrote-both}
 use mathlib.Core.List.{_++_}
-use Rattle.report.specs.Line.{decimal, fullSizeWord, counts}
-use Rattle.report.proofs.Digits.{wrote-number}
+use Rattle.writing.specs.Writing.{decimal}
+use Rattle.report.specs.Line.{fullSizeWord, counts}
 use borrow.Author.Needs.{needs}
 use Rattle.report.proofs.line.full.Statement.{statement}
 use Rattle.report.proofs.line.full.Tie as tie
@@ -16,7 +15,7 @@ put-number-requires : tie.Need-put-number-requires
 put-number-requires c κs = search needs
 
 put-counts-requires : tie.Need-put-counts-requires
-put-counts-requires c κs = let a = c .before .before .before .before .before .before .before .args in omega (arith, wrote-number fullSizeWord (a .size) (c .before .before .before .put-number .ensures))
+put-counts-requires c κs = search needs
 
 same-length : tie.Need-same-length
 same-length c = search needs

@@ -1,6 +1,6 @@
 -- `none` meets its contract: the word, and the counts.
 -- Assumes nothing.
-use Rattle.text.proofs.Writing.{wrote-both}
+use Rattle.writing.proofs.Writing.{wrote-both}
 use Rattle.report.specs.Line.{noneWord, counts}
 use borrow.Author.Needs.{needs}
 use Rattle.report.proofs.line.none.Statement.{statement}

@@ -1,9 +1,8 @@
 -- `put_counts` meets its contract: two numbers with their words, and the line's end.
 -- Assumes nothing.
-use native.Mathlib.Omega.{arith}
-use Rattle.text.proofs.Writing.{wrote-both}
-use Rattle.report.specs.Line.{decimal, triedWord, keptWord, newline}
-use Rattle.report.proofs.Digits.{wrote-number}
+use Rattle.writing.proofs.Writing.{wrote-both}
+use Rattle.writing.specs.Writing.{decimal}
+use Rattle.report.specs.Line.{triedWord, keptWord, newline}
 use mathlib.Core.List.{_++_}
 use borrow.Author.Needs.{needs}
 use Rattle.report.proofs.line.put_counts.Statement.{statement}
@@ -19,13 +18,13 @@ slice-aggregate-put-number-2 : tie.Need-slice-aggregate-put-number-2
 slice-aggregate-put-number-2 c = search needs
 
 put-number-requires-2 : tie.Need-put-number-requires-2
-put-number-requires-2 c κs = let a = c .before .before .before .before .before .before .before .before .args in omega (arith, wrote-number triedWord (a .tried) (c .before .before .before .before .put-number .ensures))
+put-number-requires-2 c κs = search needs
 
 slice-aggregate-put : tie.Need-slice-aggregate-put
 slice-aggregate-put c = search needs
 
 put-requires : tie.Need-put-requires
-put-requires c κs = let a = c .before .before .before .before .before .before .before .before .before .before .before .before .before .args in omega (arith, wrote-number triedWord (a .tried) (c .before .before .before .before .before .before .before .before .before .put-number .ensures), wrote-number keptWord (a .kept) (c .before .before .before .before .put-number2 .ensures))
+put-requires c κs = search needs
 
 same-length : tie.Need-same-length
 same-length c = search needs

@@ -1,10 +1,9 @@
 -- `refused` meets its contract: the number with its word, and the line's end.
 -- Assumes nothing.
-use native.Mathlib.Omega.{arith}
-use Rattle.text.proofs.Writing.{wrote-both}
+use Rattle.writing.proofs.Writing.{wrote-both}
 use mathlib.Core.List.{_++_}
-use Rattle.report.specs.Line.{decimal, refusedWord, newline}
-use Rattle.report.proofs.Digits.{wrote-number}
+use Rattle.writing.specs.Writing.{decimal}
+use Rattle.report.specs.Line.{refusedWord, newline}
 use borrow.Author.Needs.{needs}
 use Rattle.report.proofs.line.refused.Statement.{statement}
 use Rattle.report.proofs.line.refused.Tie as tie
@@ -19,7 +18,7 @@ slice-aggregate-put : tie.Need-slice-aggregate-put
 slice-aggregate-put c = search needs
 
 put-requires : tie.Need-put-requires
-put-requires c κs = let a = c .before .before .before .before .before .before .before .before .args in omega (arith, wrote-number refusedWord (a .number) (c .before .before .before .before .put-number .ensures))
+put-requires c κs = search needs
 
 same-length : tie.Need-same-length
 same-length c = search needs
