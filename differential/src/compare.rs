@@ -88,7 +88,7 @@ impl Batch {
             input.extend_from_slice(query.line().as_bytes());
         }
         assert_eq!(input.len(), self.queries.len() * QUERY_LINE);
-        let output = program::output("replay", input)?;
+        let output = program::output("run_replay", input)?;
         if output.len() != self.queries.len() * ANSWER_LINE {
             return Err(format!("{} bytes for {} queries", output.len(), self.queries.len()));
         }
@@ -175,7 +175,7 @@ fn broken(tally: &mut Tally) -> Result<u64, String> {
     }
     input.extend_from_slice(&good.as_bytes()[..QUERY_LINE - 1]);
     expected += &no_query;
-    let output = program::output("replay", input)?;
+    let output = program::output("run_replay", input)?;
     let expected = expected.into_bytes();
     if output.len() != expected.len() {
         return Err(format!("{} bytes where {} are due", output.len(), expected.len()));
@@ -245,7 +245,7 @@ fn compared(extent: &Extent) -> Result<bool, String> {
     }
 
     println!(
-        "answers of the Rust: {from_rust}; refusals of document 01: {from_01}; replay's own rule for lines: {own}"
+        "answers of the Rust: {from_rust}; refusals of document 01: {from_01}; run_replay's own rule for lines: {own}"
     );
     if let Some((query, answer, wrote)) = &tally.smallest {
         println!("smallest that differs: {query} = {answer}; our program wrote {wrote}");

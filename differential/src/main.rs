@@ -36,7 +36,7 @@ const USAGE: &str = "differential: one of
   calls [ROUNDS]           operators, check, print and read of the C boundary (default: 20 rounds); with --archive before it, as above
   speed                    how fast our search runs beside the Rust's; only with --profile speed --features published-hash
   collision                an input on which the Rust's published hash loses a formula (with --features published-hash; without, exact keys)
-  sample                   writes the stored answers anew: crates/replay/stdin and stdout, crates/settled/stdout, crates/searches/src/sample.rt and stdout
+  sample                   writes the stored answers anew: crates/run_replay/stdin and stdout, crates/run_settled/stdout, crates/run_searches/src/sample.rt and stdout
   findings                 what the Rust does outside document 01's domain";
 
 fn main() {

@@ -1,4 +1,4 @@
-//! A question to the operators, its answer, and the lines in which our program `replay` reads and writes them.
+//! A question to the operators, its answer, and the lines in which our program `run_replay` reads and writes them.
 use std::fmt;
 
 /// A length and a word, well formed or not.
@@ -21,7 +21,7 @@ pub enum Answer {
     Refused(u8),
 }
 
-/// What `replay` answers a line that is no query.
+/// What `run_replay` answers a line that is no query.
 pub const NO_QUERY: u8 = 0xff;
 
 pub const QUERY_LINE: usize = 72;

@@ -68,11 +68,11 @@ fn sample() -> Sample {
     }
     Sample {
         files: [
-            ("crates/replay/stdin", stdin),
-            ("crates/replay/stdout", stdout),
-            ("crates/settled/stdout", settled::lines()),
-            ("crates/searches/src/sample.rt", stored::module()),
-            ("crates/searches/stdout", searches()),
+            ("crates/run_replay/stdin", stdin),
+            ("crates/run_replay/stdout", stdout),
+            ("crates/run_settled/stdout", settled::lines()),
+            ("crates/run_searches/src/sample.rt", stored::module()),
+            ("crates/run_searches/stdout", searches()),
         ],
         from_rust: queries.len(),
         from_01: refusals.len(),
@@ -81,7 +81,7 @@ fn sample() -> Sample {
 
 /// What `searches` prints: its own lines, which come from document 01's prose and stay, and then the Rust's.
 fn searches() -> String {
-    let stands = fs::read_to_string(root().join("crates/searches/stdout")).unwrap_or_default();
+    let stands = fs::read_to_string(root().join("crates/run_searches/stdout")).unwrap_or_default();
     let own = stands.lines().filter(|line| !line.starts_with("sample "));
     own.map(|line| line.to_string() + "\n").collect::<String>() + &stored::lines()
 }
@@ -107,9 +107,9 @@ pub fn run() -> i32 {
         }
     }
     println!(
-        "crates/replay/stdin and stdout: the first {} lines are the Rust's answers, the last {} document 01's refusals",
+        "crates/run_replay/stdin and stdout: the first {} lines are the Rust's answers, the last {} document 01's refusals",
         sample.from_rust, sample.from_01
     );
-    println!("crates/searches: the lines that start with `sample` are the Rust's answers");
+    println!("crates/run_searches: the lines that start with `sample` are the Rust's answers");
     0
 }

@@ -37,7 +37,7 @@ fn read_file(file: &mut [u8]) -> Taken
 // The answer goes out whole, or a line on standard error says that it didn't.
 fn answer(file: &[u8]) {
     let mut text = [0u8; 512];
-    let length = report::report(file, ROOM, &mut text);
+    let length = lines::of_file(file, ROOM, &mut text);
     if !io::write_all(STDOUT_FILENO, &text[..length]) {
         io::write_all(
             STDERR_FILENO,

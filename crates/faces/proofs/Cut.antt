@@ -11,7 +11,8 @@ use lib.Seq.{take-all}
 use Rattle.rules.specs.Refusals.{Row, Decided}
 use Rattle.rules.proofs.Refusals.{Numbered, decided-none}
 use Rattle.session.specs.Data.{dataRows}
-use Rattle.file.specs.Offence.{Got, got, bad, wholeNames}
+use Rattle.reading.specs.Reading.{Got, got, bad}
+use Rattle.names.specs.Names.{wholeNames}
 use Rattle.rules.specs.Answers.{Said}
 use Rattle.formula.specs.Nodes as walk
 use Rattle.session.specs.Recording.{Recording}

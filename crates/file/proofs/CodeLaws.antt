@@ -12,12 +12,13 @@ use Rattle.sequence.specs.Operators.{Unary, Binary, unaryCode, binaryCode}
 use Rattle.sequence.specs.Operators.Unary.{not, weakNext, strongNext, finally, globally}
 use Rattle.sequence.specs.Operators.Binary.{or, and, until, release, implies, equiv}
 use Rattle.file.specs.Numbers.{bound}
-use Rattle.file.specs.Format.{one, section, GoodUnary, GoodBinary}
-use Rattle.file.specs.Offence.{got, byte, within, isIn, isUnary, isBinary, code, Settings, settings}
+use Rattle.reading.specs.Reading.{one, section, got, byte, within, isIn}
+use Rattle.file.specs.Format.{GoodUnary, GoodBinary}
+use Rattle.file.specs.Offence.{isUnary, isBinary, code, Settings, settings}
 use Rattle.file.specs.Inner.{groupOf}
-use Rattle.file.proofs.Spans.{Spans, both, first, second}
-use Rattle.file.proofs.Lists.{and-first, and-second, and-both, not-in, in-not, within-low, within-high, within-is}
-use Rattle.file.proofs.Readers.{got-value, got-next, in-turn, byte-sound, byte-complete, Sound, Complete}
+use Rattle.reading.proofs.Spans.{Spans, both, first, second}
+use Rattle.reading.proofs.Lists.{and-first, and-second, and-both, not-in, in-not, within-low, within-high, within-is}
+use Rattle.reading.proofs.Readers.{got-value, got-next, in-turn, byte-sound, byte-complete, Sound, Complete}
 
 -- ---- the groups
 

@@ -13,13 +13,16 @@ use lib.Dec.{ltb, leb}
 use lib.ListN.{length, getD, take, drop, length-take, length-append}
 use lib.Seq.{take-nil, take-take, getD-take, drop-append-seam}
 use Rattle.words.specs.Word.{width}
-use Rattle.file.specs.Numbers.{sessions, propositions, bound, nameLength}
+use Rattle.file.specs.Numbers.{sessions, propositions, bound}
+use Rattle.names.specs.Names.{nameLength, letter, name, sameBytes, notTwice, namesUpTo}
 use Rattle.file.specs.Format.{Session, Parts, fileBytes, Good}
-use Rattle.file.specs.Offence.{got, bad, Reader, andThen, each, byte, within, counted, letter, name, isIn, sameBytes, notTwice, namesUpTo, number, word, session, allSessions, isUnary, isBinary, code, codes, Settings, settings, atEnd, parts, wholeFile}
-use Rattle.file.proofs.Readers.{got-bad, got-next, in-turn, byte-sound}
-use Rattle.file.proofs.Steps.{byte-next}
-use Rattle.file.proofs.Spans.{Spans}
-use Rattle.file.proofs.Whole.{parts-complete, whole-run}
+use Rattle.reading.specs.Reading.{got, bad, Reader, andThen, each, byte, within, counted, isIn, atEnd}
+use Rattle.file.specs.Offence.{number, word, session, allSessions, isUnary, isBinary, code, codes, Settings, settings, parts, wholeFile}
+use Rattle.reading.proofs.Readers.{got-bad, got-next, in-turn, byte-sound}
+use Rattle.reading.proofs.Steps.{byte-next}
+use Rattle.reading.proofs.Spans.{Spans}
+use Rattle.file.proofs.Whole.{parts-complete}
+use Rattle.reading.proofs.Ends.{whole-run}
 
 pub drop-take : (n k : ℕ) (l : List ℕ) → drop n (take k l) ≡ take (k - n) (drop n l)
 drop-take zero k l = let z : k - 0 ≡ k = omega arith in rw z

@@ -8,6 +8,7 @@ use native.Mathlib.Numerals.{add-one}
 use native.Mathlib.Omega.{arith}
 use lib.ListN.{length, getD, take, drop, set, length-set}
 use lib.Seq.{sets, length-sets, drop-drop, getD-drop}
+use Rattle.writing.proofs.Writing.{sets-both}
 use Rattle.file.specs.Offence.{number}
 use Rattle.file.specs.Inner.{strided, wordsAt, sessionWords}
 
@@ -79,10 +80,6 @@ pub length-words : (m : ℕ) (l : List ℕ) → length (wordsAt m l) ≡ m
 unfolding wordsAt
 length-words zero l = refl
 length-words (suc m) l = ap suc (length-words m (drop 8 l))
-
-pub sets-both : (l : List ℕ) (k : ℕ) (u v : List ℕ) → sets l k (u ++ v) ≡ sets (sets l k u) (k + length u) v
-sets-both l k [] v = ap (λ (x : ℕ). sets l x v) (omega arith)
-sets-both l k (a ∷ u) v = sets-both (set l k a) (suc k) u v ∙ ap (λ (x : ℕ). sets (sets (set l k a) (suc k) u) x v) (omega arith)
 
 module _ (to₀ file : List ℕ) (at m n : ℕ) where
   pub record Blocks (to : List ℕ) (i k p : ℕ) : Type 0 where

@@ -9,12 +9,16 @@ use lib.Dec.{lit<, lit≤}
 use lib.ListN.{length, replicate, length-append}
 use Rattle.words.specs.Word.{Wf}
 use Rattle.words.proofs.At.{lt-wf}
-use Rattle.file.specs.Format.{Session, Parts, one, section, nameBytes, fileBytes, GoodName, GoodSession, Good}
+use Rattle.file.specs.Format.{Session, Parts, fileBytes, GoodSession, Good}
+use Rattle.reading.specs.Reading.{one, section, got, each, byte}
+use Rattle.names.specs.Names.{nameBytes, GoodName, name, namesUpTo}
 use Rattle.rules.specs.Lists.{Each}
-use Rattle.file.specs.Offence.{got, each, byte, name, namesUpTo, codes, isUnary, isBinary}
-use Rattle.file.proofs.Lists.{ones}
+use Rattle.file.specs.Offence.{codes, isUnary, isBinary}
+use Rattle.reading.proofs.Lists.{ones}
 use Rattle.file.proofs.CodeLaws.{unary-good, good-unary, binary-good, good-binary}
-use Rattle.file.proofs.Whole.{each-map, few-unary, few-binary, names-sound, codes-sound}
+use Rattle.reading.proofs.Ends.{each-map}
+use Rattle.file.proofs.Whole.{few-unary, few-binary, codes-sound}
+use Rattle.names.proofs.NameLaws.{names-sound}
 use Rattle.file.proofs.Positions.{layout}
 
 -- ---- none is longer

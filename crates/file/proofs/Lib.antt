@@ -1,12 +1,7 @@
-pub mod Spans
-pub mod Lists
-pub mod Readers
 pub mod Numbers
-pub mod NameLaws
 pub mod SessionLaws
 pub mod CodeLaws
 pub mod Whole
-pub mod Steps
 pub mod Walks
 pub mod Turns
 pub mod Sections

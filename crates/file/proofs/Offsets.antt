@@ -10,13 +10,16 @@ use borrow.Author.Tests.{ltb-false, leb-false}
 use lib.Dec.{ltb, leb, eqb}
 use lib.ListN.{length, getD, take, drop, length-append}
 use Rattle.words.specs.Word.{width}
-use Rattle.file.specs.Numbers.{sessions, propositions, bound, nameLength}
+use Rattle.file.specs.Numbers.{sessions, propositions, bound}
+use Rattle.names.specs.Names.{nameLength, letter, name, sameBytes, notTwice, namesUpTo, wholeNames}
 use Rattle.rules.specs.Lists.{Each}
-use Rattle.file.specs.Offence.{Got, got, bad, Reader, andThen, each, byte, within, counted, letter, name, isIn, sameBytes, notTwice, namesUpTo, number, word, session, allSessions, isUnary, isBinary, code, codes, settings, atEnd, parts, wholeFile, wholeNames}
-use Rattle.file.proofs.Lists.{within-high}
-use Rattle.file.proofs.Readers.{got-bad, byte-sound}
+use Rattle.reading.specs.Reading.{Got, got, bad, Reader, andThen, each, byte, within, counted, isIn, atEnd}
+use Rattle.file.specs.Offence.{number, word, session, allSessions, isUnary, isBinary, code, codes, settings, parts, wholeFile}
+use Rattle.reading.proofs.Lists.{within-high}
+use Rattle.reading.proofs.Readers.{got-bad, byte-sound}
 use Rattle.file.proofs.CodeLaws.{New, new-sound}
-use Rattle.file.proofs.Whole.{names-sound, few-unary, few-binary}
+use Rattle.names.proofs.NameLaws.{names-sound}
+use Rattle.file.proofs.Whole.{few-unary, few-binary}
 
 -- what was read ends, or what offends stands, at `top` at the latest
 abbrev pub Upto : {A : Type 0} → ℕ → Got A → Type 0

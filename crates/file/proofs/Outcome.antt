@@ -12,8 +12,10 @@ use lib.Seq.{sets}
 use Rattle.file.specs.declared.ReadAnswer.{ReadAnswer}
 use Rattle.file.specs.declared.ReadAnswer.the-variants.{Parts as AllParts, Broken, Room}
 use Rattle.file.specs.Numbers.{sessions, propositions}
-use Rattle.file.specs.Format.{Parts, section, nameBytes, Good}
-use Rattle.file.specs.Offence.{Got, got, bad, wholeFile}
+use Rattle.file.specs.Format.{Parts, Good}
+use Rattle.reading.specs.Reading.{section, Got, got, bad}
+use Rattle.names.specs.Names.{nameBytes}
+use Rattle.file.specs.Offence.{wholeFile}
 use Rattle.file.specs.Reading.{said, Lent, lent, after, marksOf, lengthsOf, wordsOf, roomFor, readOf}
 use Rattle.rules.specs.Answers.{over}
 use Rattle.file.specs.Inner.{numbersOf, answerOf, strided, sessionWords}

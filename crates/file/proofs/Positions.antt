@@ -10,16 +10,18 @@ use lib.ListN.{length, drop, length-append}
 use lib.Seq.{sets, sets-eq, drop-drop, drop-at, take-at}
 use Rattle.words.specs.Word.{Wf}
 use Rattle.words.proofs.At.{wf-lt}
-use Rattle.file.specs.Format.{Session, Parts, one, section, nameBytes, wordBytes, sessionBytes, fileBytes, GoodSession, Good}
+use Rattle.file.specs.Format.{Session, Parts, wordBytes, sessionBytes, fileBytes, GoodSession, Good}
+use Rattle.reading.specs.Reading.{one, section}
+use Rattle.names.specs.Names.{nameBytes}
 use Rattle.rules.specs.Lists.{Each}
 use Rattle.file.specs.Offence.{number}
 use Rattle.file.specs.Reading.{marksOf, lengthsOf, wordsOf}
 use Rattle.rules.specs.Answers.{over}
 use Rattle.file.specs.Inner.{strided, wordsAt, sessionWords}
-use Rattle.file.proofs.Lists.{ones}
+use Rattle.reading.proofs.Lists.{ones}
 use Rattle.file.proofs.Numbers.{length-low, number-low}
-use Rattle.file.proofs.Spans.{Spans, second}
-use Rattle.file.proofs.Whole.{whole-run}
+use Rattle.reading.proofs.Spans.{Spans, second}
+use Rattle.reading.proofs.Ends.{whole-run}
 
 -- ---- words
 

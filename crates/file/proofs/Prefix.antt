@@ -12,13 +12,16 @@ use borrow.Author.Tests.{lt-ltb, le-leb, ne-eqb}
 use lib.ListN.{length, take, drop, length-take, length-append}
 use lib.Seq.{getD-take, take-all, take-take}
 use Rattle.words.specs.Word.{width}
-use Rattle.file.specs.Numbers.{sessions, propositions, bound, nameLength}
+use Rattle.file.specs.Numbers.{sessions, propositions, bound}
+use Rattle.names.specs.Names.{nameLength, letter, name, namesUpTo}
 use Rattle.rules.specs.Lists.{Each}
-use Rattle.file.specs.Offence.{Got, got, bad, Reader, andThen, each, byte, within, counted, letter, name, namesUpTo, word, session, allSessions, isUnary, isBinary, code, codes, settings, atEnd, parts, wholeFile}
-use Rattle.file.proofs.Lists.{within-high}
-use Rattle.file.proofs.Readers.{byte-sound}
+use Rattle.reading.specs.Reading.{Got, got, bad, Reader, andThen, each, byte, within, counted, atEnd}
+use Rattle.file.specs.Offence.{word, session, allSessions, isUnary, isBinary, code, codes, settings, parts, wholeFile}
+use Rattle.reading.proofs.Lists.{within-high}
+use Rattle.reading.proofs.Readers.{byte-sound}
 use Rattle.file.proofs.CodeLaws.{New, new-sound}
-use Rattle.file.proofs.Whole.{names-sound, few-unary, few-binary}
+use Rattle.names.proofs.NameLaws.{names-sound}
+use Rattle.file.proofs.Whole.{few-unary, few-binary}
 use Rattle.file.proofs.Cuts.{drop-take}
 use Rattle.file.proofs.Offsets.{Upto, byte-upto, letter-upto, name-upto, word-upto, session-upto, each-more, codes-upto, names-upto, sessions-upto, parts-upto}
 

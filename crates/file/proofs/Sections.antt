@@ -1,59 +1,30 @@
--- One name, one session, the settings and the whole file, step by step as the code takes them.
+-- One session, the settings and the whole file, step by step as the code takes them.
 -- Assumes nothing.
 use mathlib.Core.Path.{_≡_, refl, sym, ap, _∙_}
 use mathlib.Core.Bool.{Bool, true, false, cond}
 use mathlib.Core.List.{List, []}
-use Prim.Native.Nat.{ℕ, _+_, _≤_, _<_}
+use Prim.Native.Nat.{ℕ, _+_, _<_}
 use native.Mathlib.Omega.{arith}
 use borrow.Author.Tests.{eq-eqb, ne-eqb}
 use lib.Dec.{eqb}
-use lib.ListN.{length, getD, take, drop}
+use lib.ListN.{length, getD}
 use Rattle.words.specs.Word.{width}
-use Rattle.file.specs.declared.bytes.Step.{Step}
-use Rattle.file.specs.declared.bytes.Step.the-variants.{Read, Broken}
+use Rattle.reading.specs.declared.Step.{Step}
+use Rattle.reading.specs.declared.Step.the-variants.{Read, Broken}
 use Rattle.file.specs.declared.Tail.{Tail}
 use Rattle.file.specs.declared.Tail.the-variants.{Read as TailRead, Broken as TailBroken}
 use Rattle.file.specs.declared.ReadAnswer.{ReadAnswer}
 use Rattle.file.specs.declared.ReadAnswer.the-variants.{Parts as AllParts, Broken as FileBroken}
-use Rattle.file.specs.declared.names.NamesAnswer.the-variants.{Names, Broken as NamesBroken}
-use Rattle.file.specs.Numbers.{propositions, bound, nameLength}
-use Rattle.file.specs.Format.{Session, Parts, section, nameBytes}
-use Rattle.file.specs.Offence.{Got, got, bad, andThen, each, byte, within, letter, name, isIn, sameBytes, notTwice, namesUpTo, word, session, allSessions, isUnary, isBinary, codes, Settings, settings, atEnd, parts, wholeFile}
-use Rattle.file.specs.Reading.{saidNames, namesSaid}
-use Rattle.file.specs.Inner.{stepOf, wordCount, tailOf, tailAt, numbersOf, answerOf}
-use Rattle.file.proofs.Steps.{step-read, step-broken, byte-read, byte-next}
-use Rattle.file.proofs.NameLaws.{name-cut, name-odd, name-whole, name-room, letters-are}
-use Rattle.file.proofs.Whole.{names-sound}
+use Rattle.file.specs.Numbers.{propositions, bound}
+use Rattle.names.specs.Names.{nameBytes, namesUpTo}
+use Rattle.file.specs.Format.{Session, Parts}
+use Rattle.reading.specs.Reading.{section, Got, got, bad, andThen, each, byte, within, atEnd, stepOf}
+use Rattle.file.specs.Offence.{word, session, allSessions, isUnary, isBinary, codes, Settings, settings, parts, wholeFile}
+use Rattle.file.specs.Inner.{wordCount, tailOf, tailAt, numbersOf, answerOf}
+use Rattle.reading.proofs.Steps.{step-read, step-broken, byte-read, byte-next}
+use Rattle.names.proofs.NameLaws.{names-sound}
 
 module _ (file : List ℕ) where
-  -- ---- one name
-
-  module _ (before : List (List ℕ)) (at : ℕ) (r : Step) (e : r ≡ stepOf (λ b. b) (byte (within 1 nameLength) file at)) where
-    pub name-no-length : {o : ℕ} → r ≡ Broken o → Broken o ≡ stepOf length (name before file at)
-    name-no-length q = ap (stepOf length) (sym (name-cut file before at (step-broken (λ b. b) r (byte (within 1 nameLength) file at) e q)))
-
-    module _ {n next : ℕ} (q : r ≡ Read n next) (s : Step) (d : s ≡ stepOf length (each letter n [] file next)) where
-      long : byte (within 1 nameLength) file at ≡ got n next
-      long = byte-read r (byte (within 1 nameLength) file at) e q
-
-      pub name-bad-letter : {o : ℕ} → s ≡ Broken o → Broken o ≡ stepOf length (name before file at)
-      name-bad-letter p = ap (stepOf length) (sym (name-odd file before at long (step-broken length s (each letter n [] file next) d p)))
-
-      module _ {v end : ℕ} (p : s ≡ Read v end) where
-        read : (letters : List ℕ) × (each letter n [] file next ≡ got letters end) × (length letters ≡ v)
-        read = step-read length s (each letter n [] file next) d p
-
-        pub name-fits : next + n ≤ length file
-        name-fits = name-room file at long (read .1)
-
-        pub name-twice : isIn sameBytes (take n (drop next file)) before ≡ true → Broken at ≡ stepOf length (name before file at)
-        name-twice t = ap (stepOf length) (sym (name-whole file before at long (read .1) ∙ ap (λ (b : Bool). notTwice b at (read .0) end) t))
-
-        pub name-new : isIn sameBytes (take n (drop next file)) before ≡ false → Read n end ≡ stepOf length (name before file at)
-        name-new t =
-            ap (λ (k : ℕ). Read k end) (sym (letters-are file n next (read .1) .1))
-            ∙ ap (stepOf length) (sym (name-whole file before at long (read .1) ∙ ap (λ (b : Bool). notTwice b at (read .0) end) t))
-
   -- ---- one session
 
   module _ (m at : ℕ) (r : Step) (e : r ≡ stepOf (λ b. b) (byte (within 0 1) file at)) where
@@ -198,21 +169,3 @@ module _ (file : List ℕ) where
               pub judge-whole : {constants bound : ℕ} → x ≡ TailRead constants bound → AllParts n m a u v constants bound ≡ answerOf file
               unfolding answer
               judge-whole z = ap answer (sym z) ∙ judged
-
-  -- ---- a names section with nothing after it
-
-  module _ (r : Step) (e : r ≡ stepOf length (namesUpTo propositions file 0)) where
-    pub section-bad : {o : ℕ} → r ≡ Broken o → saidNames (NamesBroken o) ≡ namesSaid file
-    unfolding atEnd
-    section-bad q = rw (step-broken length r (namesUpTo propositions file 0) e q)
-
-    module _ {m a : ℕ} (q : r ≡ Read m a) where
-      pub section-extra : (a ≡ length file → ⊥) → saidNames (NamesBroken a) ≡ namesSaid file
-      unfolding atEnd
-      section-extra n = rw (step-read length r (namesUpTo propositions file 0) e q .1, ne-eqb a (length file) n)
-
-      pub section-whole : a ≡ length file → saidNames (Names m) ≡ namesSaid file
-      unfolding atEnd
-      section-whole n =
-          let t = step-read length r (namesUpTo propositions file 0) e q in
-          rw (t .1, eq-eqb a (length file) n, t .2)

@@ -14,11 +14,12 @@ use lib.ListN.{length, take, drop, length-append, length-take, length-drop, take
 use lib.Seq.{drop-drop, getD-take, getD-drop}
 use Rattle.words.specs.Word.{width, Wf}
 use Rattle.words.proofs.At.{lt-wf, wf-lt}
-use Rattle.file.specs.Format.{Session, one, wordBytes, sessionBytes, lowFirst, GoodSession}
-use Rattle.file.specs.Offence.{got, bad, each, byte, within, number, word, session}
-use Rattle.file.proofs.Spans.{Spans, both, first, second, taken}
-use Rattle.file.proofs.Lists.{within-high, within-is}
-use Rattle.file.proofs.Readers.{got-bad, got-value, got-next, in-turn, byte-sound, byte-complete, Sound, Complete, row-sound, row-complete}
+use Rattle.file.specs.Format.{Session, wordBytes, sessionBytes, lowFirst, GoodSession}
+use Rattle.reading.specs.Reading.{one, got, bad, each, byte, within}
+use Rattle.file.specs.Offence.{number, word, session}
+use Rattle.reading.proofs.Spans.{Spans, both, first, second, taken}
+use Rattle.reading.proofs.Lists.{within-high, within-is}
+use Rattle.reading.proofs.Readers.{got-bad, got-value, got-next, in-turn, byte-sound, byte-complete, Sound, Complete, row-sound, row-complete}
 use Rattle.file.proofs.Numbers.{Bytes, length-low, number-low, low-number}
 
 bytes-take : (n : ℕ) (l : List ℕ) → Bytes l → Bytes (take n l)

@@ -4,7 +4,7 @@
 use mathlib.Core.Path.{_≡_, refl, sym, ap, _∙_}
 use mathlib.Core.Logic.{_↔_}
 use mathlib.Core.Bool.{true}
-use mathlib.Core.List.{List, [], _∷_, _++_, map, flatMap, List·Memᴰ, List·Memᴰ·head, List·Memᴰ·tail, Memᴰ·cast, append-nil, append-assoc}
+use mathlib.Core.List.{List, [], _∷_, _++_, map, flatMap, List·Memᴰ, List·Memᴰ·head, List·Memᴰ·tail, Memᴰ·cast}
 use Prim.Native.Nat.{ℕ, zero, suc, _+_, _*_, _≤_, _<_}
 use native.Mathlib.Nat.{suc-mul}
 use native.Mathlib.Omega.{arith}
@@ -15,18 +15,19 @@ use Rattle.rules.specs.Refusals.{Decided}
 use Rattle.sequence.specs.Operators.{Unary, Binary, unaryCode, binaryCode}
 use Rattle.file.specs.declared.ReadAnswer.{ReadAnswer}
 use Rattle.file.specs.declared.ReadAnswer.the-variants.{Parts as AllParts, Broken, Room}
-use Rattle.file.specs.declared.names.NamesAnswer.{NamesAnswer}
-use Rattle.file.specs.declared.names.NamesAnswer.the-variants.{Names, Broken as NamesBroken}
-use Rattle.file.specs.Numbers.{propositions}
-use Rattle.file.specs.Format.{Session, Parts, one, section, nameBytes, sessionBytes, fileBytes, GoodName, GoodSession, GoodUnary, GoodBinary, Good, GoodFile}
+use Rattle.file.specs.Format.{Session, Parts, sessionBytes, fileBytes, GoodSession, GoodUnary, GoodBinary, Good, GoodFile}
+use Rattle.reading.specs.Reading.{one, section, Got, got, bad}
+use Rattle.names.specs.Names.{nameBytes, wholeNames}
 use Rattle.rules.specs.Lists.{Each}
-use Rattle.file.specs.Offence.{Got, got, bad, namesUpTo, wholeNames, wholeFile}
+use Rattle.file.specs.Offence.{wholeFile}
 use Rattle.session.specs.Data.{dataRows}
 use Rattle.rules.specs.Answers.{Said}
-use Rattle.file.specs.Reading.{said, saidNames, namesSaid, Lent, lent, After, after, marksOf, lengthsOf, wordsOf, roomFor, readOf}
-use Rattle.file.proofs.Readers.{got-bad, got-value}
+use Rattle.file.specs.Reading.{said, Lent, lent, After, after, marksOf, lengthsOf, wordsOf, roomFor, readOf}
+use Rattle.reading.proofs.Readers.{got-bad, got-value}
+use Rattle.reading.proofs.Ends.{each-at}
+use Rattle.names.proofs.Theorems.{names-accepts}
 use Rattle.file.proofs.Numbers.{Bytes}
-use Rattle.file.proofs.Whole.{names-sound, names-complete, end-sound, end-complete, whole-run, run-whole, passed-is-good, good-passes}
+use Rattle.file.proofs.Whole.{passed-is-good, good-passes}
 use Rattle.file.proofs.Positions.{length-all-words}
 use Rattle.session.proofs.DataLaws.{is-0, inside, roomy, block}
 
@@ -55,21 +56,6 @@ one-reading p q g h e = got-value (sym (good-passes (fileBytes q) p g e) ∙ rou
 
 -- ---- a names section
 
-abbrev GoodNames : List (List ℕ) → Type 0
-GoodNames ns = (1 ≤ length ns) × (length ns ≤ propositions) × Each GoodName [] ns
-
--- a byte string is a names section, with nothing after it, exactly where it is the bytes of good names
-pub names-accepts : (file : List ℕ) (ns : List (List ℕ)) → (wholeNames file ≡ got ns (length file)) ↔ (GoodNames ns × (section nameBytes ns ≡ file))
-names-accepts file ns = (
-  (λ e.
-      let t = end-sound file (namesUpTo propositions file 0) e in
-      let w = names-sound file propositions 0 (t .0) in
-      ((w .some, w .few, w .fits), run-whole file (section nameBytes ns) (w .spans))),
-  λ t.
-      let g = t .0 in
-      end-complete file (namesUpTo propositions file 0) ns (names-complete file propositions 0 ns (record { some = g .0; few = g .1; fits = g .2; spans = whole-run file (section nameBytes ns) (t .1) })),
-)
-
 -- "the caller hands the file's first bytes to print": as many as the reader answers are the names section of the same names
 pub front-is-names : (p : Parts) → Good p → wholeNames (take (length (section nameBytes (p .names))) (fileBytes p)) ≡ got (p .names) (length (section nameBytes (p .names)))
 front-is-names p g =
@@ -78,13 +64,6 @@ front-is-names p g =
     rw e (names-accepts front (p .names) .1 ((g .someNames, g .fewNames, g .names), refl))
 
 -- ---- what is handed out
-
--- an item of a list of which each is fit
-pub each-at : {A : Type 0} (fit : List A → A → Type 0) (d : A) (l before : List A) → Each fit before l → (i : ℕ) → i < length l → fit (before ++ take i l) (getD l i d)
-unfolding Each
-each-at fit d [] before e i h = absurd (omega arith)
-each-at fit d (a ∷ l) before e zero h = rw append-nil (e .0)
-each-at fit d (a ∷ l) before e (suc i) h = rw append-assoc at (each-at fit d l (before ++ (a ∷ [])) (e .1) i (omega arith))
 
 module _ (m : ℕ) where
   abbrev Sessions : List Session → List Session → Type 0
@@ -191,13 +170,3 @@ pub read-unique : (file : List ℕ) (l : Lent) (a b : ReadAnswer) (m n u v w m�
 read-unique file l a b m n u v w m′ n′ u′ v′ w′ p q =
     let e : after (said a) m n u v w ≡ after (said b) m′ n′ u′ v′ w′ = p ∙ sym q in
     (said-one a b (ap (λ (x : After). x .answer) e), ap (λ (x : After). x .left) e)
-
-names-one : (a b : NamesAnswer) → saidNames a ≡ saidNames b → a ≡ b
-names-one (Names k) (Names k′) e = let t : k ∷ [] ≡ k′ ∷ [] = ap (λ (s : Said). s .values) e in cc
-names-one (Names k) (NamesBroken o) e = let t : _≡_ {A = ℕ} 0 8 = ap (λ (s : Said). s .number) e in absurd (omega arith)
-names-one (NamesBroken o) (Names k) e = let t : _≡_ {A = ℕ} 8 0 = ap (λ (s : Said). s .number) e in absurd (omega arith)
-names-one (NamesBroken o) (NamesBroken o′) e = let t : o ∷ [] ≡ o′ ∷ [] = ap (λ (s : Said). s .values) e in cc
-
--- the judge of a names section
-pub names-unique : (file : List ℕ) (a b : NamesAnswer) → saidNames a ≡ namesSaid file → saidNames b ≡ namesSaid file → a ≡ b
-names-unique file a b p q = names-one a b (p ∙ sym q)

@@ -1,24 +1,21 @@
--- The two loops over items that remember the items before: names and codes. What the code looks at are the file's own bytes.
+-- The loop over codes, which remembers those before. What the code looks at are the file's own bytes.
 -- Assumes nothing.
 use mathlib.Core.Path.{_≡_, refl, sym, ap, _∙_}
 use mathlib.Core.Bool.{Bool}
 use mathlib.Core.List.{List, [], _∷_, _++_}
 use Prim.Native.Nat.{ℕ, _+_, _≤_, _<_}
 use native.Mathlib.Omega.{arith}
-use native.Mathlib.Numerals.{add-one}
 use lib.ListN.{length, getD, take, drop}
-use Rattle.file.specs.declared.bytes.Step.{Step}
-use Rattle.file.specs.declared.bytes.Step.the-variants.{Read, Broken}
-use Rattle.file.specs.Offence.{each, code, name}
-use Rattle.file.specs.Inner.{stepOf, walk, walkEnd}
-use Rattle.file.specs.Format.{one, nameBytes}
-use Rattle.file.proofs.Spans.{head, inside}
-use Rattle.file.proofs.Steps.{step-read, step-broken, Loop, start, turn, broken}
+use Rattle.reading.specs.declared.Step.{Step}
+use Rattle.reading.specs.declared.Step.the-variants.{Read, Broken}
+use Rattle.reading.specs.Reading.{each, stepOf, one}
+use Rattle.file.specs.Offence.{code}
+use Rattle.reading.proofs.Spans.{head, inside}
+use Rattle.reading.proofs.Steps.{step-read, step-broken, Loop, start, turn, broken}
 use Rattle.file.proofs.CodeLaws.{new-sound}
-use Rattle.file.proofs.NameLaws.{name-sound, named-at}
-use Rattle.file.proofs.Walks.{run-more, walk-more, end-more}
+use Rattle.reading.proofs.Runs.{run-more}
 
--- ---- codes: those before are the file's bytes from `from` on
+-- the codes before are the file's bytes from `from` on
 
 pub record Codes (group : ℕ → Bool) (file : List ℕ) (from count i p : ℕ) : Type 0 where
   pub loop : Loop (code group) file from count i p
@@ -52,38 +49,3 @@ module _ (group : ℕ → Bool) (file : List ℕ) (from count : ℕ) where
 
     pub codes-broken : {o : ℕ} → r ≡ Broken o → Broken o ≡ stepOf length (each (code group) count [] file from)
     codes-broken q = broken (code group) file (l .loop) h (step-broken (λ c. c) r (code group (l .loop .seen) file p) item q)
-
--- ---- names: those before are what a walk over the file from offset 1 meets
-
-pub record Names (file : List ℕ) (count i p : ℕ) : Type 0 where
-  pub loop : Loop name file 1 count i p
-  pub seen : loop .seen ≡ walk file i 1
-  pub at : p ≡ walkEnd file i 1
-  pub room : p ≤ length file
-
-module _ (file : List ℕ) (count : ℕ) where
-  pub names-start : 1 ≤ length file → Names file count 0 1
-  unfolding start walk walkEnd
-  names-start h = record { loop = start name file 1 count; seen = refl; at = refl; room = h }
-
-  module _ {i p : ℕ} (l : Names file count i p) (r : Step) (h : i < count) (e : r ≡ stepOf length (name (walk file i 1) file p)) where
-    word : r ≡ stepOf length (name (l .loop .seen) file p)
-    word = e ∙ ap (stepOf length) (ap (λ (b : List (List ℕ)). name b file p) (sym (l .seen)))
-
-    pub names-turn : {v next : ℕ} → r ≡ Read v next → Names file count (i + 1) next
-    unfolding turn
-    names-turn {v} {next} q =
-        let t = step-read length r (name (l .loop .seen) file p) word q in
-        let s = name-sound file (l .loop .seen) p (t .0) next (t .1) .1 in
-        let n = named-at file (t .0) s in
-        let is : take (getD file (walkEnd file i 1) 0) (drop (walkEnd file i 1 + 1) file) ≡ t .0 = ap (λ (x : ℕ). take (getD file x 0) (drop (x + 1) file)) (sym (l .at)) ∙ n .2 in
-        let to : walkEnd file i 1 + 1 + getD file (walkEnd file i 1) 0 ≡ next = ap (λ (x : ℕ). x + 1 + getD file x 0) (sym (l .at)) ∙ sym (n .3) in
-        record {
-          loop = turn name file (l .loop) h (t .1);
-          seen = ap (λ (x : List (List ℕ)). x ++ (t .0 ∷ [])) (l .seen) ∙ ap (λ (x : List ℕ). walk file i 1 ++ (x ∷ [])) (sym is) ∙ sym (walk-more file i 1) ∙ ap (λ (k : ℕ). walk file k 1) (sym (add-one i));
-          at = sym (ap (λ (k : ℕ). walkEnd file k 1) (add-one i) ∙ end-more file i 1 ∙ to);
-          room = inside file (nameBytes (t .0)) s (l .room);
-        }
-
-    pub names-broken : {o : ℕ} → r ≡ Broken o → Broken o ≡ stepOf length (each name count [] file 1)
-    names-broken q = broken name file (l .loop) h (step-broken length r (name (l .loop .seen) file p) word q)

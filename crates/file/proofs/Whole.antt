@@ -1,31 +1,26 @@
 -- The whole file: the rule passes exactly the good files, and hands out their parts.
 -- Assumes nothing.
-use mathlib.Core.Path.{_≡_, refl, sym, ap, _∙_, subst}
-use mathlib.Core.Bool.{Bool, true, false, cond}
-use mathlib.Core.List.{List, [], _∷_, _++_, append-nil}
+use mathlib.Core.Path.{_≡_, subst}
+use mathlib.Core.Bool.{Bool}
+use mathlib.Core.List.{List, [], _++_}
 use Prim.Native.Nat.{ℕ, _+_, _≤_}
 use native.Mathlib.Omega.{arith}
-use borrow.Author.Tests.{eqb-true, eq-eqb}
-use lib.Dec.{eqb}
 use lib.ListN.{length}
-use lib.Seq.{drop-length}
 use Rattle.file.specs.Numbers.{propositions, sessions}
-use Rattle.file.specs.Format.{Parts, Session, one, section, nameBytes, sessionBytes, fileBytes, GoodName, Good}
+use Rattle.file.specs.Format.{Parts, Session, sessionBytes, fileBytes, Good}
+use Rattle.reading.specs.Reading.{one, section, got}
+use Rattle.names.specs.Names.{nameBytes, namesUpTo}
 use Rattle.rules.specs.Lists.{Each}
-use Rattle.file.specs.Offence.{Got, got, bad, name, session, code, isUnary, isBinary, namesUpTo, allSessions, codes, Settings, settings, atEnd, parts, wholeFile}
-use Rattle.file.proofs.Spans.{Spans, both, first, second}
-use Rattle.file.proofs.Lists.{within-low, within-high}
-use Rattle.file.proofs.Readers.{got-bad, got-value, got-next, in-turn, Section, section-sound, section-complete}
+use Rattle.file.specs.Offence.{session, code, isUnary, isBinary, allSessions, codes, Settings, settings, parts, wholeFile}
+use Rattle.reading.proofs.Spans.{Spans, both, first, second}
+use Rattle.reading.proofs.Lists.{within-low, within-high}
+use Rattle.reading.proofs.Readers.{got-value, got-next, in-turn, Section, section-sound, section-complete}
+use Rattle.reading.proofs.Ends.{each-map, end-sound, end-complete, whole-run, run-whole}
+use Rattle.names.proofs.NameLaws.{names-sound, names-complete}
 use Rattle.file.proofs.Numbers.{Bytes}
-use Rattle.file.proofs.NameLaws.{name-sound, name-complete}
 use Rattle.file.proofs.SessionLaws.{Fit, sessions-sound, sessions-complete}
 use Rattle.file.proofs.CodeLaws.{New, new-sound, new-complete, unary-good, good-unary, binary-good, good-binary, settingsBytes, settings-sound, settings-complete}
 use Rattle.session.proofs.Few.{few}
-
-pub each-map : {A : Type 0} {fit more : List A → A → Type 0} → ((before : List A) (a : A) → fit before a → more before a) → (l before : List A) → Each fit before l → Each more before l
-unfolding Each
-each-map f [] before e = tt
-each-map f (a ∷ l) before e = (f before a (e .0), each-map f l (before ++ (a ∷ [])) (e .1))
 
 pub few-unary : (l : List ℕ) → Each (New isUnary) [] l → length l ≤ 5
 few-unary l e = few 0 5 (New isUnary) (λ b c n. omega arith) (λ b c n. omega (arith, within-high 0 4 c (n .0))) (λ b c n. n .1) l e
@@ -35,12 +30,6 @@ few-binary l e = few 5 6 (New isBinary) (λ b c n. within-low 5 10 c (n .0)) (λ
 
 module _ (file : List ℕ) where
   -- ---- the sections
-
-  pub names-sound : (most at : ℕ) {all : List (List ℕ)} {next : ℕ} → namesUpTo most file at ≡ got all next → Section name GoodName nameBytes file 1 most at all next
-  names-sound most at e = section-sound name GoodName nameBytes file (name-sound file) 1 most at e
-
-  pub names-complete : (most at : ℕ) (all : List (List ℕ)) {next : ℕ} → Section name GoodName nameBytes file 1 most at all next → namesUpTo most file at ≡ got all next
-  names-complete most at all w = section-complete name GoodName nameBytes file (name-complete file) 1 most at all w
 
   abbrev pub Sessions : ℕ → ℕ → List Session → ℕ → Type 0
   Sessions m at all next = Section (λ _. session m) (Fit file m) sessionBytes file 1 sessions at all next
@@ -60,28 +49,13 @@ module _ (file : List ℕ) where
   pub codes-complete : (group : ℕ → Bool) (at : ℕ) (all : List ℕ) {next : ℕ} → Codes group at all next → codes group file at ≡ got all next
   codes-complete group at all w = section-complete (code group) (New group) one file (new-complete group file) 0 255 at all w
 
-  -- ---- the end
-
-  pub end-sound : {A : Type 0} (g : Got A) {a : A} {next : ℕ} → atEnd g file ≡ got a next → (g ≡ got a next) × (next ≡ length file)
-  unfolding atEnd
-  end-sound (bad o) e = absurd (got-bad (sym e))
-  end-sound (got b n) {a} {next} e = go (eqb n (length file)) refl e
-    where
-      go : (t : Bool) → eqb n (length file) ≡ t → cond t (got b n) (bad n) ≡ got a next → (got b n ≡ got a next) × (next ≡ length file)
-      go true q h = (h, sym (got-next h) ∙ eqb-true n (length file) q)
-      go false q h = absurd (got-bad (sym h))
-
-  pub end-complete : {A : Type 0} (g : Got A) (a : A) → g ≡ got a (length file) → atEnd g file ≡ got a (length file)
-  unfolding atEnd
-  end-complete g a e = rw (e, eq-eqb (length file) (length file) refl)
-
   -- ---- the parts
 
   pub parts-sound : Bytes file → (at : ℕ) (p : Parts) (next : ℕ) → parts file at ≡ got p next → Good p × Spans file at (fileBytes p) next
   unfolding parts
   parts-sound bs at p next e =
       let t = in-turn (namesUpTo propositions file at) _ e in
-      let n = names-sound propositions at (t .2) in
+      let n = names-sound file propositions at (t .2) in
       let u = in-turn (allSessions (length (t .0)) file (t .1)) _ (t .3) in
       let s = all-sound bs (length (t .0)) (t .1) (u .2) in
       let v = in-turn (codes isUnary file (u .1)) _ (u .3) in
@@ -131,28 +105,22 @@ module _ (file : List ℕ) where
       let r3 = second file g (h ++ k) r2 in
       let r4 = second file h k r3 in
       rw (
-        names-complete propositions at (p .names) (record { some = w .someNames; few = w .fewNames; fits = w .names; spans = first file a (b ++ (g ++ (h ++ k))) r }),
+        names-complete file propositions at (p .names) (record { some = w .someNames; few = w .fewNames; fits = w .names; spans = first file a (b ++ (g ++ (h ++ k))) r }),
         all-complete (length (p .names)) (at + length a) (p .sessions) (record { some = w .someSessions; few = w .fewSessions; fits = w .sessions; spans = first file b (g ++ (h ++ k)) r1 }),
         codes-complete isUnary (at + length a + length b) (p .unary) (record { some = omega arith; few = omega (arith, few-unary (p .unary) us); fits = us; spans = first file g (h ++ k) r2 }),
         codes-complete isBinary (at + length a + length b + length g) (p .binary) (record { some = omega arith; few = omega (arith, few-binary (p .binary) bs); fits = bs; spans = first file h k r3 }),
         settings-complete file (at + length a + length b + length g + length h) s next (record { constants = w .constants; some = w .someBound; low = w .lowBound }) r4,
       )
 
-  pub whole-run : (run : List ℕ) → run ≡ file → Spans file 0 run (length file)
-  whole-run run e = record { is = sym e ∙ sym (append-nil run) ∙ ap (λ (l : List ℕ). run ++ l) (sym (drop-length file)); end = omega (arith, ap length e) }
-
-  pub run-whole : (run : List ℕ) → Spans file 0 run (length file) → run ≡ file
-  run-whole run s = sym (s .is ∙ ap (λ (l : List ℕ). run ++ l) (drop-length file) ∙ append-nil run)
-
   -- ---- the theorems
 
   -- a file that passes is the bytes of the parts that it is read as, and these are good
   pub passed-is-good : Bytes file → (p : Parts) (next : ℕ) → wholeFile file ≡ got p next → Good p × (fileBytes p ≡ file)
   passed-is-good bs p next e =
-      let t = end-sound (parts file 0) e in
+      let t = end-sound file (parts file 0) e in
       let r = parts-sound bs 0 p next (t .0) in
-      (r .0, run-whole (fileBytes p) (subst (λ (n : ℕ). Spans file 0 (fileBytes p) n) (t .1) (r .1)))
+      (r .0, run-whole file (fileBytes p) (subst (λ (n : ℕ). Spans file 0 (fileBytes p) n) (t .1) (r .1)))
 
   -- and the bytes of good parts pass, read as these parts
   pub good-passes : (p : Parts) → Good p → fileBytes p ≡ file → wholeFile file ≡ got p (length file)
-  good-passes p g e = end-complete (parts file 0) p (parts-complete 0 p (length file) g (whole-run (fileBytes p) e))
+  good-passes p g e = end-complete file (parts file 0) p (parts-complete 0 p (length file) g (whole-run file (fileBytes p) e))

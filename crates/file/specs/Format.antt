@@ -1,14 +1,14 @@
 -- The session file of document 01: what a good file is. It is the bytes of good parts, and nothing else is.
 -- Assumes nothing.
 use mathlib.Core.Path.{_≡_}
-use mathlib.Core.Bool.{Bool, true, _&&_, _||_}
 use mathlib.Core.List.{List, [], _∷_, _++_, flatMap, List·Memᴰ}
 use Prim.Native.Nat.{ℕ, zero, suc, _/_, _%_, _≤_}
-use lib.Dec.{eqb, leb}
 use lib.ListN.{length}
 use Rattle.words.specs.Word.{width, Wf}
 use Rattle.sequence.specs.Operators.{Unary, Binary, unaryCode, binaryCode}
-use Rattle.file.specs.Numbers.{sessions, propositions, bound, nameLength}
+use Rattle.file.specs.Numbers.{sessions, propositions, bound}
+use Rattle.reading.specs.Reading.{section, one}
+use Rattle.names.specs.Names.{nameBytes, GoodName}
 use Rattle.rules.specs.Lists.{Each}
 
 -- ---- the parts
@@ -27,18 +27,6 @@ pub record Parts : Type 0 where
   pub bound : ℕ
 
 -- ---- their bytes
-
--- "each after its one-byte count"
-abbrev pub section : {A : Type 0} → (A → List ℕ) → List A → List ℕ
-section bytes items = length items ∷ flatMap bytes items
-
--- a part of one byte
-abbrev pub one : ℕ → List ℕ
-one b = b ∷ []
-
--- "length byte 1-16, then letters, digits or `_`": a name is a section of its own
-abbrev pub nameBytes : List ℕ → List ℕ
-nameBytes letters = section one letters
 
 -- "words of 8 bytes, low byte first"
 unfoldable pub lowFirst : ℕ → ℕ → List ℕ
@@ -62,26 +50,6 @@ fileBytes p =
     ++ section one (p .constants ∷ p .bound ∷ []))))
 
 -- ---- which parts are good
-
--- "letters": A-Z, a-z
-abbrev pub isLetter : ℕ → Bool
-isLetter b = (leb 65 b && leb b 90) || (leb 97 b && leb b 122)
-
--- "letters, digits or `_`"
-abbrev pub isNameByte : ℕ → Bool
-isNameByte b = isLetter b || (leb 48 b && leb b 57) || eqb b 95
-
--- "a letter first"
-abbrev pub fitsName : List ℕ → ℕ → Bool
-fitsName [] b = isLetter b
-fitsName (x ∷ before) b = isNameByte b
-
--- "names (length byte 1-16, then letters, digits or `_`, a letter first, no name twice)"
-pub record GoodName (before : List (List ℕ)) (name : List ℕ) : Type 0 where
-  pub some : 1 ≤ length name
-  pub short : length name ≤ nameLength
-  pub letters : Each (λ seen b. fitsName seen b ≡ true) [] name
-  pub new : List·Memᴰ name before → ⊥
 
 -- "What the table refuses with 1, 2, 4, 5, 6 or 7 is 8 here": a mark other than 0 or 1 (6), a length above 64 (4), a bit set at or above the length (5)
 pub record GoodSession (m : ℕ) (s : Session) : Type 0 where

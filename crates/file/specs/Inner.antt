@@ -1,44 +1,23 @@
 -- How the reader's private functions speak of what they found. No public contract cites this file, so nothing here has to be believed.
 -- Assumes nothing.
-use mathlib.Core.Bool.{Bool, true, false, cond}
+use mathlib.Core.Bool.{Bool, true, false}
 use mathlib.Core.List.{List, [], _∷_, _++_}
 use Prim.Native.Nat.{ℕ, zero, suc, _+_, _*_}
-use lib.Dec.{eqb}
 use lib.ListN.{length, getD, take, drop}
-use Rattle.file.specs.declared.bytes.Step.{Step}
-use Rattle.file.specs.declared.bytes.Step.the-variants.{Read, Broken}
 use Rattle.file.specs.declared.Tail.{Tail}
 use Rattle.file.specs.declared.Tail.the-variants.{Read as TailRead, Broken as TailBroken}
 use Rattle.file.specs.declared.ReadAnswer.{ReadAnswer}
 use Rattle.file.specs.declared.ReadAnswer.the-variants.{Parts as AllParts, Broken as FileBroken}
-use Rattle.file.specs.Format.{Parts, Session, section, nameBytes, isLetter, isNameByte}
-use Rattle.file.specs.Offence.{Got, got, bad, number, isUnary, isBinary, Settings, settings, atEnd, wholeFile}
-
--- of what was read a sub-reader hands up one number
-abbrev pub stepOf : {A : Type 0} → (A → ℕ) → Got A → Step
-stepOf value (got a next) = Read (value a) next
-stepOf value (bad o) = Broken o
+use Rattle.file.specs.Format.{Parts, Session}
+use Rattle.reading.specs.Reading.{section, Got, got, bad, atEnd}
+use Rattle.names.specs.Names.{nameBytes}
+use Rattle.file.specs.Offence.{number, isUnary, isBinary, Settings, settings, wholeFile}
 
 abbrev pub nothing : {A : Type 0} → A → ℕ
 nothing a = 0
 
 abbrev pub wordCount : Session → ℕ
 wordCount s = length (s .words)
-
--- ---- names
-
--- the byte number i of a name
-abbrev pub fitsAt : ℕ → ℕ → Bool
-fitsAt i b = cond (eqb i 0) (isLetter b) (isNameByte b)
-
--- the names at an offset, one after another, and where they end
-unfoldable pub walk : List ℕ → ℕ → ℕ → List (List ℕ)
-walk file zero p = []
-walk file (suc count) p = take (getD file p 0) (drop (p + 1) file) ∷ walk file count (p + 1 + getD file p 0)
-
-unfoldable pub walkEnd : List ℕ → ℕ → ℕ → ℕ
-walkEnd file zero p = p
-walkEnd file (suc count) p = walkEnd file count (p + 1 + getD file p 0)
 
 -- ---- codes
 

@@ -15,7 +15,3 @@ propositions = mostPropositions
 -- "size bound B 1 to 31"
 abbrev pub bound : ℕ
 bound = mostSize
-
--- "names (length byte 1-16 ..)"
-abbrev pub nameLength : ℕ
-nameLength = 16

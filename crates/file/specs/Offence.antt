@@ -1,80 +1,17 @@
--- The first offending byte of a file, by a rule that goes through the file from its start, item by item in the order of the format: an item that is
--- whole and good is passed, and the first that is not decides. The format itself is in `Format`, and proofs/Theorems.antt and proofs/Cuts.antt tie
+-- The first offending byte of a file, by the rule of reading's `Reading`, item by item in the order of the format. The format itself is in `Format`, and proofs/Theorems.antt and proofs/Cuts.antt tie
 -- the two together: what passes is exactly a good file, with its parts; a good file cut short offends at the length left, and with more after it at
 -- its own length.
 -- Assumes nothing.
-use mathlib.Core.Bool.{Bool, true, false, cond, not, _&&_, _||_}
-use mathlib.Core.List.{List, [], _∷_, _++_}
-use Prim.Native.Nat.{ℕ, zero, suc, _+_, _*_, _^_}
+use mathlib.Core.Bool.{Bool, cond, not, _&&_}
+use mathlib.Core.List.{List, [], _∷_}
+use Prim.Native.Nat.{ℕ, _+_, _*_, _^_}
 use lib.Dec.{eqb, leb, ltb}
-use lib.ListN.{length, getD, take, drop}
+use lib.ListN.{length, take, drop}
 use Rattle.words.specs.Word.{width}
-use Rattle.file.specs.Numbers.{sessions, propositions, bound, nameLength}
-use Rattle.file.specs.Format.{Session, Parts, fitsName}
-
--- what is read at an offset: a part, with the offset after it, or the offset that offends
-pub data Got (A : Type 0) : Type 0 where
-  got : A → ℕ → Got A
-  bad : ℕ → Got A
-
--- from a file and an offset
-abbrev pub Reader : Type 0 → Type 0
-Reader A = List ℕ → ℕ → Got A
-
--- one after another: what offends first decides
-abbrev pub andThen : {A B : Type 0} → Got A → (A → ℕ → Got B) → Got B
-andThen (got a next) k = k a next
-andThen (bad o) k = bad o
-
--- as many items as `k` says, each judged with those before it
-unfoldable pub each : {A : Type 0} → (List A → Reader A) → ℕ → List A → Reader (List A)
-each item zero before file at = got before at
-each item (suc k) before file at = andThen (item before file at) (λ a next. each item k (before ++ (a ∷ [])) file next)
-
--- ---- one byte
-
--- one byte: one that fails its test offends where it stands, and if the file ends before it, "the file's length if it ends early"
-unfoldable pub byte : (ℕ → Bool) → Reader ℕ
-byte test file at =
-    cond (ltb at (length file))
-    (cond (test (getD file at 0)) (got (getD file at 0) (at + 1)) (bad at))
-    (bad (length file))
-
-abbrev pub within : ℕ → ℕ → ℕ → Bool
-within lo hi b = leb lo b && leb b hi
-
--- "each after its one-byte count": a count outside its numbers offends where it stands
-abbrev pub counted : {A : Type 0} → ℕ → ℕ → (List A → Reader A) → Reader (List A)
-counted lo hi item file at = andThen (byte (within lo hi) file at) (λ k next. each item k [] file next)
-
--- ---- names
-
-abbrev pub isIn : {A : Type 0} → (A → A → Bool) → A → List A → Bool
-isIn same x [] = false
-isIn same x (y ∷ ys) = same x y || isIn same x ys
-
-abbrev pub sameBytes : List ℕ → List ℕ → Bool
-sameBytes [] [] = true
-sameBytes [] (y ∷ ys) = false
-sameBytes (x ∷ xs) [] = false
-sameBytes (x ∷ xs) (y ∷ ys) = eqb x y && sameBytes xs ys
-
--- "a name's bytes are judged one by one"
-abbrev pub letter : List ℕ → Reader ℕ
-letter before = byte (fitsName before)
-
--- once its bytes are there, "a repeated name's length byte"
-abbrev pub notTwice : Bool → ℕ → List ℕ → ℕ → Got (List ℕ)
-notTwice true at letters next = bad at
-notTwice false at letters next = got letters next
-
-unfoldable pub name : List (List ℕ) → Reader (List ℕ)
-name before file at =
-    andThen (counted 1 nameLength letter file at) (λ letters next. notTwice (isIn sameBytes letters before) at letters next)
-
--- a names section of at most so many names
-abbrev pub namesUpTo : ℕ → Reader (List (List ℕ))
-namesUpTo most = counted 1 most name
+use Rattle.file.specs.Numbers.{sessions, propositions, bound}
+use Rattle.reading.specs.Reading.{Got, got, bad, Reader, andThen, each, byte, within, counted, isIn, atEnd}
+use Rattle.names.specs.Names.{namesUpTo}
+use Rattle.file.specs.Format.{Session, Parts}
 
 -- ---- sessions
 
@@ -131,10 +68,6 @@ settings file at =
 
 -- ---- the whole
 
--- "Nothing follows": "the first extra byte"
-unfoldable pub atEnd : {A : Type 0} → Got A → List ℕ → Got A
-atEnd g file = andThen g (λ a next. cond (eqb next (length file)) (got a next) (bad next))
-
 unfoldable pub parts : Reader Parts
 parts file at =
     andThen (namesUpTo propositions file at) (λ ns a.
@@ -147,7 +80,3 @@ parts file at =
 -- a session file
 abbrev pub wholeFile : List ℕ → Got Parts
 wholeFile file = atEnd (parts file 0) file
-
--- a names section with nothing after it
-abbrev pub wholeNames : List ℕ → Got (List (List ℕ))
-wholeNames file = atEnd (namesUpTo propositions file 0) file

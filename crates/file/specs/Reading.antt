@@ -6,16 +6,12 @@ use Prim.Native.Nat.{ℕ, _*_}
 use lib.Dec.{leb}
 use lib.ListN.{length}
 use Rattle.rules.specs.Answers.{Said, over}
-use Rattle.file.specs.declared.names.NamesAnswer.{NamesAnswer}
-use Rattle.file.specs.declared.names.NamesAnswer.the-variants.{Names, Broken as NamesBroken}
 use Rattle.file.specs.declared.ReadAnswer.{ReadAnswer}
 use Rattle.file.specs.declared.ReadAnswer.the-variants.{Parts as AllParts, Broken, Room}
-use Rattle.file.specs.Format.{Parts, section, nameBytes}
-use Rattle.file.specs.Offence.{Got, got, bad, wholeFile, wholeNames}
-
--- "A refusal carries only its number (8 also the offset)"
-abbrev pub broken : ℕ → Said
-broken o = record { number = 8; values = o ∷ [] }
+use Rattle.file.specs.Format.{Parts}
+use Rattle.reading.specs.Reading.{section, Got, got, bad, broken}
+use Rattle.names.specs.Names.{nameBytes}
+use Rattle.file.specs.Offence.{wholeFile}
 
 abbrev pub tooLittleRoom : Said
 tooLittleRoom = record { number = 3; values = [] }
@@ -25,19 +21,6 @@ abbrev pub said : ReadAnswer → Said
 said (AllParts r m names unary binary constants bound) = record { number = 0; values = r ∷ m ∷ names ∷ unary ∷ binary ∷ constants ∷ bound ∷ [] }
 said (Broken o) = broken o
 said Room = tooLittleRoom
-
--- ---- a names section: 8 with the offset, else the number of names
-
-abbrev pub saidNames : NamesAnswer → Said
-saidNames (Names count) = record { number = 0; values = count ∷ [] }
-saidNames (NamesBroken o) = broken o
-
-abbrev pub namesOf : Got (List (List ℕ)) → Said
-namesOf (got names next) = record { number = 0; values = length names ∷ [] }
-namesOf (bad o) = broken o
-
-abbrev pub namesSaid : List ℕ → Said
-namesSaid file = namesOf (wholeNames file)
 
 -- ---- a session file
 

@@ -1,35 +1,8 @@
-// What stands at an offset of a file: one byte within its numbers, and a word.
+// What stands at an offset of a file: how many bytes, and a word.
 ghost use mathlib.Core.Path.{_≡_};
 ghost use Prim.Native.Nat.{_+_, _-_, _≤_, _<_};
 ghost use lib.ListN.{length, take, drop};
-ghost use Rattle.file.specs.Offence.{byte, within, number};
-ghost use Rattle.file.specs.Inner.{stepOf};
-
-// What a sub-reader hands up: a number and the offset after what it read, or the offset that offends.
-pub enum Step {
-    Read { value: usize, next: usize },
-    Broken(usize),
-}
-
-// The byte at an offset, from lo to hi.
-pub(crate) fn byte_within(file: &[u8], at: usize, lo: usize, hi: usize) -> Step
-    ensures { λ r. ⌜ r ≡ stepOf (λ b. b) (byte (within lo hi) (now (file .entry)) at) ⌝ }
-{
-    if file.len() <= at {
-        return Step::Broken(file.len());
-    }
-    let b = file[at] as usize;
-    if b < lo {
-        return Step::Broken(at);
-    }
-    if hi < b {
-        return Step::Broken(at);
-    }
-    Step::Read {
-        value: b,
-        next: at + 1,
-    }
-}
+ghost use Rattle.file.specs.Offence.{number};
 
 // How many bytes there are from an offset on.
 pub(crate) fn bytes_left(file: &[u8], at: usize) -> usize

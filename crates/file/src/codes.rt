@@ -1,6 +1,6 @@
 // A section of operator codes: each in its group, none twice.
-use crate::bytes::Step;
-use crate::bytes::byte_within;
+use reading::Step;
+use reading::byte_within;
 use sequence::operators;
 use sequence::operators::Group;
 ghost use mathlib.Core.Path.{_≡_};
@@ -8,8 +8,9 @@ ghost use mathlib.Core.List.{[]};
 ghost use Prim.Native.Nat.{_+_, _-_, _≤_, _<_};
 ghost use lib.ListN.{length, take, drop};
 ghost use lib.Dec.{eqb};
-ghost use Rattle.file.specs.Offence.{each, code, codes, isIn};
-ghost use Rattle.file.specs.Inner.{stepOf, groupOf};
+ghost use Rattle.reading.specs.Reading.{each, isIn, stepOf};
+ghost use Rattle.file.specs.Offence.{code, codes};
+ghost use Rattle.file.specs.Inner.{groupOf};
 
 // Whether the code's group, by the table of operators, is the one asked for.
 fn in_group(c: u8, unary: bool) -> bool

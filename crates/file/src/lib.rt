@@ -3,15 +3,13 @@
 mod bytes;
 mod codes;
 mod fill;
-pub mod names;
 mod sessions;
 
-use bytes::Step;
-use bytes::byte_within;
 use codes::codes_section;
 use fill::fill_bytes;
 use fill::fill_words;
-use names::names_section;
+use reading::Step;
+use reading::byte_within;
 use sessions::sessions_section;
 ghost use mathlib.Core.Path.{_≡_};
 ghost use Prim.Native.Nat.{_+_, _<_};
@@ -25,8 +23,6 @@ const SESSIONS: usize = rules::SESSIONS;
 const PROPOSITIONS: usize = rules::PROPOSITIONS;
 
 const BOUND: usize = rules::BOUND;
-
-const NAME_LENGTH: usize = 16;
 
 // What a file is: its parts' numbers (sessions r, propositions m, the bytes of the names section, codes of each group, constants mark, bound B),
 // broken at an offset, or good with too little room lent.
@@ -86,7 +82,7 @@ fn tail_at(file: &[u8], at: usize) -> Tail
 fn judge(file: &[u8]) -> ReadAnswer
     ensures { λ r. ⌜ r ≡ answerOf (now (file .entry)) ⌝ }
 {
-    let names = names_section(file, crate::PROPOSITIONS);
+    let names = names::section(file, crate::PROPOSITIONS);
     match names {
         Step::Read { value: m, next: a } => {
             let sessions = sessions_section(file, a, m);

@@ -1,8 +1,8 @@
 // The sessions section: mark, length and m words a session.
-use crate::bytes::Step;
-use crate::bytes::byte_within;
 use crate::bytes::bytes_left;
 use crate::bytes::word_at;
+use reading::Step;
+use reading::byte_within;
 use sequence::CharSeq;
 ghost use mathlib.Core.Path.{_≡_};
 ghost use mathlib.Core.List.{[]};
@@ -10,8 +10,9 @@ ghost use Prim.Native.Nat.{_+_, _^_, _≤_, _<_};
 ghost use lib.ListN.{length};
 ghost use lib.Dec.{ltb};
 ghost use Rattle.words.specs.Word.{width};
-ghost use Rattle.file.specs.Offence.{each, word, session, allSessions};
-ghost use Rattle.file.specs.Inner.{stepOf, nothing, wordCount};
+ghost use Rattle.reading.specs.Reading.{each, stepOf};
+ghost use Rattle.file.specs.Offence.{word, session, allSessions};
+ghost use Rattle.file.specs.Inner.{nothing, wordCount};
 
 // No bit at or above n is set.
 pub(crate) fn is_clear(n: usize, w: u64) -> bool

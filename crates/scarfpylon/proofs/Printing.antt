@@ -11,13 +11,13 @@ use native.Mathlib.Omega.{arith}
 use lib.Dec.{lit≤}
 use lib.ListN.{length}
 use Rattle.rules.specs.Refusals.{Decided}
-use Rattle.file.specs.Format.{GoodName}
-use Rattle.file.specs.Offence.{Got, got, bad, namesUpTo, wholeNames}
+use Rattle.names.specs.Names.{GoodName, namesUpTo, wholeNames}
+use Rattle.reading.specs.Reading.{Got, got, bad}
 use Rattle.rules.specs.Limits.{mostPropositions}
 use Rattle.rules.specs.Answers.{Said}
-use Rattle.file.proofs.Whole.{end-sound, names-sound}
+use Rattle.reading.proofs.Ends.{end-sound, each-at}
+use Rattle.names.proofs.NameLaws.{names-sound}
 use Rattle.file.proofs.Offsets.{names-offset-small}
-use Rattle.file.proofs.Theorems.{each-at}
 use Rattle.formula.specs.Formula.{leaf, unary, binary, proposition, constant, Formula}
 use Rattle.formula.specs.Nodes.{Node, Spells, codes}
 use Rattle.text.specs.declared.Printed.{Printed}

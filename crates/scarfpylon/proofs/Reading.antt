@@ -10,9 +10,10 @@ use borrow.Author.Tests.{leb-true, leb-false}
 use lib.Dec.{leb}
 use lib.ListN.{length}
 use Rattle.file.specs.Format.{Parts}
-use Rattle.file.specs.Offence.{Got, got, bad, wholeFile}
+use Rattle.reading.specs.Reading.{Got, got, bad, broken}
+use Rattle.file.specs.Offence.{wholeFile}
 use Rattle.rules.specs.Answers.{Said}
-use Rattle.file.specs.Reading.{broken, tooLittleRoom, Lent, lent, After, roomFor, handedOut, readOf}
+use Rattle.file.specs.Reading.{tooLittleRoom, Lent, lent, After, roomFor, handedOut, readOf}
 use Rattle.file.specs.Reading as core
 use Rattle.file.proofs.Numbers.{Bytes}
 use Rattle.file.proofs.Whole.{passed-is-good}

@@ -11,7 +11,8 @@ use Rattle.rules.specs.Refusals.{Row}
 use Rattle.sequence.specs.Sequence.{seq, unaryRows, binaryRows, Answers, UnaryRead, BinaryRead}
 use Rattle.rules.proofs.Refusals.{decided-unique}
 use Rattle.sequence.proofs.Unique.{unary-unique, binary-unique}
-use Rattle.file.specs.Offence.{Got, got, bad, wholeNames}
+use Rattle.reading.specs.Reading.{Got, got, bad}
+use Rattle.names.specs.Names.{wholeNames}
 use Rattle.file.specs.Reading.{Lent}
 use Rattle.formula.specs.Nodes.{Node}
 use Rattle.session.specs.Recording.{Recording}

@@ -10,9 +10,8 @@ use Rattle.sequence.specs.declared.Answer.the-variants.{Sequence, Refused}
 use Rattle.rules.specs.Refusals.{Row, Decided}
 use Rattle.session.specs.Data.{outsideNumbers}
 use Rattle.file.specs.Format.{Parts}
-use Rattle.file.specs.Offence.{Got, got, bad}
+use Rattle.reading.specs.Reading.{Got, got, bad, broken}
 use Rattle.rules.specs.Answers.{Said}
-use Rattle.file.specs.Reading.{broken}
 use Rattle.formula.specs.Nodes.{Node}
 use Rattle.formula.specs.Rule.{brokenList}
 use Rattle.search.specs.Refusals.{settingWrong}

@@ -6,8 +6,9 @@ use Prim.Native.Nat.{ℕ}
 use lib.Dec.{leb}
 use lib.ListN.{length}
 use Rattle.file.specs.Format.{Parts}
-use Rattle.file.specs.Offence.{Got, got, bad, wholeFile}
-use Rattle.file.specs.Reading.{broken, tooLittleRoom, Lent, After, roomFor, handedOut}
+use Rattle.reading.specs.Reading.{Got, got, bad, broken}
+use Rattle.file.specs.Offence.{wholeFile}
+use Rattle.file.specs.Reading.{tooLittleRoom, Lent, After, roomFor, handedOut}
 use Rattle.scarfpylon.specs.Out.{outWords, written, returnedOf, saidWords}
 
 -- the number, the lent slices and `out` as the call leaves them

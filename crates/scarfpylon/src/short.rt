@@ -5,7 +5,8 @@ use crate::out::read_number;
 use crate::out::search_number;
 use formula::kinds::Node;
 ghost use mathlib.Core.Path.{_≡_};
-ghost use Rattle.file.specs.Offence.{wholeFile, wholeNames};
+ghost use Rattle.file.specs.Offence.{wholeFile};
+ghost use Rattle.names.specs.Names.{wholeNames};
 ghost use Rattle.formula.specs.Kinds.{nodeOf, nodes};
 ghost use Rattle.scarfpylon.specs.Inner.{SearchUnanswered, CheckUnanswered, PrintUnanswered, readUnanswered};
 

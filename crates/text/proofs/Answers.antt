@@ -10,17 +10,18 @@ use lib.ListN.{length, drop}
 use lib.Seq.{sets, sets-eq}
 use Rattle.rules.specs.Refusals.{Decided}
 use Rattle.rules.proofs.Refusals.{decided-none}
-use Rattle.file.specs.declared.names.NamesAnswer.{NamesAnswer}
-use Rattle.file.specs.declared.names.NamesAnswer.the-variants.{Names, Broken as NamesBroken}
-use Rattle.file.specs.Offence.{Got, got, bad, wholeNames}
+use Rattle.names.specs.declared.NamesAnswer.{NamesAnswer}
+use Rattle.names.specs.declared.NamesAnswer.the-variants.{Names, Broken as NamesBroken}
+use Rattle.reading.specs.Reading.{Got, got, bad, broken}
+use Rattle.names.specs.Names.{wholeNames, listed, namesIn, GoodNames}
 use Rattle.rules.specs.Answers.{Said, over}
-use Rattle.file.specs.Reading.{broken, saidNames, namesOf, namesSaid}
+use Rattle.names.specs.Judged.{saidNames, namesOf, namesSaid}
 use Rattle.formula.specs.Nodes.{Node}
 use Rattle.formula.specs.Rule.{Broken, brokenList}
 use Rattle.text.specs.Text.{text}
 use Rattle.text.specs.Print.{shortRoom, PrintAnswer, PrintsBy, Prints}
 use Rattle.formula.specs.Inner.{Fits}
-use Rattle.text.specs.Inner.{listed, namesIn, GoodNames, Printable, Long, Fitting, Written}
+use Rattle.text.specs.Inner.{Printable, Long, Written}
 use Rattle.formula.proofs.Faults.{whole-fits}
 use Rattle.formula.proofs.Checking.{decided-early}
 use Rattle.text.proofs.Printing.{formula-of}
@@ -84,9 +85,6 @@ module _ (file : List ℕ) (g : GoodNames file) (k : List Node) (root : Node) (o
               refused = λ z. (refl, refl);
               passed = λ e. absurd (omega arith);
             }
-
-        pub room-enough : x ≤ length old → Fitting file k root old 0
-        room-enough h t s = omega (arith, l t s)
 
         pub prints-text : x ≤ length old → {new : List ℕ} {r : ℕ} → Written file k root old 0 new r → Prints file k root old (record { number = 0; values = x ∷ [] }) new
         unfolding Decided

@@ -1,5 +1,3 @@
-pub mod Names
-pub mod Writing
 pub mod Texts
 pub mod Printing
 pub mod Answers

@@ -13,7 +13,7 @@ use Rattle.sequence.specs.Table.{Listed, unaryRow, binaryRow}
 use Rattle.sequence.specs.Table.Listed.{unary as unary-row, binary as binary-row, neither as no-row}
 use Rattle.sequence.proofs.Groups.{unary-below, binary-between}
 use Rattle.sequence.proofs.Unique.{unary-one, binary-one}
-use Rattle.file.specs.Numbers.{nameLength}
+use Rattle.names.specs.Names.{nameLength}
 use Rattle.formula.specs.Formula.{leaf, unary, binary, size, Leaf, proposition, constant, Formula}
 use Rattle.rules.specs.Limits.{mostSize}
 use Rattle.formula.specs.Rule.{IsUnary, IsBinary}

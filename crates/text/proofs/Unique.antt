@@ -7,7 +7,8 @@ use native.Mathlib.Decide.{ℕ-discrete}
 use native.Mathlib.Omega.{arith}
 use lib.ListN.{length}
 use Rattle.rules.proofs.Refusals.{decided-unique}
-use Rattle.file.specs.Offence.{Got, got, bad, wholeNames}
+use Rattle.reading.specs.Reading.{Got, got, bad}
+use Rattle.names.specs.Names.{wholeNames}
 use Rattle.rules.specs.Answers.{Said, over}
 use Rattle.formula.specs.Nodes.{Node}
 use Rattle.text.specs.declared.Printed.{Printed}

@@ -5,9 +5,9 @@ use mathlib.Core.List.{List, [], _∷_}
 use Prim.Native.Nat.{ℕ, _<_}
 use lib.ListN.{length}
 use Rattle.rules.specs.Refusals.{Row, Decided}
-use Rattle.file.specs.Offence.{Got, got, bad, wholeNames}
+use Rattle.reading.specs.Reading.{Got, got, bad, broken}
+use Rattle.names.specs.Names.{wholeNames}
 use Rattle.rules.specs.Answers.{Said, over}
-use Rattle.file.specs.Reading.{broken}
 use Rattle.formula.specs.Formula.{Formula}
 use Rattle.formula.specs.Nodes.{Node, Spells, codes}
 use Rattle.text.specs.declared.Printed.{Printed}

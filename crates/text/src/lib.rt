@@ -1,8 +1,8 @@
 // The text of a formula (formula/tree.rs: `Display`): printing a node list by lent names.
 mod text;
 
-use file::names::NamesAnswer;
 use formula::kinds::Node;
+use names::NamesAnswer;
 ghost use Rattle.formula.specs.Kinds.{nodeOf, nodes};
 ghost use Rattle.text.specs.Print.{saidPrinted, Prints};
 
@@ -25,7 +25,7 @@ pub fn print(
 ) -> Printed
     ensures { λ p. ⌜ Prints (now (names .entry)) (nodes (now (codes .entry)) (now (lefts .entry)) (now (rights .entry)) (now (sizes .entry))) (nodeOf root) (now (room .entry)) (saidPrinted p) (now (room .exit)) ⌝ }
 {
-    let judged = file::names::judge(names);
+    let judged = names::judge(names);
     match judged {
         NamesAnswer::Names(count) => {
             let broken = formula::nodes::refusal(count, codes, lefts, rights, sizes, root);

@@ -3,38 +3,28 @@ use formula::kinds::FALSE;
 use formula::kinds::Node;
 use formula::kinds::PROPOSITION;
 use formula::nodes::node_at;
+use names::lookup::letters;
 use rules::kinds::Proposition;
 use sequence::operators;
 use sequence::operators::Group;
 use sequence::operators::Operator;
+use writing::put;
 ghost use mathlib.Core.Path.{_≡_};
-ghost use Prim.Native.Nat.{_+_, _≤_, _<_};
+ghost use Prim.Native.Nat.{_≤_, _<_};
 ghost use mathlib.Core.List.{[], _∷_};
 ghost use lib.ListN.{length, getD};
 ghost use Rattle.formula.specs.Kinds.{nodeOf, nodes};
 ghost use Rattle.formula.specs.Rule.{IsUnary, IsBinary};
-ghost use Rattle.text.specs.Inner.{GoodNames, namesIn, startOf, Printable, Long, Wrote, Written, Fitting, beforeLast};
-
-// Where the name of a proposition starts in a names section: at its length byte.
-fn name_start(names: &[u8], p: usize) -> usize
-    requires { ⌜ GoodNames (now names) × (p < length (namesIn (now names))) ⌝ }
-    ensures { λ r. ⌜ r ≡ startOf (namesIn (now (names .entry))) p ⌝ }
-{
-    let mut at: usize = 1;
-    let mut i: usize = 0;
-    while i < p {
-        at = at + 1 + names[at] as usize;
-        i += 1;
-    }
-    at
-}
+ghost use Rattle.names.specs.Names.{GoodNames, namesIn};
+ghost use Rattle.writing.specs.Writing.{Wrote};
+ghost use Rattle.text.specs.Inner.{Printable, Long, Written, beforeLast};
 
 fn name_length(names: &[u8], p: usize) -> usize
     requires { ⌜ GoodNames (now names) × (p < length (namesIn (now names))) ⌝ }
     ensures { λ r. ⌜ r ≡ length (getD (namesIn (now (names .entry))) p []) ⌝ }
 {
-    let at = name_start(names, p);
-    names[at] as usize
+    let l = letters(names, p);
+    l.to - l.from
 }
 
 fn leaf_length(
@@ -95,22 +85,9 @@ pub(crate) fn length(
     }
 }
 
-// Bytes go into the room from a place on; the place after them is answered.
-fn put(room: &mut [u8], at: usize, bytes: &[u8]) -> usize
-    requires { ⌜ at + length (now bytes) ≤ length (now room) ⌝ }
-    ensures { λ r. ⌜ Wrote (now (room .entry)) at (now (bytes .entry)) (now (room .exit)) r ⌝ }
-{
-    let mut i: usize = 0;
-    while i < bytes.len() {
-        room[at + i] = bytes[i];
-        i += 1;
-    }
-    at + i
-}
-
 // An operator's token, and what stands between it and the text of its last child.
 fn put_before(room: &mut [u8], at: usize, operator: Operator) -> usize
-    requires { ⌜ (operator .bytes ≤ length (operator .token)) × (at + (operator .bytes + 2) ≤ length (now room)) ⌝ }
+    requires { ⌜ operator .bytes ≤ length (operator .token) ⌝ }
     ensures { λ r. ⌜ Wrote (now (room .entry)) at (beforeLast operator) (now (room .exit)) r ⌝ }
 {
     let token = operator.token;
@@ -121,7 +98,7 @@ fn put_before(room: &mut [u8], at: usize, operator: Operator) -> usize
 
 // What stands between the texts of two children.
 fn put_between(room: &mut [u8], at: usize, operator: Operator) -> usize
-    requires { ⌜ (operator .bytes ≤ length (operator .token)) × (at + (operator .bytes + 4) ≤ length (now room)) ⌝ }
+    requires { ⌜ operator .bytes ≤ length (operator .token) ⌝ }
     ensures { λ r. ⌜ Wrote (now (room .entry)) at (41 ∷ 32 ∷ beforeLast operator) (now (room .exit)) r ⌝ }
 {
     let a = put(room, at, b") ");
@@ -129,12 +106,12 @@ fn put_between(room: &mut [u8], at: usize, operator: Operator) -> usize
 }
 
 fn put_name(names: &[u8], p: usize, room: &mut [u8], at: usize) -> usize
-    requires { ⌜ GoodNames (now names) × (p < length (namesIn (now names))) × (at + length (getD (namesIn (now names)) p []) ≤ length (now room)) ⌝ }
+    requires { ⌜ GoodNames (now names) × (p < length (namesIn (now names))) ⌝ }
     ensures { λ r. ⌜ Wrote (now (room .entry)) at (getD (namesIn (now (names .entry))) p []) (now (room .exit)) r ⌝ }
 {
-    let start = name_start(names, p);
-    let from = start + 1;
-    let to = from + names[start] as usize;
+    let l = letters(names, p);
+    let from = l.from;
+    let to = l.to;
     put(room, at, &names[from..to])
 }
 
@@ -149,8 +126,7 @@ fn put_leaf(
     room: &mut [u8],
     at: usize,
 ) -> usize
-    requires { ⌜ Printable (now names) (nodes (now codes) (now lefts) (now rights) (now sizes)) below (nodeOf node) × (IsUnary (node .code) → ⊥) × (IsBinary (node .code) → ⊥)
-        × Fitting (now names) (nodes (now codes) (now lefts) (now rights) (now sizes)) (nodeOf node) (now room) at ⌝ }
+    requires { ⌜ Printable (now names) (nodes (now codes) (now lefts) (now rights) (now sizes)) below (nodeOf node) × (IsUnary (node .code) → ⊥) × (IsBinary (node .code) → ⊥) ⌝ }
     ensures { λ r. ⌜ Written (now (names .entry)) (nodes (now (codes .entry)) (now (lefts .entry)) (now (rights .entry)) (now (sizes .entry))) (nodeOf node) (now (room .entry)) at (now (room .exit)) r ⌝ }
 {
     if node.code == PROPOSITION {
@@ -175,8 +151,7 @@ pub(crate) fn write(
     room: &mut [u8],
     at: usize,
 ) -> usize
-    requires { ⌜ Printable (now names) (nodes (now codes) (now lefts) (now rights) (now sizes)) below (nodeOf node)
-        × Fitting (now names) (nodes (now codes) (now lefts) (now rights) (now sizes)) (nodeOf node) (now room) at ⌝ }
+    requires { ⌜ Printable (now names) (nodes (now codes) (now lefts) (now rights) (now sizes)) below (nodeOf node) ⌝ }
     ensures { λ r. ⌜ Written (now (names .entry)) (nodes (now (codes .entry)) (now (lefts .entry)) (now (rights .entry)) (now (sizes .entry))) (nodeOf node) (now (room .entry)) at (now (room .exit)) r ⌝ }
 {
     let operator = operators::operator_of(node.code);

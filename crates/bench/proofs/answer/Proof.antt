@@ -2,19 +2,19 @@
 -- Assumes nothing.
 use mathlib.Core.Path.{sym}
 use lib.Seq.{length-take-le}
-use Rattle.report.proofs.Unique.{lines-in}
+use Rattle.lines.proofs.Unique.{lines-in}
 use borrow.Author.Needs.{needs}
 use Rattle.bench.proofs.answer.Statement.{statement}
 use Rattle.bench.proofs.answer.Tie as tie
 
-report-requires : tie.Need-report-requires
-report-requires c κs = search needs
+of-file-requires : tie.Need-of-file-requires
+of-file-requires c κs = search needs
 
 array-share-prefix-text : tie.Need-array-share-prefix-text
-array-share-prefix-text c = lines-in (c .report .ensures)
+array-share-prefix-text c = lines-in (c .of_file .ensures)
 
 slice-aggregate-write-all : tie.Need-slice-aggregate-write-all
-slice-aggregate-write-all c = sym (length-take-le _ _ (lines-in (c .before .report .ensures)))
+slice-aggregate-write-all c = sym (length-take-le _ _ (lines-in (c .before .of_file .ensures)))
 
 write-all-requires : tie.Need-write-all-requires
 write-all-requires c κs = search needs
@@ -35,7 +35,7 @@ pub answer-spec : {M : Type 1} → statement M
 answer-spec =
     tie.close
     (tie.spec
-    report-requires
+    of-file-requires
     array-share-prefix-text
     slice-aggregate-write-all
     write-all-requires

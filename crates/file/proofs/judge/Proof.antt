@@ -5,8 +5,8 @@ use borrow.Author.Needs.{needs}
 use Rattle.file.proofs.judge.Statement.{statement}
 use Rattle.file.proofs.judge.Tie as tie
 
-names-section-requires : tie.Need-names-section-requires
-names-section-requires c κs = search needs
+section-requires : tie.Need-section-requires
+section-requires c κs = search needs
 
 enum-known-names : tie.Need-enum-known-names
 enum-known-names c = search needs
@@ -61,8 +61,8 @@ returns c =
     let at-sessions = at-codes-section .before .before in
     let at-sessions-section = at-sessions .before .before in
     let at-names = at-sessions-section .before .before in
-    let at-names-section = at-names .before .before in
-    judge-whole _ _ (at-names-section .names-section .ensures) (at-names .names .given .1) _ (at-sessions-section .sessions-section .ensures) (at-sessions .sessions .given .1) _ (at-codes-section .codes-section .ensures) (at-unary .unary .given .1) _ (at-codes-section2 .codes-section2 .ensures) (at-binary .binary .given .1) _ (at-tail-at .tail-at .ensures) (at-tail .tail .given .1)
+    let at-section = at-names .before .before in
+    judge-whole _ _ (at-section .section .ensures) (at-names .names .given .1) _ (at-sessions-section .sessions-section .ensures) (at-sessions .sessions .given .1) _ (at-codes-section .codes-section .ensures) (at-unary .unary .given .1) _ (at-codes-section2 .codes-section2 .ensures) (at-binary .binary .given .1) _ (at-tail-at .tail-at .ensures) (at-tail .tail .given .1)
 
 returns-2 : tie.Need-returns-2
 returns-2 c =
@@ -75,8 +75,8 @@ returns-2 c =
     let at-sessions = at-codes-section .before .before in
     let at-sessions-section = at-sessions .before .before in
     let at-names = at-sessions-section .before .before in
-    let at-names-section = at-names .before .before in
-    judge-tail _ _ (at-names-section .names-section .ensures) (at-names .names .given .1) _ (at-sessions-section .sessions-section .ensures) (at-sessions .sessions .given .1) _ (at-codes-section .codes-section .ensures) (at-unary .unary .given .1) _ (at-codes-section2 .codes-section2 .ensures) (at-binary .binary .given .1) _ (at-tail-at .tail-at .ensures) (at-tail2 .tail2 .given .1)
+    let at-section = at-names .before .before in
+    judge-tail _ _ (at-section .section .ensures) (at-names .names .given .1) _ (at-sessions-section .sessions-section .ensures) (at-sessions .sessions .given .1) _ (at-codes-section .codes-section .ensures) (at-unary .unary .given .1) _ (at-codes-section2 .codes-section2 .ensures) (at-binary .binary .given .1) _ (at-tail-at .tail-at .ensures) (at-tail2 .tail2 .given .1)
 
 returns-3 : tie.Need-returns-3
 returns-3 c =
@@ -87,8 +87,8 @@ returns-3 c =
     let at-sessions = at-codes-section .before .before in
     let at-sessions-section = at-sessions .before .before in
     let at-names = at-sessions-section .before .before in
-    let at-names-section = at-names .before .before in
-    judge-binary _ _ (at-names-section .names-section .ensures) (at-names .names .given .1) _ (at-sessions-section .sessions-section .ensures) (at-sessions .sessions .given .1) _ (at-codes-section .codes-section .ensures) (at-unary .unary .given .1) _ (at-codes-section2 .codes-section2 .ensures) (at-binary2 .binary2 .given .1)
+    let at-section = at-names .before .before in
+    judge-binary _ _ (at-section .section .ensures) (at-names .names .given .1) _ (at-sessions-section .sessions-section .ensures) (at-sessions .sessions .given .1) _ (at-codes-section .codes-section .ensures) (at-unary .unary .given .1) _ (at-codes-section2 .codes-section2 .ensures) (at-binary2 .binary2 .given .1)
 
 returns-4 : tie.Need-returns-4
 returns-4 c =
@@ -97,25 +97,25 @@ returns-4 c =
     let at-sessions = at-codes-section .before .before in
     let at-sessions-section = at-sessions .before .before in
     let at-names = at-sessions-section .before .before in
-    let at-names-section = at-names .before .before in
-    judge-unary _ _ (at-names-section .names-section .ensures) (at-names .names .given .1) _ (at-sessions-section .sessions-section .ensures) (at-sessions .sessions .given .1) _ (at-codes-section .codes-section .ensures) (at-unary2 .unary2 .given .1)
+    let at-section = at-names .before .before in
+    judge-unary _ _ (at-section .section .ensures) (at-names .names .given .1) _ (at-sessions-section .sessions-section .ensures) (at-sessions .sessions .given .1) _ (at-codes-section .codes-section .ensures) (at-unary2 .unary2 .given .1)
 
 returns-5 : tie.Need-returns-5
 returns-5 c =
     let at-sessions2 = c .before in
     let at-sessions-section = at-sessions2 .before .before in
     let at-names = at-sessions-section .before .before in
-    let at-names-section = at-names .before .before in
-    judge-sessions _ _ (at-names-section .names-section .ensures) (at-names .names .given .1) _ (at-sessions-section .sessions-section .ensures) (at-sessions2 .sessions2 .given .1)
+    let at-section = at-names .before .before in
+    judge-sessions _ _ (at-section .section .ensures) (at-names .names .given .1) _ (at-sessions-section .sessions-section .ensures) (at-sessions2 .sessions2 .given .1)
 
 returns-6 : tie.Need-returns-6
-returns-6 c = judge-names _ _ (c .before .before .before .names-section .ensures) (c .before .names2 .given .1)
+returns-6 c = judge-names _ _ (c .before .before .before .section .ensures) (c .before .names2 .given .1)
 
 pub judge-spec : {M : Type 1} → statement M
 judge-spec =
     tie.close
     (tie.spec
-    names-section-requires
+    section-requires
     enum-known-names
     sessions-section-requires
     enum-known-sessions

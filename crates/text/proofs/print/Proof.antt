@@ -3,7 +3,7 @@
 use mathlib.Core.Path.{sym, _∙_}
 use Rattle.formula.specs.Kinds.{nodeOf, nodes}
 use Rattle.formula.proofs.Listed.{length-nodes}
-use Rattle.text.proofs.Answers.{names-good, names-broken, prints-broken, prints-nine, printable, prints-three, room-enough, prints-text}
+use Rattle.text.proofs.Answers.{names-good, names-broken, prints-broken, prints-nine, printable, prints-three, prints-text}
 use borrow.Author.Needs.{needs}
 use Rattle.text.proofs.print.Statement.{statement}
 use Rattle.text.proofs.print.Tie as tie
@@ -40,7 +40,7 @@ write-requires : tie.Need-write-requires
 write-requires c κs = let a = c .before .before .before .before .before .before .before .before .before .before .before .before .before .before .before .before .args in
     let n = names-good (a .names .now) (c .before .before .before .before .before .before .before .before .before .judge .result) (c .before .before .before .before .before .before .before .before .before .judge .ensures) (c .before .before .before .before .before .before .before .judged .given .1) in
     let p = printable (a .names .now) (n .0) (nodes (a .codes .now) (a .lefts .now) (a .rights .now) (a .sizes .now)) (nodeOf (a .root)) (a .room .now) (n .1) (c .before .before .before .before .before .refusal .result) (c .before .before .before .before .before .refusal .ensures) (c .before .before .before .before .if1 .left) (c .before .before .before .count .ensures ∙ sym (length-nodes (a .codes .now) (a .lefts .now) (a .rights .now) (a .sizes .now))) in
-    (p, room-enough (a .names .now) (n .0) (nodes (a .codes .now) (a .lefts .now) (a .rights .now) (a .sizes .now)) (nodeOf (a .root)) (a .room .now) (n .1) (c .before .before .before .before .before .refusal .result) (c .before .before .before .before .before .refusal .ensures) (c .before .before .before .before .if1 .left) p (c .before .before .length .ensures) (c .before .if2 .left))
+    p
 
 enum-known-judged-2 : tie.Need-enum-known-judged-2
 enum-known-judged-2 c = search needs

@@ -4,7 +4,7 @@ use Prim.Native.Nat.{_+_}
 use native.Mathlib.Omega.{arith}
 use borrow.Author.Tests.{lt-ltb, le-ltb}
 use mathlib.Core.Path.{sym, _∙_}
-use Rattle.file.specs.Offence.{byte}
+use Rattle.reading.specs.Reading.{byte}
 use borrow.Author.Needs.{needs}
 use Rattle.file.proofs.codes.code_at.Statement.{statement}
 use Rattle.file.proofs.codes.code_at.Tie as tie

@@ -3,7 +3,7 @@
 use Prim.Native.Nat.{_-_}
 use native.Mathlib.Omega.{arith}
 use Rattle.file.specs.Inner.{groupOf}
-use Rattle.file.proofs.Steps.{done}
+use Rattle.reading.proofs.Steps.{done}
 use Rattle.file.proofs.Turns.{Codes, codes-start, codes-turn, codes-broken}
 use borrow.Author.Needs.{needs}
 use Rattle.file.proofs.codes.codes_from.Statement.{statement}

@@ -1,7 +1,7 @@
 -- `codes_section` meets its contract: a section after its count.
 -- Assumes nothing.
 use native.Mathlib.Omega.{arith}
-use Rattle.file.proofs.Steps.{section-read, section-broken, byte-read, byte-next}
+use Rattle.reading.proofs.Steps.{section-read, section-broken, byte-read, byte-next}
 use borrow.Author.Needs.{needs}
 use Rattle.file.proofs.codes.codes_section.Statement.{statement}
 use Rattle.file.proofs.codes.codes_section.Tie as tie

@@ -1,8 +1,8 @@
 -- `session_at` meets its contract: mark, length and words.
 -- Assumes nothing.
-use Rattle.file.proofs.Lists.{within-high}
-use Rattle.file.proofs.Readers.{byte-sound}
-use Rattle.file.proofs.Steps.{byte-read}
+use Rattle.reading.proofs.Lists.{within-high}
+use Rattle.reading.proofs.Readers.{byte-sound}
+use Rattle.reading.proofs.Steps.{byte-read}
 use Rattle.file.proofs.Sections.{session-no-mark, session-no-length, session-words}
 use borrow.Author.Needs.{needs}
 use Rattle.file.proofs.sessions.session_at.Statement.{statement}

@@ -1,6 +1,6 @@
 -- `sessions_section` meets its contract: a section after its count.
 -- Assumes nothing.
-use Rattle.file.proofs.Steps.{section-read, section-broken}
+use Rattle.reading.proofs.Steps.{section-read, section-broken}
 use borrow.Author.Needs.{needs}
 use Rattle.file.proofs.sessions.sessions_section.Statement.{statement}
 use Rattle.file.proofs.sessions.sessions_section.Tie as tie

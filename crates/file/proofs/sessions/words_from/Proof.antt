@@ -3,7 +3,7 @@
 use Prim.Native.Nat.{_-_}
 use Rattle.file.specs.Offence.{word}
 use Rattle.file.specs.Inner.{nothing}
-use Rattle.file.proofs.Steps.{step-read, step-broken, Loop, start, turn, broken, done}
+use Rattle.reading.proofs.Steps.{step-read, step-broken, Loop, start, turn, broken, done}
 use borrow.Author.Needs.{needs}
 use Rattle.file.proofs.sessions.words_from.Statement.{statement}
 use Rattle.file.proofs.sessions.words_from.Tie as tie

@@ -6,7 +6,7 @@ use native.Mathlib.Omega.{arith}
 use lib.ListN.{length}
 use Rattle.sequence.proofs.Groups.{in-unary, in-binary, off-unary, off-binary}
 use Rattle.formula.specs.Kinds.{nodeOf, nodes}
-use Rattle.text.specs.Inner.{namesIn}
+use Rattle.names.specs.Names.{namesIn}
 use Rattle.formula.proofs.Faults.{left-under, right-under}
 use Rattle.text.proofs.Texts.{unary-short, binary-short, unary-token, binary-token}
 use Rattle.text.proofs.Printing.{printable-at, long-bound, long-unary, long-binary}

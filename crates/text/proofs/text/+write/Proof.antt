@@ -6,10 +6,10 @@ use native.Mathlib.Omega.{arith}
 use lib.ListN.{length}
 use Rattle.sequence.proofs.Groups.{in-unary, in-binary, off-unary, off-binary}
 use Rattle.formula.specs.Kinds.{nodeOf, nodes}
-use Rattle.text.specs.Inner.{namesIn}
+use Rattle.names.specs.Names.{namesIn}
 use Rattle.formula.proofs.Faults.{left-under, right-under}
 use Rattle.sequence.proofs.Table.{token-fits}
-use Rattle.text.proofs.Printing.{printable-at, room-before, room-child, room-close, unary-written, room-open, room-left, room-between, room-right, room-end, binary-written}
+use Rattle.text.proofs.Printing.{printable-at, unary-written, binary-written}
 use borrow.Author.Needs.{needs}
 use Prim.Native.Nat.{ℕ, _<_}
 use borrow.Fn.Kinds.{In}
@@ -18,7 +18,7 @@ use Rattle.text.proofs.text.write.Reads as write
 use Rattle.text.proofs.text.write.Kinds as write-kinds
 use Rattle.text.proofs.text.+write.Lts-write as write-lts
 use Rattle.formula.proofs.nodes.node_at.Reads as node-at-reads
-use Rattle.text.proofs.text.put.Reads as put-reads
+use Rattle.writing.proofs.put.Reads as put-reads
 use Rattle.text.proofs.text.put_before.Reads as put-before-reads
 use Rattle.text.proofs.text.put_between.Reads as put-between-reads
 use Rattle.text.proofs.text.put_leaf.Reads as put-leaf-reads
@@ -127,7 +127,7 @@ write-put-before-requires t c κs = let s = c .before .before .before .before .b
     let a = s .args in
     let f = c .before .before .before .before .before .operator-of in
     let u = in-unary _ (f .result) (f .ensures) (c .before .before .before .enum-told .given .1) in
-    (token-fits (f .ensures), room-before (a .names .now) (nodes (a .codes .now) (a .lefts .now) (a .rights .now) (a .sizes .now)) (nodeOf (a .node)) (s .pre .1 .0) (f .result) (f .ensures) u (c .before .node-at .ensures) (a .room .now) (a .at) (s .pre .1 .1))
+    token-fits (f .ensures)
 
 write-write-requires : (t : ℕ) → write-lts.Need-write-requires (
   operator-of-reads.Asked,
@@ -149,8 +149,8 @@ write-write-requires t c κs = let s = c .before .before .before .before .before
     let a = s .args in
     let f = c .before .before .before .before .before .before .before .before .before .operator-of in
     let u = in-unary _ (f .result) (f .ensures) (c .before .before .before .before .before .before .before .enum-told .given .1) in
-    let h = left-under (length (namesIn (a .names .now))) (nodes (a .codes .now) (a .lefts .now) (a .rights .now) (a .sizes .now)) (a .below) (nodeOf (a .node)) (s .pre .1 .0 .fits) (inl u) in
-    (omega arith, (printable-at (a .names .now) (nodes (a .codes .now) (a .lefts .now) (a .rights .now) (a .sizes .now)) (s .pre .1 .0) (a .node .left .0) h (c .before .before .before .before .before .node-at .ensures), room-child (a .names .now) (nodes (a .codes .now) (a .lefts .now) (a .rights .now) (a .sizes .now)) (nodeOf (a .node)) (s .pre .1 .0) (f .result) (f .ensures) u (c .before .before .before .before .before .node-at .ensures) (a .room .now) (a .at) (s .pre .1 .1) (c .before .before .before .put-before .ensures)))
+    let h = left-under (length (namesIn (a .names .now))) (nodes (a .codes .now) (a .lefts .now) (a .rights .now) (a .sizes .now)) (a .below) (nodeOf (a .node)) (s .pre .1 .fits) (inl u) in
+    (omega arith, printable-at (a .names .now) (nodes (a .codes .now) (a .lefts .now) (a .rights .now) (a .sizes .now)) (s .pre .1) (a .node .left .0) h (c .before .before .before .before .before .node-at .ensures))
 
 write-slice-aggregate-put : (t : ℕ) → write-lts.Need-slice-aggregate-put (
   operator-of-reads.Asked,
@@ -186,11 +186,7 @@ write-put-requires : (t : ℕ) → write-lts.Need-put-requires (
   put-leaf-reads.Asked,
   put-leaf-reads.Learnt,
 ) (write-at t) write.Post
-write-put-requires t c κs = let s = c .before .before .before .before .before .before .before .before .before .before .before .before .before .before .before .before .before .before .before .before .before in
-    let a = s .args in
-    let f = c .before .before .before .before .before .before .before .before .before .before .before .before .before .before .operator-of in
-    let u = in-unary _ (f .result) (f .ensures) (c .before .before .before .before .before .before .before .before .before .before .before .before .enum-told .given .1) in
-    room-close (a .names .now) (nodes (a .codes .now) (a .lefts .now) (a .rights .now) (a .sizes .now)) (nodeOf (a .node)) (s .pre .1 .0) (f .result) (f .ensures) u (c .before .before .before .before .before .before .before .before .before .before .node-at .ensures) (a .room .now) (a .at) (s .pre .1 .1) (c .before .before .before .before .before .before .before .before .put-before .ensures) (c .before .before .before .before .write .ensures)
+write-put-requires t c κs = search needs
 
 write-enum-told-2 : (t : ℕ) → write-lts.Need-enum-told-2 (
   operator-of-reads.Asked,
@@ -316,11 +312,7 @@ write-put-requires-2 : (t : ℕ) → write-lts.Need-put-requires-2 (
   put-leaf-reads.Asked,
   put-leaf-reads.Learnt,
 ) (write-at t) write.Post
-write-put-requires-2 t c κs = let s = c .before .before .before .before .before .before .before .before .before .before .before .before .before .before .before in
-    let a = s .args in
-    let f = c .before .before .before .before .before .before .before .before .operator-of in
-    let u = in-binary _ (f .result) (f .ensures) (c .before .before .before .before .before .before .enum-told2 .given .1) in
-    room-open (a .names .now) (nodes (a .codes .now) (a .lefts .now) (a .rights .now) (a .sizes .now)) (nodeOf (a .node)) (s .pre .1 .0) (f .result) (f .ensures) u (c .before .before .before .before .node-at2 .ensures) (c .before .before .node-at3 .ensures) (a .room .now) (a .at) (s .pre .1 .1)
+write-put-requires-2 t c κs = search needs
 
 write-write-requires-2 : (t : ℕ) → write-lts.Need-write-requires-2 (
   operator-of-reads.Asked,
@@ -342,8 +334,8 @@ write-write-requires-2 t c κs = let s = c .before .before .before .before .befo
     let a = s .args in
     let f = c .before .before .before .before .before .before .before .before .before .before .before .before .operator-of in
     let u = in-binary _ (f .result) (f .ensures) (c .before .before .before .before .before .before .before .before .before .before .enum-told2 .given .1) in
-    let h = left-under (length (namesIn (a .names .now))) (nodes (a .codes .now) (a .lefts .now) (a .rights .now) (a .sizes .now)) (a .below) (nodeOf (a .node)) (s .pre .1 .0 .fits) (inr u) in
-    (omega arith, (printable-at (a .names .now) (nodes (a .codes .now) (a .lefts .now) (a .rights .now) (a .sizes .now)) (s .pre .1 .0) (a .node .left .0) h (c .before .before .before .before .before .before .before .before .node-at2 .ensures), room-left (a .names .now) (nodes (a .codes .now) (a .lefts .now) (a .rights .now) (a .sizes .now)) (nodeOf (a .node)) (s .pre .1 .0) (f .result) (f .ensures) u (c .before .before .before .before .before .before .before .before .node-at2 .ensures) (c .before .before .before .before .before .before .node-at3 .ensures) (a .room .now) (a .at) (s .pre .1 .1) (c .before .before .before .put2 .ensures)))
+    let h = left-under (length (namesIn (a .names .now))) (nodes (a .codes .now) (a .lefts .now) (a .rights .now) (a .sizes .now)) (a .below) (nodeOf (a .node)) (s .pre .1 .fits) (inr u) in
+    (omega arith, printable-at (a .names .now) (nodes (a .codes .now) (a .lefts .now) (a .rights .now) (a .sizes .now)) (s .pre .1) (a .node .left .0) h (c .before .before .before .before .before .before .before .before .node-at2 .ensures))
 
 write-put-between-requires : (t : ℕ) → write-lts.Need-put-between-requires (
   operator-of-reads.Asked,
@@ -365,7 +357,7 @@ write-put-between-requires t c κs = let s = c .before .before .before .before .
     let a = s .args in
     let f = c .before .before .before .before .before .before .before .before .before .before .before .before .before .before .before .before .operator-of in
     let u = in-binary _ (f .result) (f .ensures) (c .before .before .before .before .before .before .before .before .before .before .before .before .before .before .enum-told2 .given .1) in
-    (token-fits (f .ensures), room-between (a .names .now) (nodes (a .codes .now) (a .lefts .now) (a .rights .now) (a .sizes .now)) (nodeOf (a .node)) (s .pre .1 .0) (f .result) (f .ensures) u (c .before .before .before .before .before .before .before .before .before .before .before .before .node-at2 .ensures) (c .before .before .before .before .before .before .before .before .before .before .node-at3 .ensures) (a .room .now) (a .at) (s .pre .1 .1) (c .before .before .before .before .before .before .before .put2 .ensures) (c .before .before .before .write2 .ensures))
+    token-fits (f .ensures)
 
 write-write-requires-3 : (t : ℕ) → write-lts.Need-write-requires-3 (
   operator-of-reads.Asked,
@@ -387,8 +379,8 @@ write-write-requires-3 t c κs = let s = c .before .before .before .before .befo
     let a = s .args in
     let f = c .before .before .before .before .before .before .before .before .before .before .before .before .before .before .before .before .before .before .before .before .operator-of in
     let u = in-binary _ (f .result) (f .ensures) (c .before .before .before .before .before .before .before .before .before .before .before .before .before .before .before .before .before .before .enum-told2 .given .1) in
-    let h = right-under (length (namesIn (a .names .now))) (nodes (a .codes .now) (a .lefts .now) (a .rights .now) (a .sizes .now)) (a .below) (nodeOf (a .node)) (s .pre .1 .0 .fits) u in
-    (omega arith, (printable-at (a .names .now) (nodes (a .codes .now) (a .lefts .now) (a .rights .now) (a .sizes .now)) (s .pre .1 .0) (a .node .right .0) h (c .before .before .before .before .before .before .before .before .before .before .before .before .before .before .node-at3 .ensures), room-right (a .names .now) (nodes (a .codes .now) (a .lefts .now) (a .rights .now) (a .sizes .now)) (nodeOf (a .node)) (s .pre .1 .0) (f .result) (f .ensures) u (c .before .before .before .before .before .before .before .before .before .before .before .before .before .before .before .before .node-at2 .ensures) (c .before .before .before .before .before .before .before .before .before .before .before .before .before .before .node-at3 .ensures) (a .room .now) (a .at) (s .pre .1 .1) (c .before .before .before .before .before .before .before .before .before .before .before .put2 .ensures) (c .before .before .before .before .before .before .before .write2 .ensures) (c .before .before .before .put-between .ensures)))
+    let h = right-under (length (namesIn (a .names .now))) (nodes (a .codes .now) (a .lefts .now) (a .rights .now) (a .sizes .now)) (a .below) (nodeOf (a .node)) (s .pre .1 .fits) u in
+    (omega arith, printable-at (a .names .now) (nodes (a .codes .now) (a .lefts .now) (a .rights .now) (a .sizes .now)) (s .pre .1) (a .node .right .0) h (c .before .before .before .before .before .before .before .before .before .before .before .before .before .before .node-at3 .ensures))
 
 write-slice-aggregate-put-3 : (t : ℕ) → write-lts.Need-slice-aggregate-put-3 (
   operator-of-reads.Asked,
@@ -424,11 +416,7 @@ write-put-requires-3 : (t : ℕ) → write-lts.Need-put-requires-3 (
   put-leaf-reads.Asked,
   put-leaf-reads.Learnt,
 ) (write-at t) write.Post
-write-put-requires-3 t c κs = let s = c .before .before .before .before .before .before .before .before .before .before .before .before .before .before .before .before .before .before .before .before .before .before .before .before .before .before .before .before .before .before .before .before in
-    let a = s .args in
-    let f = c .before .before .before .before .before .before .before .before .before .before .before .before .before .before .before .before .before .before .before .before .before .before .before .before .before .operator-of in
-    let u = in-binary _ (f .result) (f .ensures) (c .before .before .before .before .before .before .before .before .before .before .before .before .before .before .before .before .before .before .before .before .before .before .before .enum-told2 .given .1) in
-    room-end (a .names .now) (nodes (a .codes .now) (a .lefts .now) (a .rights .now) (a .sizes .now)) (nodeOf (a .node)) (s .pre .1 .0) (f .result) (f .ensures) u (c .before .before .before .before .before .before .before .before .before .before .before .before .before .before .before .before .before .before .before .before .before .node-at2 .ensures) (c .before .before .before .before .before .before .before .before .before .before .before .before .before .before .before .before .before .before .before .node-at3 .ensures) (a .room .now) (a .at) (s .pre .1 .1) (c .before .before .before .before .before .before .before .before .before .before .before .before .before .before .before .before .put2 .ensures) (c .before .before .before .before .before .before .before .before .before .before .before .before .write2 .ensures) (c .before .before .before .before .before .before .before .before .put-between .ensures) (c .before .before .before .before .write3 .ensures)
+write-put-requires-3 t c κs = search needs
 
 write-enum-told-3 : (t : ℕ) → write-lts.Need-enum-told-3 (
   operator-of-reads.Asked,
@@ -465,7 +453,7 @@ write-put-leaf-requires : (t : ℕ) → write-lts.Need-put-leaf-requires (
   put-leaf-reads.Learnt,
 ) (write-at t) write.Post
 write-put-leaf-requires t c κs = let f = c .before .before .before .operator-of in
-    (c .before .before .before .before .before .before .before .before .before .before .pre .1 .0, λ u. off-unary _ (f .result) (f .ensures) (λ g. let z : _≡_ {A = ℕ} 0 1 = cc (c .before .enum-told3 .given .1) in omega arith) (u .0) (u .1), λ u. off-binary _ (f .result) (f .ensures) (λ g. let z : _≡_ {A = ℕ} 0 1 = cc (c .before .enum-told3 .given .1) in omega arith) (u .0) (u .1), c .before .before .before .before .before .before .before .before .before .before .pre .1 .1)
+    (c .before .before .before .before .before .before .before .before .before .before .pre .1, λ u. off-unary _ (f .result) (f .ensures) (λ g. let z : _≡_ {A = ℕ} 0 1 = cc (c .before .enum-told3 .given .1) in omega arith) (u .0) (u .1), λ u. off-binary _ (f .result) (f .ensures) (λ g. let z : _≡_ {A = ℕ} 0 1 = cc (c .before .enum-told3 .given .1) in omega arith) (u .0) (u .1))
 
 write-same-length : (t : ℕ) → write-lts.Need-same-length (
   operator-of-reads.Asked,
@@ -505,7 +493,7 @@ write-returns t c = let s = c .before .before .before .before .before .before .b
     let a = s .args in
     let f = c .before .before .before .before .before .before .before .before .before .before .before .before .before .before .before .before .before .operator-of in
     let u = in-unary _ (f .result) (f .ensures) (c .before .before .before .before .before .before .before .before .before .before .before .before .before .before .before .enum-told .given .1) in
-    unary-written (a .names .now) (nodes (a .codes .now) (a .lefts .now) (a .rights .now) (a .sizes .now)) (nodeOf (a .node)) (s .pre .1 .0) (f .result) (f .ensures) u (c .before .before .before .before .before .before .before .before .before .before .before .before .before .node-at .ensures) (c .before .before .before .before .before .before .before .before .before .before .before .put-before .ensures) (c .before .before .before .before .before .before .before .write .ensures) (c .before .before .put .ensures)
+    unary-written (a .names .now) (nodes (a .codes .now) (a .lefts .now) (a .rights .now) (a .sizes .now)) (nodeOf (a .node)) (s .pre .1) (f .result) (f .ensures) u (c .before .before .before .before .before .before .before .before .before .before .before .before .before .node-at .ensures) (c .before .before .before .before .before .before .before .before .before .before .before .put-before .ensures) (c .before .before .before .before .before .before .before .write .ensures) (c .before .before .put .ensures)
 
 write-same-length-2 : (t : ℕ) → write-lts.Need-same-length-2 (
   operator-of-reads.Asked,
@@ -545,7 +533,7 @@ write-returns-2 t c = let s = c .before .before .before .before .before .before 
     let a = s .args in
     let f = c .before .before .before .before .before .before .before .before .before .before .before .before .before .before .before .before .before .before .before .before .before .before .before .before .before .before .before .before .operator-of in
     let u = in-binary _ (f .result) (f .ensures) (c .before .before .before .before .before .before .before .before .before .before .before .before .before .before .before .before .before .before .before .before .before .before .before .before .before .before .enum-told2 .given .1) in
-    binary-written (a .names .now) (nodes (a .codes .now) (a .lefts .now) (a .rights .now) (a .sizes .now)) (nodeOf (a .node)) (s .pre .1 .0) (f .result) (f .ensures) u (c .before .before .before .before .before .before .before .before .before .before .before .before .before .before .before .before .before .before .before .before .before .before .before .before .node-at2 .ensures) (c .before .before .before .before .before .before .before .before .before .before .before .before .before .before .before .before .before .before .before .before .before .before .node-at3 .ensures) (c .before .before .before .before .before .before .before .before .before .before .before .before .before .before .before .before .before .before .before .put2 .ensures) (c .before .before .before .before .before .before .before .before .before .before .before .before .before .before .before .write2 .ensures) (c .before .before .before .before .before .before .before .before .before .before .before .put-between .ensures) (c .before .before .before .before .before .before .before .write3 .ensures) (c .before .before .put3 .ensures)
+    binary-written (a .names .now) (nodes (a .codes .now) (a .lefts .now) (a .rights .now) (a .sizes .now)) (nodeOf (a .node)) (s .pre .1) (f .result) (f .ensures) u (c .before .before .before .before .before .before .before .before .before .before .before .before .before .before .before .before .before .before .before .before .before .before .before .before .node-at2 .ensures) (c .before .before .before .before .before .before .before .before .before .before .before .before .before .before .before .before .before .before .before .before .before .before .node-at3 .ensures) (c .before .before .before .before .before .before .before .before .before .before .before .before .before .before .before .before .before .before .before .put2 .ensures) (c .before .before .before .before .before .before .before .before .before .before .before .before .before .before .before .write2 .ensures) (c .before .before .before .before .before .before .before .before .before .before .before .put-between .ensures) (c .before .before .before .before .before .before .before .write3 .ensures) (c .before .before .put3 .ensures)
 
 write-same-length-3 : (t : ℕ) → write-lts.Need-same-length-3 (
   operator-of-reads.Asked,

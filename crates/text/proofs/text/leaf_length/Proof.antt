@@ -6,9 +6,9 @@ use native.Mathlib.Omega.{arith}
 use mathlib.Core.List.{[]}
 use lib.ListN.{length, getD}
 use Rattle.formula.specs.Kinds.{nodeOf, nodes}
-use Rattle.text.specs.Inner.{namesIn}
+use Rattle.names.specs.Names.{namesIn}
 use Rattle.formula.proofs.Faults.{proposition-under, true-code}
-use Rattle.text.proofs.Names.{few-names}
+use Rattle.names.proofs.Starts.{few-names}
 use Rattle.text.proofs.Printing.{proposition-text, false-text, true-text, known-long}
 use borrow.Author.Needs.{needs}
 use Rattle.text.proofs.text.leaf_length.Statement.{statement}

@@ -1,26 +1,20 @@
--- `name_length` meets its contract: a name's length byte is its length.
+-- `name_length` meets its contract: as many bytes as there are from the first letter up to the next name.
 -- Assumes nothing.
-use mathlib.Core.Path.{ap, _∙_}
-use Prim.Native.Nat.{ℕ}
 use native.Mathlib.Omega.{arith}
-use lib.ListN.{getD}
-use Rattle.text.proofs.Names.{start-in, name-byte}
+use Rattle.names.proofs.Lookups.{span-order}
+use Rattle.names.proofs.Starts.{letters-long}
 use borrow.Author.Needs.{needs}
 use Rattle.text.proofs.text.name_length.Statement.{statement}
 use Rattle.text.proofs.text.name_length.Tie as tie
 
-name-start-requires : tie.Need-name-start-requires
-name-start-requires c κs = search needs
+letters-requires : tie.Need-letters-requires
+letters-requires c κs = search needs
 
-shared-slice-read-result : tie.Need-shared-slice-read-result
-shared-slice-read-result c = let s = c .before .before .before in omega (arith, c .before .name-start .ensures, start-in (s .args .names .now) (s .pre .0) (s .args .p) (s .pre .1))
-
-cast-result : tie.Need-cast-result
-cast-result c = omega (arith, c .shared-slice-known2 .given (c .before .name-start .result))
+sub-result : tie.Need-sub-result
+sub-result c = let s = c .before .before .before in omega (arith, span-order (s .args .names .now) (s .args .p) (c .before .letters .ensures) .0)
 
 returns : tie.Need-returns
-returns c = let s = c .before .before .before in ap (λ (x : ℕ). getD (s .args .names .now) x 0) (c .before .name-start .ensures) ∙ name-byte (s .args .names .now) (s .pre .0) (s .args .p) (s .pre .1)
+returns c = let s = c .before .before .before in letters-long (s .args .names .now) (s .pre .0) (s .args .p) (s .pre .1) (c .before .letters .ensures)
 
 pub name-length-spec : {M : Type 1} → statement M
-name-length-spec =
-    tie.close (tie.spec name-start-requires shared-slice-read-result cast-result returns)
+name-length-spec = tie.close (tie.spec letters-requires sub-result returns)

@@ -1,11 +1,10 @@
 -- `put_before` meets its contract.
 -- Assumes nothing.
 use mathlib.Core.Path.{sym}
-use native.Mathlib.Omega.{arith}
 use mathlib.Core.List.{[], _∷_}
 use lib.ListN.{take}
 use lib.Seq.{length-take-le}
-use Rattle.text.proofs.Writing.{wrote-both, wrote-length}
+use Rattle.writing.proofs.Writing.{wrote-both}
 use borrow.Author.Needs.{needs}
 use Rattle.text.proofs.text.put_before.Statement.{statement}
 use Rattle.text.proofs.text.put_before.Tie as tie
@@ -14,19 +13,16 @@ array-share-prefix-token : tie.Need-array-share-prefix-token
 array-share-prefix-token c = search needs
 
 slice-aggregate-put : tie.Need-slice-aggregate-put
-slice-aggregate-put c = let s = c .before .before .before .before in sym (length-take-le (s .args .operator .bytes) (s .args .operator .token) (s .pre .0))
+slice-aggregate-put c = let s = c .before .before .before .before in sym (length-take-le (s .args .operator .bytes) (s .args .operator .token) (s .pre))
 
 put-requires : tie.Need-put-requires
-put-requires c κs = let s = c .before .before .before .before in omega (arith, s .pre .1, length-take-le (s .args .operator .bytes) (s .args .operator .token) (s .pre .0))
+put-requires c κs = search needs
 
 slice-aggregate-put-2 : tie.Need-slice-aggregate-put-2
 slice-aggregate-put-2 c = search needs
 
 put-requires-2 : tie.Need-put-requires-2
-put-requires-2 c κs = let s = c .before .before .before .before .before .before .before .before .before in
-    let o = s .args .operator in
-    let w = c .before .before .before .before .put .ensures in
-    omega (arith, s .pre .1, length-take-le (o .bytes) (o .token) (s .pre .0), w .next, wrote-length (take (o .bytes) (o .token)) w)
+put-requires-2 c κs = search needs
 
 same-length : tie.Need-same-length
 same-length c = search needs

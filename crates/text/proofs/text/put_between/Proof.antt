@@ -1,9 +1,8 @@
 -- `put_between` meets its contract.
 -- Assumes nothing.
-use native.Mathlib.Omega.{arith}
 use mathlib.Core.List.{[], _∷_}
 use Rattle.text.specs.Inner.{beforeLast}
-use Rattle.text.proofs.Writing.{wrote-both, wrote-length}
+use Rattle.writing.proofs.Writing.{wrote-both}
 use borrow.Author.Needs.{needs}
 use Rattle.text.proofs.text.put_between.Statement.{statement}
 use Rattle.text.proofs.text.put_between.Tie as tie
@@ -15,7 +14,7 @@ put-requires : tie.Need-put-requires
 put-requires c κs = search needs
 
 put-before-requires : tie.Need-put-before-requires
-put-before-requires c κs = let s = c .before .before .before .before .before .before .before in let w = c .before .before .before .put .ensures in (s .pre .0, omega (arith, s .pre .1, w .next, wrote-length (41 ∷ 32 ∷ []) w))
+put-before-requires c κs = c .before .before .before .before .before .before .before .pre
 
 same-length : tie.Need-same-length
 same-length c = search needs

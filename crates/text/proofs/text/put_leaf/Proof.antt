@@ -1,15 +1,16 @@
 -- `put_leaf` meets its contract: the name, or the constant's own letters.
 -- Assumes nothing.
-use mathlib.Core.Path.{_≡_, ap, subst}
+use mathlib.Core.Path.{_≡_, subst}
 use Prim.Native.Nat.{ℕ}
 use native.Mathlib.Omega.{arith}
 use mathlib.Core.List.{[]}
 use lib.ListN.{length, getD}
 use Rattle.formula.specs.Kinds.{nodeOf, nodes}
-use Rattle.text.specs.Inner.{namesIn, Wrote}
+use Rattle.names.specs.Names.{namesIn}
+use Rattle.writing.specs.Writing.{Wrote}
 use Rattle.formula.proofs.Faults.{proposition-under, true-code}
-use Rattle.text.proofs.Names.{few-names}
-use Rattle.text.proofs.Printing.{proposition-text, false-text, true-text, known-room, known-written}
+use Rattle.names.proofs.Starts.{few-names}
+use Rattle.text.proofs.Printing.{proposition-text, false-text, true-text, known-written}
 use borrow.Author.Needs.{needs}
 use Rattle.text.proofs.text.put_leaf.Statement.{statement}
 use Rattle.text.proofs.text.put_leaf.Tie as tie
@@ -26,7 +27,7 @@ put-name-requires c κs = let s = c .before .before .before .before .before .bef
     let few = few-names (a .names .now) (s .pre .0 .good) in
     let low = proposition-under (length (namesIn (a .names .now))) (nodes (a .codes .now) (a .lefts .now) (a .rights .now) (a .sizes .now)) (a .below) (nodeOf (a .node)) (s .pre .0 .fits) (c .before .before .before .if1 .taken) in
     let e : c .before .before .from-left .result .0 ≡ a .node .left .0 = omega arith in
-    (s .pre .0 .good, omega arith, omega (arith, known-room (a .names .now) (nodes (a .codes .now) (a .lefts .now) (a .rights .now) (a .sizes .now)) (nodeOf (a .node)) (proposition-text (a .names .now) (nodes (a .codes .now) (a .lefts .now) (a .rights .now) (a .sizes .now)) (nodeOf (a .node)) (c .before .before .before .if1 .taken)) (a .room .now) (a .at) (s .pre .0) (s .pre .3), ap (λ (p : ℕ). length (getD (namesIn (a .names .now)) p [])) e))
+    (s .pre .0 .good, omega arith)
 
 same-length : tie.Need-same-length
 same-length c = search needs
@@ -44,7 +45,7 @@ slice-aggregate-put : tie.Need-slice-aggregate-put
 slice-aggregate-put c = search needs
 
 put-requires : tie.Need-put-requires
-put-requires c κs = let s = c .before .before .before .before .before .before .before .before .before .before .before .before in let a = s .args in known-room (a .names .now) (nodes (a .codes .now) (a .lefts .now) (a .rights .now) (a .sizes .now)) (nodeOf (a .node)) (false-text (a .names .now) (nodes (a .codes .now) (a .lefts .now) (a .rights .now) (a .sizes .now)) (nodeOf (a .node)) (c .before .before .if2 .taken)) (a .room .now) (a .at) (s .pre .0) (s .pre .3)
+put-requires c κs = search needs
 
 same-length-2 : tie.Need-same-length-2
 same-length-2 c = search needs
@@ -56,7 +57,7 @@ slice-aggregate-put-2 : tie.Need-slice-aggregate-put-2
 slice-aggregate-put-2 c = search needs
 
 put-requires-2 : tie.Need-put-requires-2
-put-requires-2 c κs = let s = c .before .before .before .before .before .before .before .before .before .before .before .before in let a = s .args in known-room (a .names .now) (nodes (a .codes .now) (a .lefts .now) (a .rights .now) (a .sizes .now)) (nodeOf (a .node)) (true-text (a .names .now) (nodes (a .codes .now) (a .lefts .now) (a .rights .now) (a .sizes .now)) (nodeOf (a .node)) (true-code _ _ (a .below) (nodeOf (a .node)) (s .pre .0 .fits) (s .pre .1) (s .pre .2) (c .before .before .before .before .if1 .left) (c .before .before .if2 .left))) (a .room .now) (a .at) (s .pre .0) (s .pre .3)
+put-requires-2 c κs = search needs
 
 same-length-3 : tie.Need-same-length-3
 same-length-3 c = search needs

@@ -1,0 +1,50 @@
+-- What the bench writes for a file, for every byte string and every room.
+-- Assumes nothing.
+use mathlib.Core.Path.{_≡_}
+use mathlib.Core.List.{List, _++_}
+use Prim.Native.Nat.{ℕ, _≤_}
+use lib.ListN.{length}
+use Rattle.rules.specs.Limits.{mostRoom, Outside}
+use Rattle.file.specs.Format.{Parts}
+use Rattle.reading.specs.Reading.{Got, got, bad}
+use Rattle.file.specs.Offence.{wholeFile}
+use Rattle.file.specs.Reading.{marksOf, lengthsOf, wordsOf}
+use Rattle.rules.specs.Answers.{over}
+use Rattle.formula.specs.Formula.{Formula}
+use Rattle.formula.specs.Nodes.{Spells, codes}
+use Rattle.walk.specs.Walk.{Ending, found, none, full, ended}
+use Rattle.walk.specs.Input.{Input, search}
+use Rattle.walk.specs.Promises.{Table, nodes}
+use Rattle.text.specs.Text.{text}
+use Rattle.walk.specs.Input as walking
+use Rattle.lines.specs.Line.{newline, foundLine, noneLine, fullLine, brokenLine, refusedLine}
+
+-- a file's parts, and a room, as the input of a search
+abbrev pub inputOf : Parts → ℕ → Input
+inputOf p room =
+    walking.inputOf (length (p .sessions)) (length (p .names)) (p .bound) room (p .constants) (marksOf p) (lengthsOf p) (wordsOf p) (p .unary) (p .binary)
+
+-- the lines of a walk's end, with the table k and n tried; a formula found has its text in a line of its own
+abbrev pub EndSays : List (List ℕ) → Ending → Table → ℕ → List ℕ → Type 0
+EndSays names (found root) k n out =
+    (t : Formula) × Spells codes (nodes k) root t × (out ≡ foundLine (root .size) n (length k) ++ (text names t ++ newline))
+EndSays names none k n out = out ≡ noneLine n (length k)
+EndSays names (full s) k n out = out ≡ fullLine s n (length k)
+
+-- a good file: the lines of the walk over its parts; "2: .. C .. wrong" where the room is none
+pub record GoodSays (p : Parts) (room : ℕ) (out : List ℕ) : Type 0 where
+  pub searched : 1 ≤ room → room ≤ mostRoom
+      → (e : Ending) × (k : Table) × (n : ℕ) × (search (inputOf p room) ≡ ended e k n) × EndSays (p .names) e k n out
+  pub outside : Outside 1 mostRoom room → out ≡ refusedLine 2
+
+-- a broken file: the offset of its first offending byte
+abbrev pub Says : Got Parts → ℕ → List ℕ → Type 0
+Says (bad o) room out = out ≡ brokenLine o
+Says (got p next) room out = GoodSays p room out
+
+-- the lines stand at the start of the text, the rest of it stays, and their length is answered
+pub record LinesOf (file : List ℕ) (room : ℕ) (old : List ℕ) (r : ℕ) (new : List ℕ) : Type 0 where
+  pub lines : List ℕ
+  pub says : Says (wholeFile file) room lines
+  pub long : r ≡ length lines
+  pub holds : new ≡ over lines old

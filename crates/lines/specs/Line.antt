@@ -1,0 +1,64 @@
+-- The lines that the bench writes, byte by byte. Every line ends in a newline.
+-- Assumes nothing.
+use mathlib.Core.List.{List, [], _∷_, _++_}
+use Prim.Native.Nat.{ℕ}
+use Rattle.writing.specs.Writing.{decimal}
+
+-- ---- the words of a line, as bytes
+
+-- `found size `
+abbrev pub foundSizeWord : List ℕ
+foundSizeWord = 102 ∷ 111 ∷ 117 ∷ 110 ∷ 100 ∷ 32 ∷ 115 ∷ 105 ∷ 122 ∷ 101 ∷ 32 ∷ []
+
+-- `full size `
+abbrev pub fullSizeWord : List ℕ
+fullSizeWord = 102 ∷ 117 ∷ 108 ∷ 108 ∷ 32 ∷ 115 ∷ 105 ∷ 122 ∷ 101 ∷ 32 ∷ []
+
+-- `none`
+abbrev pub noneWord : List ℕ
+noneWord = 110 ∷ 111 ∷ 110 ∷ 101 ∷ []
+
+-- ` tried `
+abbrev pub triedWord : List ℕ
+triedWord = 32 ∷ 116 ∷ 114 ∷ 105 ∷ 101 ∷ 100 ∷ 32 ∷ []
+
+-- ` kept `
+abbrev pub keptWord : List ℕ
+keptWord = 32 ∷ 107 ∷ 101 ∷ 112 ∷ 116 ∷ 32 ∷ []
+
+-- `refused 8 at `
+abbrev pub brokenAtWord : List ℕ
+brokenAtWord = 114 ∷ 101 ∷ 102 ∷ 117 ∷ 115 ∷ 101 ∷ 100 ∷ 32 ∷ 56 ∷ 32 ∷ 97 ∷ 116 ∷ 32 ∷ []
+
+-- `refused `
+abbrev pub refusedWord : List ℕ
+refusedWord = 114 ∷ 101 ∷ 102 ∷ 117 ∷ 115 ∷ 101 ∷ 100 ∷ 32 ∷ []
+
+abbrev pub newline : List ℕ
+newline = 10 ∷ []
+
+-- ---- the lines
+
+-- ` tried .. kept ..`
+abbrev pub counts : ℕ → ℕ → List ℕ
+counts tried kept = triedWord ++ (decimal tried ++ (keptWord ++ (decimal kept ++ newline)))
+
+-- `found size .. tried .. kept ..`
+abbrev pub foundLine : ℕ → ℕ → ℕ → List ℕ
+foundLine size tried kept = foundSizeWord ++ (decimal size ++ counts tried kept)
+
+-- `none tried .. kept ..`
+abbrev pub noneLine : ℕ → ℕ → List ℕ
+noneLine tried kept = noneWord ++ counts tried kept
+
+-- `full size .. tried .. kept ..`
+abbrev pub fullLine : ℕ → ℕ → ℕ → List ℕ
+fullLine size tried kept = fullSizeWord ++ (decimal size ++ counts tried kept)
+
+-- `refused 8 at ..`
+abbrev pub brokenLine : ℕ → List ℕ
+brokenLine at = brokenAtWord ++ (decimal at ++ newline)
+
+-- `refused ..`, for a number that has no offset
+abbrev pub refusedLine : ℕ → List ℕ
+refusedLine number = refusedWord ++ (decimal number ++ newline)

@@ -1,0 +1,8 @@
+pub mod Same
+pub mod NameLaws
+pub mod Walks
+pub mod Lookups
+pub mod Turns
+pub mod Sections
+pub mod Starts
+pub mod Theorems

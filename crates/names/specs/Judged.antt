@@ -1,0 +1,21 @@
+-- What the judge of a names section answers: 8 with the offset, else the number of names.
+-- Assumes nothing.
+use mathlib.Core.List.{List, [], _∷_}
+use Prim.Native.Nat.{ℕ}
+use lib.ListN.{length}
+use Rattle.rules.specs.Answers.{Said}
+use Rattle.reading.specs.Reading.{Got, got, bad, broken}
+use Rattle.names.specs.declared.NamesAnswer.{NamesAnswer}
+use Rattle.names.specs.declared.NamesAnswer.the-variants.{Names, Broken}
+use Rattle.names.specs.Names.{wholeNames}
+
+abbrev pub saidNames : NamesAnswer → Said
+saidNames (Names count) = record { number = 0; values = count ∷ [] }
+saidNames (Broken o) = broken o
+
+abbrev pub namesOf : Got (List (List ℕ)) → Said
+namesOf (got names next) = record { number = 0; values = length names ∷ [] }
+namesOf (bad o) = broken o
+
+abbrev pub namesSaid : List ℕ → Said
+namesSaid file = namesOf (wholeNames file)

@@ -1,0 +1,88 @@
+-- A names section of document 01: what a good name is, and the first offending byte of a section. proofs/Theorems.antt ties the two together: what
+-- passes is exactly the bytes of good names.
+-- Assumes nothing.
+use mathlib.Core.Path.{_≡_}
+use mathlib.Core.Bool.{Bool, true, false, _&&_, _||_}
+use mathlib.Core.List.{List, [], _∷_, List·Memᴰ}
+use Prim.Native.Nat.{ℕ, _≤_}
+use lib.Dec.{eqb, leb}
+use lib.ListN.{length}
+use Rattle.rules.specs.Limits.{mostPropositions}
+use Rattle.rules.specs.Lists.{Each}
+use Rattle.reading.specs.Reading.{section, one, Got, got, bad, Reader, andThen, byte, counted, isIn, atEnd}
+
+-- ---- their numbers
+
+-- "propositions m 1 to 16": as many names does a section have that is lent on its own. The session file's limit is its own
+abbrev pub propositions : ℕ
+propositions = mostPropositions
+
+-- "names (length byte 1-16 ..)"
+abbrev pub nameLength : ℕ
+nameLength = 16
+
+-- ---- good names
+
+-- "length byte 1-16, then letters, digits or `_`": a name is a section of its own
+abbrev pub nameBytes : List ℕ → List ℕ
+nameBytes letters = section one letters
+
+-- "letters": A-Z, a-z
+abbrev pub isLetter : ℕ → Bool
+isLetter b = (leb 65 b && leb b 90) || (leb 97 b && leb b 122)
+
+-- "letters, digits or `_`"
+abbrev pub isNameByte : ℕ → Bool
+isNameByte b = isLetter b || (leb 48 b && leb b 57) || eqb b 95
+
+-- "a letter first"
+abbrev pub fitsName : List ℕ → ℕ → Bool
+fitsName [] b = isLetter b
+fitsName (x ∷ before) b = isNameByte b
+
+-- "names (length byte 1-16, then letters, digits or `_`, a letter first, no name twice)"
+pub record GoodName (before : List (List ℕ)) (name : List ℕ) : Type 0 where
+  pub some : 1 ≤ length name
+  pub short : length name ≤ nameLength
+  pub letters : Each (λ seen b. fitsName seen b ≡ true) [] name
+  pub new : List·Memᴰ name before → ⊥
+
+-- ---- the first offending byte
+
+abbrev pub sameBytes : List ℕ → List ℕ → Bool
+sameBytes [] [] = true
+sameBytes [] (y ∷ ys) = false
+sameBytes (x ∷ xs) [] = false
+sameBytes (x ∷ xs) (y ∷ ys) = eqb x y && sameBytes xs ys
+
+-- "a name's bytes are judged one by one"
+abbrev pub letter : List ℕ → Reader ℕ
+letter before = byte (fitsName before)
+
+-- once its bytes are there, "a repeated name's length byte"
+abbrev pub notTwice : Bool → ℕ → List ℕ → ℕ → Got (List ℕ)
+notTwice true at letters next = bad at
+notTwice false at letters next = got letters next
+
+unfoldable pub name : List (List ℕ) → Reader (List ℕ)
+name before file at =
+    andThen (counted 1 nameLength letter file at) (λ letters next. notTwice (isIn sameBytes letters before) at letters next)
+
+-- a names section of at most so many names
+abbrev pub namesUpTo : ℕ → Reader (List (List ℕ))
+namesUpTo most = counted 1 most name
+
+-- a names section with nothing after it
+abbrev pub wholeNames : List ℕ → Got (List (List ℕ))
+wholeNames file = atEnd (namesUpTo propositions file 0) file
+
+-- the names of a section
+abbrev pub listed : Got (List (List ℕ)) → List (List ℕ)
+listed (got names next) = names
+listed (bad o) = []
+
+abbrev pub namesIn : List ℕ → List (List ℕ)
+namesIn file = listed (wholeNames file)
+
+abbrev pub GoodNames : List ℕ → Type 0
+GoodNames file = (next : ℕ) × (wholeNames file ≡ got (namesIn file) next)

@@ -1,0 +1,93 @@
+// The bytes of a name: letters, digits or `_`, a letter first.
+use reading::Step;
+ghost use mathlib.Core.Path.{_≡_};
+ghost use mathlib.Core.List.{[]};
+ghost use lib.ListN.{length};
+ghost use Rattle.reading.specs.Reading.{each, byte, stepOf};
+ghost use Rattle.names.specs.Names.{isLetter, isNameByte, letter};
+ghost use Rattle.names.specs.Inner.{fitsAt};
+
+fn is_letter(b: u8) -> bool
+    ensures { λ r. ⌜ r ≡ isLetter b ⌝ }
+{
+    if b < 65 {
+        return false;
+    }
+    if b <= 90 {
+        return true;
+    }
+    if b < 97 {
+        return false;
+    }
+    if b <= 122 {
+        return true;
+    }
+    false
+}
+
+fn is_name_byte(b: u8) -> bool
+    ensures { λ r. ⌜ r ≡ isNameByte b ⌝ }
+{
+    if is_letter(b) {
+        return true;
+    }
+    if b == 95 {
+        return true;
+    }
+    if b < 48 {
+        return false;
+    }
+    if b <= 57 {
+        return true;
+    }
+    false
+}
+
+// Whether a byte may be the byte number i of a name.
+fn fits_name(i: usize, b: u8) -> bool
+    ensures { λ r. ⌜ r ≡ fitsAt i b ⌝ }
+{
+    if i == 0 {
+        return is_letter(b);
+    }
+    is_name_byte(b)
+}
+
+// The byte at an offset as the byte number i of a name.
+fn letter_at(file: &[u8], at: usize, i: usize) -> Step
+    ensures { λ r. ⌜ r ≡ stepOf (λ b. b) (byte (fitsAt i) (now (file .entry)) at) ⌝ }
+{
+    if file.len() <= at {
+        return Step::Broken(file.len());
+    }
+    let b = file[at];
+    if fits_name(i, b) {
+        Step::Read {
+            value: b as usize,
+            next: at + 1,
+        }
+    } else {
+        Step::Broken(at)
+    }
+}
+
+// n bytes of a name.
+pub(crate) fn letters_from(file: &[u8], at: usize, n: usize) -> Step
+    ensures { λ r. ⌜ r ≡ stepOf length (each letter n [] (now (file .entry)) at) ⌝ }
+{
+    let mut i: usize = 0;
+    let mut p = at;
+    while i < n {
+        let s = letter_at(file, p, i);
+        match s {
+            Step::Read { value: _, next } => {
+                p = next;
+            }
+            Step::Broken(o) => {
+                return Step::Broken(o);
+            }
+        }
+        i += 1;
+    }
+    Step::Read { value: n, next: p }
+}

@@ -1,0 +1,2 @@
+-- What a reader must believe of writing into lent text.
+pub mod Writing
