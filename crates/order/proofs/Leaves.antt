@@ -65,6 +65,14 @@ module _ (m constants : ℕ) where
   unfolding leaves
   some-leaves = omega (arith, length-append named (constantsIf (eqb constants 1)), length-named)
 
+  pub leaves-few : length (leaves m constants) ≤ m + 2
+  unfolding leaves
+  leaves-few = omega (arith, length-append named (constantsIf (eqb constants 1)), length-named, go (eqb constants 1))
+    where
+      go : (b : Bool) → length (constantsIf b) ≤ 2
+      go true = omega arith
+      go false = omega arith
+
   module _ (at : Cursor) where
     out : length (leaves m constants) ≤ at .operator → leavesAhead m constants at ≡ []
     unfolding leavesAhead

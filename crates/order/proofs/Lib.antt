@@ -5,3 +5,7 @@ pub mod Marks
 pub mod Leaves
 pub mod Sizes
 pub mod Counting
+pub mod Lists
+pub mod Rest
+pub mod Few
+pub mod Layers

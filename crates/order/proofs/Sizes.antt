@@ -124,16 +124,20 @@ module _ (g : Layer) (here : Cursor) (rises : Rises g) where
 -- ---- a size
 
 module _ (g : Layer) where
+  pub ahead-beyond : length (g .starts) ≤ g .size → (at : Cursor) → ahead g at ≡ []
+  unfolding ahead
+  ahead-beyond h at = rw (le-ltb (g .size) (length (g .starts)) h)
+
   module _ (reached : g .size < length (g .starts)) where
-    ahead-leaves : g .size ≡ 1 → (at : Cursor) → ahead g at ≡ leavesAhead (g .propositions) (g .constants) at
+    pub ahead-leaves : g .size ≡ 1 → (at : Cursor) → ahead g at ≡ leavesAhead (g .propositions) (g .constants) at
     unfolding ahead
     ahead-leaves e at = rw (lt-ltb (g .size) (length (g .starts)) reached, eq-eqb (g .size) 1 e)
 
-    ahead-parts : (g .size ≡ 1 → ⊥) → (at : Cursor) → ahead g at ≡ partsAhead g at
+    pub ahead-parts : (g .size ≡ 1 → ⊥) → (at : Cursor) → ahead g at ≡ partsAhead g at
     unfolding ahead
     ahead-parts e at = rw (lt-ltb (g .size) (length (g .starts)) reached, ne-eqb (g .size) 1 e)
 
-  leaf-candidate : g .size ≡ 1 → (here : Cursor) → candidateAt g here ≡ leafAt (g .propositions) (g .constants) here
+  pub leaf-candidate : g .size ≡ 1 → (here : Cursor) → candidateAt g here ≡ leafAt (g .propositions) (g .constants) here
   unfolding candidateAt
   leaf-candidate e here = rw (eq-eqb (g .size) 1 e)
 
@@ -141,7 +145,7 @@ module _ (g : Layer) where
   unfolding after
   leaf-after e here = rw (eq-eqb (g .size) 1 e)
 
-  part-candidate : (g .size ≡ 1 → ⊥) → (here : Cursor) → candidateAt g here ≡ candIn (codesIn g (here .split)) here
+  pub part-candidate : (g .size ≡ 1 → ⊥) → (here : Cursor) → candidateAt g here ≡ candIn (codesIn g (here .split)) here
   unfolding candidateAt
   part-candidate e here = rw (ne-eqb (g .size) 1 e)
 
@@ -151,8 +155,7 @@ module _ (g : Layer) where
 
   module _ (at : Cursor) where
     pub steps-beyond : length (g .starts) ≤ g .size → Steps g at End
-    unfolding ahead
-    steps-beyond h = Steps.ends (rw (le-ltb (g .size) (length (g .starts)) h)) refl
+    steps-beyond h = Steps.ends (ahead-beyond h at) refl
 
     pub steps-none : g .size ≡ 0 → Steps g at End
     steps-none e = elim (decLe (length (g .starts)) (g .size)) [

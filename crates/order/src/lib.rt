@@ -112,6 +112,13 @@ fn over(at: Cursor, codes: &[u8]) -> Step
     let code = codes[o];
     let l = Place(at.left as u16);
     let q = Place(at.right as u16);
+    let halfway = Cursor {
+        split: at.split,
+        left: at.left,
+        right: at.right,
+        operator: o,
+        second: true,
+    };
     let after = Cursor {
         split: at.split,
         left: at.left,
@@ -139,13 +146,7 @@ fn over(at: Cursor, codes: &[u8]) -> Step
         code,
         left: l,
         right: q,
-        next: Cursor {
-            split: at.split,
-            left: at.left,
-            right: at.right,
-            operator: o,
-            second: true,
-        },
+        next: halfway,
     }
 }
 

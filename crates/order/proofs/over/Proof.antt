@@ -10,14 +10,14 @@ use Rattle.order.proofs.over.Tie as tie
 shared-slice-read-code : tie.Need-shared-slice-read-code
 shared-slice-read-code c = search needs
 
-cast-t10 : tie.Need-cast-t10
-cast-t10 c = search needs
+cast-t11 : tie.Need-cast-t11
+cast-t11 c = search needs
 
-cast-t10-2 : tie.Need-cast-t10-2
-cast-t10-2 c = search needs
+cast-t11-2 : tie.Need-cast-t11-2
+cast-t11-2 c = search needs
 
-add-t11 : tie.Need-add-t11
-add-t11 c = search needs
+add-t12 : tie.Need-add-t12
+add-t12 c = search needs
 
 twice-requires : tie.Need-twice-requires
 twice-requires c κs = search needs
@@ -39,9 +39,9 @@ over-spec =
     tie.close
     (tie.spec
     shared-slice-read-code
-    cast-t10
-    cast-t10-2
-    add-t11
+    cast-t11
+    cast-t11-2
+    add-t12
     twice-requires
     returns
     returns-2
