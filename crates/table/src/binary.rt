@@ -7,91 +7,70 @@ ghost use lib.ListN.{length};
 ghost use Rattle.sequence.specs.Operators.{Binary};
 ghost use Rattle.formula.specs.Rule.{IsBinary};
 ghost use Rattle.table.specs.Rows.{Filled};
-ghost use Rattle.table.specs.Inner.{BinaryAsk, BinaryAt, GroupAsk, GroupAnswer};
+ghost use Rattle.table.specs.Inner.{Long, BinaryAt, GroupAsk, GroupAnswer};
 
-fn or_rows(r: usize, matrices: &[u64], left: usize, right: usize, rows: &mut [u64])
-    requires { ⌜ BinaryAsk r (now matrices) left right (now rows) ⌝ }
-    ensures { λ u. ⌜ Filled r (now (rows .entry)) (BinaryAt Binary.or [] (now (matrices .entry)) left right) (now (rows .exit)) ⌝ }
+fn or_rows(r: usize, x: &[u64], y: &[u64], rows: &mut [u64])
+    requires { ⌜ Long r (now x) × Long r (now y) × Long r (now rows) ⌝ }
+    ensures { λ u. ⌜ Filled r (now (rows .entry)) (BinaryAt Binary.or [] (now (x .entry)) (now (y .entry))) (now (rows .exit)) ⌝ }
 {
     let mut j: usize = 0;
     while j < r {
-        rows[j] = words::or(matrices[left + j], matrices[right + j]);
+        rows[j] = words::or(x[j], y[j]);
         j += 1;
     }
 }
 
-fn and_rows(r: usize, matrices: &[u64], left: usize, right: usize, rows: &mut [u64])
-    requires { ⌜ BinaryAsk r (now matrices) left right (now rows) ⌝ }
-    ensures { λ u. ⌜ Filled r (now (rows .entry)) (BinaryAt Binary.and [] (now (matrices .entry)) left right) (now (rows .exit)) ⌝ }
+fn and_rows(r: usize, x: &[u64], y: &[u64], rows: &mut [u64])
+    requires { ⌜ Long r (now x) × Long r (now y) × Long r (now rows) ⌝ }
+    ensures { λ u. ⌜ Filled r (now (rows .entry)) (BinaryAt Binary.and [] (now (x .entry)) (now (y .entry))) (now (rows .exit)) ⌝ }
 {
     let mut j: usize = 0;
     while j < r {
-        rows[j] = words::and(matrices[left + j], matrices[right + j]);
+        rows[j] = words::and(x[j], y[j]);
         j += 1;
     }
 }
 
-fn until_rows(r: usize, matrices: &[u64], left: usize, right: usize, rows: &mut [u64])
-    requires { ⌜ BinaryAsk r (now matrices) left right (now rows) ⌝ }
-    ensures { λ u. ⌜ Filled r (now (rows .entry)) (BinaryAt Binary.until [] (now (matrices .entry)) left right) (now (rows .exit)) ⌝ }
+fn until_rows(r: usize, x: &[u64], y: &[u64], rows: &mut [u64])
+    requires { ⌜ Long r (now x) × Long r (now y) × Long r (now rows) ⌝ }
+    ensures { λ u. ⌜ Filled r (now (rows .entry)) (BinaryAt Binary.until [] (now (x .entry)) (now (y .entry))) (now (rows .exit)) ⌝ }
 {
     let mut j: usize = 0;
     while j < r {
-        rows[j] = words::until(matrices[left + j], matrices[right + j]);
+        rows[j] = words::until(x[j], y[j]);
         j += 1;
     }
 }
 
-fn release_rows(
-    r: usize,
-    masks: &[u64],
-    matrices: &[u64],
-    left: usize,
-    right: usize,
-    rows: &mut [u64],
-)
-    requires { ⌜ BinaryAsk r (now matrices) left right (now rows) × (r ≤ length (now masks)) ⌝ }
-    ensures { λ u. ⌜ Filled r (now (rows .entry)) (BinaryAt Binary.release (now (masks .entry)) (now (matrices .entry)) left right) (now (rows .exit)) ⌝ }
+fn release_rows(r: usize, masks: &[u64], x: &[u64], y: &[u64], rows: &mut [u64])
+    requires { ⌜ Long r (now x) × Long r (now y) × Long r (now masks) × Long r (now rows) ⌝ }
+    ensures { λ u. ⌜ Filled r (now (rows .entry)) (BinaryAt Binary.release (now (masks .entry)) (now (x .entry)) (now (y .entry))) (now (rows .exit)) ⌝ }
 {
     let mut j: usize = 0;
     while j < r {
-        rows[j] = words::release(matrices[left + j], matrices[right + j], masks[j]);
+        rows[j] = words::release(x[j], y[j], masks[j]);
         j += 1;
     }
 }
 
-fn implies_rows(
-    r: usize,
-    masks: &[u64],
-    matrices: &[u64],
-    left: usize,
-    right: usize,
-    rows: &mut [u64],
-)
-    requires { ⌜ BinaryAsk r (now matrices) left right (now rows) × (r ≤ length (now masks)) ⌝ }
-    ensures { λ u. ⌜ Filled r (now (rows .entry)) (BinaryAt Binary.implies (now (masks .entry)) (now (matrices .entry)) left right) (now (rows .exit)) ⌝ }
+fn implies_rows(r: usize, masks: &[u64], x: &[u64], y: &[u64], rows: &mut [u64])
+    requires { ⌜ Long r (now x) × Long r (now y) × Long r (now masks) × Long r (now rows) ⌝ }
+    ensures { λ u. ⌜ Filled r (now (rows .entry)) (BinaryAt Binary.implies (now (masks .entry)) (now (x .entry)) (now (y .entry))) (now (rows .exit)) ⌝ }
 {
     let mut j: usize = 0;
     while j < r {
-        rows[j] = words::implies(matrices[left + j], matrices[right + j], masks[j]);
+        rows[j] = words::implies(x[j], y[j], masks[j]);
         j += 1;
     }
 }
 
-fn equiv_rows(
-    r: usize,
-    masks: &[u64],
-    matrices: &[u64],
-    left: usize,
-    right: usize,
-    rows: &mut [u64],
-)
-    requires { ⌜ BinaryAsk r (now matrices) left right (now rows) × (r ≤ length (now masks)) ⌝ }
-    ensures { λ u. ⌜ Filled r (now (rows .entry)) (BinaryAt Binary.equiv (now (masks .entry)) (now (matrices .entry)) left right) (now (rows .exit)) ⌝ }
+fn equiv_rows(r: usize, masks: &[u64], x: &[u64], y: &[u64], rows: &mut [u64])
+    requires { ⌜ Long r (now x) × Long r (now y) × Long r (now masks) × Long r (now rows) ⌝ }
+    ensures { λ u. ⌜ Filled r (now (rows .entry)) (BinaryAt Binary.equiv (now (masks .entry)) (now (x .entry)) (now (y .entry))) (now (rows .exit)) ⌝ }
 {
     let mut j: usize = 0;
     while j < r {
-        rows[j] = words::equiv(matrices[left + j], matrices[right + j], masks[j]);
+        rows[j] = words::equiv(x[j], y[j], masks[j]);
         j += 1;
     }
 }
@@ -119,13 +98,15 @@ pub(crate) fn rows_of(
     if matrices.len() < other + r {
         return false;
     }
+    let x = &matrices[one..];
+    let y = &matrices[other..];
     match code {
-        5 => or_rows(r, matrices, one, other, rows),
-        6 => and_rows(r, matrices, one, other, rows),
-        7 => until_rows(r, matrices, one, other, rows),
-        8 => release_rows(r, masks, matrices, one, other, rows),
-        9 => implies_rows(r, masks, matrices, one, other, rows),
-        10 => equiv_rows(r, masks, matrices, one, other, rows),
+        5 => or_rows(r, x, y, rows),
+        6 => and_rows(r, x, y, rows),
+        7 => until_rows(r, x, y, rows),
+        8 => release_rows(r, masks, x, y, rows),
+        9 => implies_rows(r, masks, x, y, rows),
+        10 => equiv_rows(r, masks, x, y, rows),
         _ => return false,
     }
     true

@@ -7,14 +7,14 @@ use formula::kinds::TRUE;
 ghost use mathlib.Core.Path.{_≡_};
 ghost use Prim.Native.Nat.{_+_, _*_, _≤_, _<_};
 ghost use lib.ListN.{length, getD};
-ghost use Rattle.session.specs.Numbers.{sessions, propositions};
+ghost use Rattle.session.specs.Numbers.{propositions};
 ghost use Rattle.formula.specs.Rule.{IsUnary, IsBinary};
 ghost use Rattle.table.specs.Rows.{Filled};
-ghost use Rattle.table.specs.Inner.{GroupAsk, GroupAnswer};
+ghost use Rattle.table.specs.Inner.{Long, GroupAsk, GroupAnswer};
 
 // A proposition's words, which lie m per session.
 fn proposition_rows(r: usize, m: usize, words: &[u64], p: Proposition, rows: &mut [u64])
-    requires { ⌜ (r ≤ sessions) × (m ≤ propositions) × (p .0 < m) × (m * r ≤ length (now words)) × (r ≤ length (now rows)) ⌝ }
+    requires { ⌜ (m ≤ propositions) × (p .0 < m) × (m * r ≤ length (now words)) × Long r (now rows) ⌝ }
     ensures { λ u. ⌜ Filled r (now (rows .entry)) (λ j w. w ≡ getD (now (words .entry)) (j * m + p .0) 0) (now (rows .exit)) ⌝ }
 {
     let mut j: usize = 0;
@@ -27,7 +27,7 @@ fn proposition_rows(r: usize, m: usize, words: &[u64], p: Proposition, rows: &mu
 }
 
 fn false_rows(r: usize, rows: &mut [u64])
-    requires { ⌜ (r ≤ sessions) × (r ≤ length (now rows)) ⌝ }
+    requires { ⌜ Long r (now rows) ⌝ }
     ensures { λ u. ⌜ Filled r (now (rows .entry)) (λ j w. w ≡ 0) (now (rows .exit)) ⌝ }
 {
     let mut j: usize = 0;
@@ -38,7 +38,7 @@ fn false_rows(r: usize, rows: &mut [u64])
 }
 
 fn true_rows(r: usize, masks: &[u64], rows: &mut [u64])
-    requires { ⌜ GroupAsk r (now masks) (now rows) ⌝ }
+    requires { ⌜ Long r (now masks) × Long r (now rows) ⌝ }
     ensures { λ u. ⌜ Filled r (now (rows .entry)) (λ j w. w ≡ getD (now (masks .entry)) j 0) (now (rows .exit)) ⌝ }
 {
     let mut j: usize = 0;

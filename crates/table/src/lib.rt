@@ -114,7 +114,7 @@ pub fn compare(r: usize, matrices: &[u64], rows: &[u64], place: Place) -> Compar
     if matrices.len() < from + r {
         return Compared::Outside;
     }
-    let first = tests::first_difference(r, matrices, rows, from);
+    let first = tests::first_difference(r, &matrices[from..], rows);
     if first < r {
         return Compared::Differs(Session(first as u8));
     }

@@ -2,15 +2,12 @@
 use sequence::CharSeq;
 ghost use mathlib.Core.Path.{_≡_};
 ghost use mathlib.Core.Bool.{Bool·beq};
-ghost use Prim.Native.Nat.{_+_, _*_, _≤_};
-ghost use lib.ListN.{length};
 ghost use lib.Dec.{eqb};
-ghost use Rattle.session.specs.Numbers.{sessions};
 ghost use Rattle.walk.specs.Walk.{count};
 ghost use Rattle.walk.specs.Rows.{acceptsRow};
 ghost use Rattle.walk.specs.Input.{every};
 ghost use Rattle.table.specs.Compare.{agreesAt, KnownAsk};
-ghost use Rattle.table.specs.Inner.{FirstDiffers, FirstEqual};
+ghost use Rattle.table.specs.Inner.{Long, FirstDiffers, FirstEqual};
 
 fn agrees_at(x: u64, length: u8, mark: u8) -> bool
     ensures { λ b. ⌜ b ≡ Bool·beq (acceptsRow length x) (eqb mark 1) ⌝ }
@@ -24,7 +21,7 @@ fn agrees_at(x: u64, length: u8, mark: u8) -> bool
 
 // Whether each session agrees with its mark.
 pub(crate) fn all_agree(r: usize, marks: &[u8], lengths: &[u8], rows: &[u64]) -> bool
-    requires { ⌜ (r ≤ sessions) × (r ≤ length (now marks)) × (r ≤ length (now lengths)) × (r ≤ length (now rows)) ⌝ }
+    requires { ⌜ Long r (now marks) × Long r (now lengths) × Long r (now rows) ⌝ }
     ensures { λ b. ⌜ b ≡ every (count 0 r) (agreesAt (now (marks .entry)) (now (lengths .entry)) (now (rows .entry))) ⌝ }
 {
     let mut j: usize = 0;
@@ -38,14 +35,14 @@ pub(crate) fn all_agree(r: usize, marks: &[u8], lengths: &[u8], rows: &[u64]) ->
     true
 }
 
-// The first row that differs from the matrix that starts at `from`, or r.
-pub(crate) fn first_difference(r: usize, matrices: &[u64], rows: &[u64], from: usize) -> usize
-    requires { ⌜ (r ≤ sessions) × (r ≤ length (now rows)) × (from + r ≤ length (now matrices)) ⌝ }
-    ensures { λ j. ⌜ FirstDiffers r (now (matrices .entry)) (now (rows .entry)) from j ⌝ }
+// The first row that differs from x's, or r.
+pub(crate) fn first_difference(r: usize, x: &[u64], rows: &[u64]) -> usize
+    requires { ⌜ Long r (now x) × Long r (now rows) ⌝ }
+    ensures { λ j. ⌜ FirstDiffers r (now (x .entry)) (now (rows .entry)) j ⌝ }
 {
     let mut j: usize = 0;
     while j < r {
-        if rows[j] != matrices[from + j] {
+        if rows[j] != x[j] {
             return j;
         }
         j += 1;
@@ -61,7 +58,7 @@ pub(crate) fn first_equal(r: usize, matrices: &[u64], rows: &[u64], kept: usize)
     let mut p: usize = 0;
     let mut from: usize = 0;
     while p < kept {
-        if first_difference(r, matrices, rows, from) == r {
+        if first_difference(r, &matrices[from..], rows) == r {
             return p;
         }
         from += r;

@@ -7,59 +7,59 @@ ghost use lib.ListN.{length};
 ghost use Rattle.sequence.specs.Operators.{Unary};
 ghost use Rattle.formula.specs.Rule.{IsUnary};
 ghost use Rattle.table.specs.Rows.{Filled};
-ghost use Rattle.table.specs.Inner.{UnaryAsk, UnaryAt, GroupAsk, GroupAnswer};
+ghost use Rattle.table.specs.Inner.{Long, UnaryAt, GroupAsk, GroupAnswer};
 
-fn not_rows(r: usize, masks: &[u64], matrices: &[u64], from: usize, rows: &mut [u64])
-    requires { ⌜ UnaryAsk r (now matrices) from (now rows) × (r ≤ length (now masks)) ⌝ }
-    ensures { λ u. ⌜ Filled r (now (rows .entry)) (UnaryAt Unary.not (now (masks .entry)) (now (matrices .entry)) from) (now (rows .exit)) ⌝ }
+fn not_rows(r: usize, masks: &[u64], x: &[u64], rows: &mut [u64])
+    requires { ⌜ Long r (now x) × Long r (now masks) × Long r (now rows) ⌝ }
+    ensures { λ u. ⌜ Filled r (now (rows .entry)) (UnaryAt Unary.not (now (masks .entry)) (now (x .entry))) (now (rows .exit)) ⌝ }
 {
     let mut j: usize = 0;
     while j < r {
-        rows[j] = words::not(matrices[from + j], masks[j]);
+        rows[j] = words::not(x[j], masks[j]);
         j += 1;
     }
 }
 
-fn weak_next_rows(r: usize, masks: &[u64], matrices: &[u64], from: usize, rows: &mut [u64])
-    requires { ⌜ UnaryAsk r (now matrices) from (now rows) × (r ≤ length (now masks)) ⌝ }
-    ensures { λ u. ⌜ Filled r (now (rows .entry)) (UnaryAt Unary.weakNext (now (masks .entry)) (now (matrices .entry)) from) (now (rows .exit)) ⌝ }
+fn weak_next_rows(r: usize, masks: &[u64], x: &[u64], rows: &mut [u64])
+    requires { ⌜ Long r (now x) × Long r (now masks) × Long r (now rows) ⌝ }
+    ensures { λ u. ⌜ Filled r (now (rows .entry)) (UnaryAt Unary.weakNext (now (masks .entry)) (now (x .entry))) (now (rows .exit)) ⌝ }
 {
     let mut j: usize = 0;
     while j < r {
-        rows[j] = words::weak_next(matrices[from + j], masks[j]);
+        rows[j] = words::weak_next(x[j], masks[j]);
         j += 1;
     }
 }
 
-fn strong_next_rows(r: usize, matrices: &[u64], from: usize, rows: &mut [u64])
-    requires { ⌜ UnaryAsk r (now matrices) from (now rows) ⌝ }
-    ensures { λ u. ⌜ Filled r (now (rows .entry)) (UnaryAt Unary.strongNext [] (now (matrices .entry)) from) (now (rows .exit)) ⌝ }
+fn strong_next_rows(r: usize, x: &[u64], rows: &mut [u64])
+    requires { ⌜ Long r (now x) × Long r (now rows) ⌝ }
+    ensures { λ u. ⌜ Filled r (now (rows .entry)) (UnaryAt Unary.strongNext [] (now (x .entry))) (now (rows .exit)) ⌝ }
 {
     let mut j: usize = 0;
     while j < r {
-        rows[j] = words::strong_next(matrices[from + j]);
+        rows[j] = words::strong_next(x[j]);
         j += 1;
     }
 }
 
-fn finally_rows(r: usize, matrices: &[u64], from: usize, rows: &mut [u64])
-    requires { ⌜ UnaryAsk r (now matrices) from (now rows) ⌝ }
-    ensures { λ u. ⌜ Filled r (now (rows .entry)) (UnaryAt Unary.finally [] (now (matrices .entry)) from) (now (rows .exit)) ⌝ }
+fn finally_rows(r: usize, x: &[u64], rows: &mut [u64])
+    requires { ⌜ Long r (now x) × Long r (now rows) ⌝ }
+    ensures { λ u. ⌜ Filled r (now (rows .entry)) (UnaryAt Unary.finally [] (now (x .entry))) (now (rows .exit)) ⌝ }
 {
     let mut j: usize = 0;
     while j < r {
-        rows[j] = words::finally(matrices[from + j]);
+        rows[j] = words::finally(x[j]);
         j += 1;
     }
 }
 
-fn globally_rows(r: usize, masks: &[u64], matrices: &[u64], from: usize, rows: &mut [u64])
-    requires { ⌜ UnaryAsk r (now matrices) from (now rows) × (r ≤ length (now masks)) ⌝ }
-    ensures { λ u. ⌜ Filled r (now (rows .entry)) (UnaryAt Unary.globally (now (masks .entry)) (now (matrices .entry)) from) (now (rows .exit)) ⌝ }
+fn globally_rows(r: usize, masks: &[u64], x: &[u64], rows: &mut [u64])
+    requires { ⌜ Long r (now x) × Long r (now masks) × Long r (now rows) ⌝ }
+    ensures { λ u. ⌜ Filled r (now (rows .entry)) (UnaryAt Unary.globally (now (masks .entry)) (now (x .entry))) (now (rows .exit)) ⌝ }
 {
     let mut j: usize = 0;
     while j < r {
-        rows[j] = words::globally(matrices[from + j], masks[j]);
+        rows[j] = words::globally(x[j], masks[j]);
         j += 1;
     }
 }
@@ -83,12 +83,13 @@ pub(crate) fn rows_of(
     if matrices.len() < from + r {
         return false;
     }
+    let x = &matrices[from..];
     match code {
-        0 => not_rows(r, masks, matrices, from, rows),
-        1 => weak_next_rows(r, masks, matrices, from, rows),
-        2 => strong_next_rows(r, matrices, from, rows),
-        3 => finally_rows(r, matrices, from, rows),
-        4 => globally_rows(r, masks, matrices, from, rows),
+        0 => not_rows(r, masks, x, rows),
+        1 => weak_next_rows(r, masks, x, rows),
+        2 => strong_next_rows(r, x, rows),
+        3 => finally_rows(r, x, rows),
+        4 => globally_rows(r, masks, x, rows),
         _ => return false,
     }
     true
