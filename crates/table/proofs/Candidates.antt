@@ -11,12 +11,19 @@ use Rattle.sequence.specs.Operators.{Unary, Binary, unaryCode, binaryCode}
 use Rattle.sequence.specs.Masked.{unaryMasked, binaryMasked}
 use Rattle.session.specs.Numbers.{sessions, propositions}
 use Rattle.walk.specs.Formula.{Leaf}
+use Rattle.walk.specs.Nodes.{leafCode}
 use Rattle.formula.specs.Rule.{IsUnary, IsBinary}
 use Rattle.table.specs.Rows.{Filled, Reads, RowIs, RowsAnswer}
 use Rattle.table.specs.Inner.{UnaryAt, BinaryAt, GroupAnswer}
 use Rattle.table.proofs.Filling.{filled-as}
 use Rattle.table.proofs.Parts.{part, part-at}
-use Rattle.table.proofs.Groups.{unary-or-binary, unary-or-leaf, binary-or-leaf}
+use Rattle.table.proofs.Groups.{unary-or-binary, unary-or-leaf, binary-or-leaf, unary-same, binary-same}
+
+-- a leaf's word of session j
+abbrev pub leafWord : ℕ → List ℕ → List ℕ → ℕ → ℕ → Leaf → ℕ
+leafWord m masks words left j (Leaf.proposition p) = getD words (j * m + left) 0
+leafWord m masks words left j (Leaf.constant false) = 0
+leafWord m masks words left j (Leaf.constant true) = getD masks j 0
 
 module _ {r m : ℕ} {masks words matrices : List ℕ} {code left right : ℕ} where
   -- ---- what is read
@@ -47,6 +54,41 @@ module _ {r m : ℕ} {masks words matrices : List ℕ} {code left right : ℕ} w
   no-leaf u v p q s (Reads.proposition e a b c) = p (sym e)
   no-leaf u v p q s (Reads.constant false e) = q (sym e)
   no-leaf u v p q s (Reads.constant true e) = s (sym e)
+
+  -- ---- what a row is
+
+  module _ {j w : ℕ} where
+    pub unary-is : (op : Unary) → unaryCode op ≡ code → RowIs r m masks words matrices code left right j w
+        → Means width w (unaryMasked op (At (getD masks j 0)) (At (getD matrices (left * r + j) 0)))
+    unary-is op e (RowIs.unary o f p) =
+        subst (λ (a : Unary). Means width w (unaryMasked a (At (getD masks j 0)) (At (getD matrices (left * r + j) 0)))) (unary-same o op (f ∙ sym e)) p
+    unary-is op e (RowIs.binary o f p) = absurd (unary-or-binary op o (e ∙ sym f))
+    unary-is op e (RowIs.proposition f p) = absurd (unary-or-leaf op (Leaf.proposition left) (e ∙ sym f))
+    unary-is op e (RowIs.none f p) = absurd (unary-or-leaf op (Leaf.constant false) (e ∙ sym f))
+    unary-is op e (RowIs.all f p) = absurd (unary-or-leaf op (Leaf.constant true) (e ∙ sym f))
+
+    pub binary-is : (op : Binary) → binaryCode op ≡ code → RowIs r m masks words matrices code left right j w
+        → Means width w (binaryMasked op (At (getD masks j 0)) (At (getD matrices (left * r + j) 0)) (At (getD matrices (right * r + j) 0)))
+    binary-is op e (RowIs.unary o f p) = absurd (unary-or-binary o op (f ∙ sym e))
+    binary-is op e (RowIs.binary o f p) =
+        subst (λ (a : Binary). Means width w (binaryMasked a (At (getD masks j 0)) (At (getD matrices (left * r + j) 0)) (At (getD matrices (right * r + j) 0))))
+        (binary-same o op (f ∙ sym e)) p
+    binary-is op e (RowIs.proposition f p) = absurd (binary-or-leaf op (Leaf.proposition left) (e ∙ sym f))
+    binary-is op e (RowIs.none f p) = absurd (binary-or-leaf op (Leaf.constant false) (e ∙ sym f))
+    binary-is op e (RowIs.all f p) = absurd (binary-or-leaf op (Leaf.constant true) (e ∙ sym f))
+
+    pub leaf-is : (c : Leaf) → leafCode c ≡ code → RowIs r m masks words matrices code left right j w → w ≡ leafWord m masks words left j c
+    leaf-is c e (RowIs.unary o f p) = absurd (unary-or-leaf o c (f ∙ sym e))
+    leaf-is c e (RowIs.binary o f p) = absurd (binary-or-leaf o c (f ∙ sym e))
+    leaf-is (Leaf.proposition q) e (RowIs.proposition f p) = p
+    leaf-is (Leaf.constant false) e (RowIs.proposition f p) = absurd (omega arith)
+    leaf-is (Leaf.constant true) e (RowIs.proposition f p) = absurd (omega arith)
+    leaf-is (Leaf.proposition q) e (RowIs.none f p) = absurd (omega arith)
+    leaf-is (Leaf.constant false) e (RowIs.none f p) = p
+    leaf-is (Leaf.constant true) e (RowIs.none f p) = absurd (omega arith)
+    leaf-is (Leaf.proposition q) e (RowIs.all f p) = absurd (omega arith)
+    leaf-is (Leaf.constant false) e (RowIs.all f p) = absurd (omega arith)
+    leaf-is (Leaf.constant true) e (RowIs.all f p) = p
 
   -- ---- what was written
 

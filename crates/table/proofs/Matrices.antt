@@ -24,7 +24,7 @@ use Rattle.table.specs.Slices.{Told}
 use Rattle.table.specs.Rows.{Filled, MaskOf, Reads, RowIs, RowsAsk}
 use Rattle.table.specs.Formulas.{matrixAt, LeafIn, Makes, made, Fine, Stored, Masks}
 use Rattle.table.specs.Promises.{MasksMade, RowsMade, MadeFine}
-use Rattle.table.proofs.Groups.{unary-or-binary, unary-or-leaf, binary-or-leaf, unary-same, binary-same}
+use Rattle.table.proofs.Candidates.{unary-is, binary-is, leaf-is}
 use Rattle.table.proofs.Products.{place-end}
 
 -- ---- the rows
@@ -73,37 +73,19 @@ module _ {i : Input} (ok : Passes i) {k : Table} {masks matrices : List ℕ} (ms
 
   module _ {code left right j w : ℕ} (l : j < r) where
     unary-word : (op : Unary) → unaryCode op ≡ code → left < length k → Is code left right j w → w ≡ unaryRow op (lengthOf i j) (row (matrixAt k left) j)
-    unary-word op e h (RowIs.unary o f p) =
-        unary-row-only o _ _ _ (unary-cut o (ms .are j l) (child left j h l) p)
-        ∙ ap₂ (λ (a : Unary) (x : ℕ). unaryRow a (lengthOf i j) x) (unary-same o op (f ∙ sym e)) (st .words left j h l)
-    unary-word op e h (RowIs.binary o f p) = absurd (unary-or-binary op o (e ∙ sym f))
-    unary-word op e h (RowIs.proposition f p) = absurd (unary-or-leaf op (proposition left) (e ∙ sym f))
-    unary-word op e h (RowIs.none f p) = absurd (unary-or-leaf op (constant false) (e ∙ sym f))
-    unary-word op e h (RowIs.all f p) = absurd (unary-or-leaf op (constant true) (e ∙ sym f))
+    unary-word op e h x =
+        unary-row-only op _ _ _ (unary-cut op (ms .are j l) (child left j h l) (unary-is op e x)) ∙ ap (unaryRow op (lengthOf i j)) (st .words left j h l)
 
     binary-word : (op : Binary) → binaryCode op ≡ code → left < length k → right < length k → Is code left right j w
         → w ≡ binaryRow op (lengthOf i j) (row (matrixAt k left) j) (row (matrixAt k right) j)
-    binary-word op e h h′ (RowIs.unary o f p) = absurd (unary-or-binary o op (f ∙ sym e))
-    binary-word op e h h′ (RowIs.binary o f p) =
-        binary-row-only o _ _ _ _ (binary-cut o (ms .are j l) (child left j h l) (child right j h′ l) p)
-        ∙ ap (λ (a : Binary). binaryRow a (lengthOf i j) (getD matrices (left * r + j) 0) (getD matrices (right * r + j) 0)) (binary-same o op (f ∙ sym e))
+    binary-word op e h h′ x =
+        binary-row-only op _ _ _ _ (binary-cut op (ms .are j l) (child left j h l) (child right j h′ l) (binary-is op e x))
         ∙ ap₂ (binaryRow op (lengthOf i j)) (st .words left j h l) (st .words right j h′ l)
-    binary-word op e h h′ (RowIs.proposition f p) = absurd (binary-or-leaf op (proposition left) (e ∙ sym f))
-    binary-word op e h h′ (RowIs.none f p) = absurd (binary-or-leaf op (constant false) (e ∙ sym f))
-    binary-word op e h h′ (RowIs.all f p) = absurd (binary-or-leaf op (constant true) (e ∙ sym f))
 
     leaf-word : (c : Leaf) → leafCode c ≡ code → leafNumber c ≡ left → Is code left right j w → w ≡ leafRow i c j
-    leaf-word c e n (RowIs.unary o f p) = absurd (unary-or-leaf o c (f ∙ sym e))
-    leaf-word c e n (RowIs.binary o f p) = absurd (binary-or-leaf o c (f ∙ sym e))
-    leaf-word (proposition q) e n (RowIs.proposition f p) = p ∙ ap (wordOf i j) (sym n)
-    leaf-word (constant false) e n (RowIs.proposition f p) = absurd (omega arith)
-    leaf-word (constant true) e n (RowIs.proposition f p) = absurd (omega arith)
-    leaf-word (proposition q) e n (RowIs.none f p) = absurd (omega arith)
-    leaf-word (constant false) e n (RowIs.none f p) = p ∙ false-row (lengthOf i j) (ok .short j l)
-    leaf-word (constant true) e n (RowIs.none f p) = absurd (omega arith)
-    leaf-word (proposition q) e n (RowIs.all f p) = absurd (omega arith)
-    leaf-word (constant false) e n (RowIs.all f p) = absurd (omega arith)
-    leaf-word (constant true) e n (RowIs.all f p) = p ∙ true-row (lengthOf i j) _ (ok .short j l) (ms .are j l)
+    leaf-word (proposition q) e n x = leaf-is (proposition q) e x ∙ ap (wordOf i j) (sym n)
+    leaf-word (constant false) e n x = leaf-is (constant false) e x ∙ false-row (lengthOf i j) (ok .short j l)
+    leaf-word (constant true) e n x = leaf-is (constant true) e x ∙ true-row (lengthOf i j) _ (ok .short j l) (ms .are j l)
 
   -- ---- the matrix
 
