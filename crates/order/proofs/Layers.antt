@@ -26,7 +26,7 @@ module _ {L U B Mat : Type 0} (O : Offer L U B Mat) (d : Candidate Mat) (k : Lis
   pub record Makes (make : Cand → Candidate Mat) : Type 0 where
     pub unaryOf : ℕ → U
     pub binaryOf : ℕ → B
-    pub leaves-are : map make (leaves (g .propositions) (g .constants)) ≡ map (seed O) (O .leaves)
+    pub leaves-are : g .size ≡ 1 → map make (leaves (g .propositions) (g .constants)) ≡ map (seed O) (O .leaves)
     pub unaries-are : O .unaries ≡ map unaryOf (g .unary)
     pub binaries-are : O .binaries ≡ map binaryOf (g .binary)
     pub marks-are : (o : ℕ) → o < length (g .binary) → O .commutes (binaryOf (getD (g .binary) o 0)) ≡ commuting (getD (g .binary) o 0)
@@ -113,7 +113,7 @@ module _ {L U B Mat : Type 0} (O : Offer L U B Mat) (d : Candidate Mat) (k : Lis
     sized : (s : ℕ) → g .size ≡ s → 1 ≤ s → map make (ofSize g s) ≡ layer O s k
     unfolding layer
     sized zero e h = absurd (omega arith)
-    sized (suc zero) e h = w .leaves-are
+    sized (suc zero) e h = w .leaves-are e
     sized (suc (suc m)) e h =
         map-append make (each (places g (suc m)) (unaries g)) (each (leftSizes (suc (suc m))) (pairs g))
         ∙ ap₂ (λ (x y : List (Candidate Mat)). x ++ y) (unary-layer m e) (pairs-layer m e)

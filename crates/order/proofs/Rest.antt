@@ -17,7 +17,7 @@ use Rattle.order.specs.declared.Step.the-variants.{Candidate, End}
 use Rattle.formula.specs.declared.kinds.Place.{Place}
 use Rattle.order.specs.Size.{Cand, cand, Layer, layerOf, range, commuting, leaves, orders, start, places, unaries, pairs, ofSize, candidates}
 use Rattle.order.specs.Ahead.{cursor, leafCursor, told, twice, codeAt, both, row, column, candIn, leavesAhead, leafAt, codesIn, part, partAhead, partsAhead, ahead, candidateAt, after, rest, first}
-use Rattle.order.specs.Steps.{Steps}
+use Rattle.order.specs.Steps.{Rises, Safe, Steps}
 use Rattle.order.proofs.Loops.{range-cons, range-nil, resume-fresh}
 use Rattle.order.proofs.Splits.{part-fresh}
 use Rattle.order.proofs.Sizes.{parts-out, ahead-leaves, ahead-parts, ahead-beyond, leaf-candidate, part-candidate}
@@ -37,6 +37,15 @@ module _ {g : Layer} {at : Cursor} where
       let l : left .0 ≡ candidateAt g here .left = ap (λ (p : Place). p .0) (let q : left ≡ record { 0 = candidateAt g here .left } = cc in q) in
       let r : right .0 ≡ candidateAt g here .right = ap (λ (p : Place). p .0) (let q : right ≡ record { 0 = candidateAt g here .right } = cc in q) in
       rw (e, n, c, l, r)
+
+  -- no index is out of range with it
+  pub step-safe : {code : ℕ} {left right : Place} {next : Cursor} → Steps g at (Candidate code left right next) → Rises g → Safe g (cand code (left .0) (right .0))
+  step-safe {code} {left} {right} {next} (Steps.ends e d) r = let z : _≡_ {A = ℕ} 0 1 = cc in absurd (omega arith)
+  step-safe {code} {left} {right} {next} (Steps.takes here e d s) r =
+      let c : code ≡ candidateAt g here .code = cc in
+      let l : left .0 ≡ candidateAt g here .left = ap (λ (p : Place). p .0) (let q : left ≡ record { 0 = candidateAt g here .left } = cc in q) in
+      let q : right .0 ≡ candidateAt g here .right = ap (λ (p : Place). p .0) (let q : right ≡ record { 0 = candidateAt g here .right } = cc in q) in
+      rw (c, l, q) (s r)
 
   pub end-left : Steps g at End → rest g at ≡ []
   unfolding rest
