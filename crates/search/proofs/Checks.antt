@@ -13,7 +13,7 @@ use Rattle.sequence.specs.Operators.{Unary, Binary, unaryCode, binaryCode}
 use Rattle.rules.specs.Lists.{Each, _∈_}
 use Rattle.session.proofs.Few.{few}
 use Rattle.walk.specs.Input.{Once}
-use Rattle.search.specs.Scan.{UnaryCodes, BinaryCodes}
+use Rattle.search.specs.Costs.{operators}
 use Rattle.search.specs.Checks.{Told, GroupIs, SeenIn, GoodCodes}
 
 -- ---- groups
@@ -113,14 +113,9 @@ at-most : (lo n : ℕ) (l : List ℕ) → ((o : ℕ) → o < length l → (lo �
     → ((p q : ℕ) → p < q → q < length l → getD l p 0 ≡ getD l q 0 → ⊥) → length l ≤ n
 at-most lo n l r f = few lo n (fit lo n) (λ b c w. w .0) (λ b c w. w .1) (λ b c w. w .2) l (each-fit lo n [] l r f)
 
-pub unary-codes : {l : List ℕ} → GoodCodes true l → UnaryCodes l
-unary-codes {l} w = record {
-  in-group = λ o h. (omega arith, let g = w .in-group o h in omega (arith, unary-low (g .0), g .1));
-  short = at-most 0 5 l (λ o h. (omega arith, let g = w .in-group o h in omega (arith, unary-low (g .0), g .1))) (w .once);
-}
+-- so few operators of a group are offered
+pub unary-few : {l : List ℕ} → GoodCodes true l → length l ≤ operators
+unary-few {l} w = omega (arith, at-most 0 5 l (λ o h. (omega arith, let g = w .in-group o h in omega (arith, unary-low (g .0), g .1))) (w .once))
 
-pub binary-codes : {l : List ℕ} → GoodCodes false l → BinaryCodes l
-binary-codes {l} w = record {
-  in-group = λ o h. (let g = w .in-group o h in omega (arith, binary-in (g .0) .0, g .1), let g = w .in-group o h in omega (arith, binary-in (g .0) .1, g .1));
-  short = at-most 5 6 l (λ o h. (let g = w .in-group o h in omega (arith, binary-in (g .0) .0, g .1), let g = w .in-group o h in omega (arith, binary-in (g .0) .1, g .1))) (w .once);
-}
+pub binary-few : {l : List ℕ} → GoodCodes false l → length l ≤ operators
+binary-few {l} w = at-most 5 6 l (λ o h. let g = w .in-group o h in (omega (arith, binary-in (g .0) .0, g .1), omega (arith, binary-in (g .0) .1, g .1))) (w .once)

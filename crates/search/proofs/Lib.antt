@@ -1,22 +1,10 @@
 -- The laws behind the proofs, by subject.
-pub mod Words
-pub mod Arrays
-pub mod Products
-pub mod Matrices
-pub mod Judge
-pub mod Onward
-pub mod Both
-pub mod PairLoops
-pub mod Splits
-pub mod UnaryLoops
-pub mod Layer
-pub mod Table
-pub mod Driver
-pub mod Listing
-pub mod Rest
-pub mod Sizes
 pub mod Checks
 pub mod Decide
-pub mod Whole
 pub mod Passing
+pub mod Making
+pub mod Left
+pub mod Judging
+pub mod Rounds
+pub mod Whole
 pub mod Promises

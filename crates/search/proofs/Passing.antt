@@ -27,7 +27,7 @@ unfolding Decided
 decided-zero [] h = refl
 decided-zero (row ∷ rows) h = inr (h .0, decided-zero rows (h .1))
 
-at-in : (l : List ℕ) (p : ℕ) → p < length l → getD l p 0 ∈ l
+pub at-in : (l : List ℕ) (p : ℕ) → p < length l → getD l p 0 ∈ l
 at-in [] p h = absurd (omega arith)
 at-in (x ∷ l) zero h = List·Memᴰ·head refl
 at-in (x ∷ l) (suc p) h = List·Memᴰ·tail (at-in l p (omega arith))

@@ -2,12 +2,13 @@
 -- Assumes nothing.
 use mathlib.Core.Path.{_≡_, refl, sym, ap, _∙_}
 use mathlib.Core.Logic.{_⊎_, inl, inr}
-use mathlib.Core.Bool.{true, false}
-use mathlib.Core.List.{List}
-use Prim.Native.Nat.{ℕ, zero, suc, _≤_, _<_}
+use mathlib.Core.Bool.{Bool, true, false}
+use mathlib.Core.List.{List, [], flatMap}
+use Prim.Native.Nat.{ℕ, zero, suc, _+_, _-_, _≤_, _<_}
 use native.Mathlib.Omega.{arith}
-use native.Mathlib.Decide.{decLe}
 use lib.ListN.{length, getD}
+use lib.Dec.{eqb}
+use borrow.Author.Tests.{eqb-true, eqb-false}
 use Rattle.words.specs.Word.{width}
 use Rattle.words.proofs.At.{not-at}
 use Rattle.rules.specs.Limits.{mostSessions, mostPropositions}
@@ -16,21 +17,29 @@ use Rattle.rules.specs.Refusals.{Decided}
 use Rattle.walk.specs.Walk.{none, State, kept, finish, after, walk}
 use Rattle.walk.specs.Input.{Input, Passes, offer, search}
 use Rattle.session.specs.Recording.{lengthOf, markOf, wordOf}
+use Rattle.order.specs.Ahead.{leafCursor}
+use Rattle.order.specs.Starts.{startsOf}
+use Rattle.order.proofs.Counting.{starts-long}
+use Rattle.order.proofs.Layers.{first-layer, column-begins}
+use Rattle.table.specs.Formulas.{nothing}
 use Rattle.search.specs.declared.given.Given.{Given}
-use Rattle.search.specs.declared.layers.Stand.{Stand}
-use Rattle.search.specs.declared.layers.Stand.the-variants.{Going, Found, Full}
+use Rattle.search.specs.declared.turns.Stand.{Stand}
+use Rattle.search.specs.declared.turns.Stand.the-variants.{Going, Found, Full}
 use Rattle.search.specs.Table.{Cols, tableOver}
 use Rattle.search.specs.Refusals.{searchRows}
 use Rattle.search.specs.Search.{Searched}
-use Rattle.search.specs.Matrix.{input}
 use Rattle.search.specs.Checks.{GoodCodes}
-use Rattle.search.specs.Layers.{stateOf, answerOf, Stood, firstPoint, LayersAsks, LayersDoes}
-use Rattle.search.proofs.Matrices.{unary-code, binary-code}
-use Rattle.search.proofs.Checks.{unary-low, binary-in, at-position, good-once, unary-codes, binary-codes}
-use Rattle.search.proofs.Sizes.{first-long, first-below, whole-walk}
+use Rattle.search.specs.Turns.{Room, stateOf, answerOf, Stood, layerAt, walkLeft, Standing, firstPoint, GoAsks, GoDoes}
+use Rattle.search.proofs.Checks.{at-position, good-once, unary-few, binary-few}
+use Rattle.search.proofs.Making.{unary-of, binary-of, offered}
+use Rattle.search.proofs.Left.{left-all}
 use Rattle.search.proofs.Decide.{NoneOf, none-given, numbers-in, le-of-not-lt}
 
 -- ---- no row is given
+
+pub pos-of-ne : (n : ℕ) → (n ≡ 0 → ⊥) → 1 ≤ n
+pos-of-ne zero h = absurd (h refl)
+pos-of-ne (suc n) h = omega arith
 
 bit-or : (n : ℕ) → n ≤ 1 → (n ≡ 0) ⊎ (n ≡ 1)
 bit-or zero h = inl refl
@@ -45,19 +54,20 @@ module _ (i : Input) (t : Cols) (d : Decided (searchRows i t) 0) where
   numbers = numbers-in (i .recording .sessions) (i .recording .propositions) (given .0)
 
   unary-op : (o : ℕ) → o < length (i .unary) → (op : Unary) × (unaryCode op ≡ getD (i .unary) o 0)
-  unary-op o h = elim (decLe (suc (getD (i .unary) o 0)) 5) [
-    | yes l ↦ (unaryOf (getD (i .unary) o 0), unary-code (getD (i .unary) o 0) l)
-    | no l ↦ absurd (given .1 .1 .1 .1 .1 .1 .1 .0 (inl (o, h, λ op e. omega (arith, unary-low op))))
-  ]
+  unary-op o h = go (getD (i .unary) o 0) (eqb (unaryCode (unaryOf (getD (i .unary) o 0))) (getD (i .unary) o 0)) refl
+      (λ f. given .1 .1 .1 .1 .1 .1 .1 .0 (inl (o, h, f)))
+    where
+      go : (c : ℕ) (b : Bool) → eqb (unaryCode (unaryOf c)) c ≡ b → (((op : Unary) → unaryCode op ≡ c → ⊥) → ⊥) → (op : Unary) × (unaryCode op ≡ c)
+      go c true e f = (unaryOf c, eqb-true (unaryCode (unaryOf c)) c e)
+      go c false e f = absurd (f λ op d. eqb-false (unaryCode (unaryOf c)) c e (ap unaryCode (ap unaryOf (sym d) ∙ unary-of op) ∙ d))
 
   binary-op : (o : ℕ) → o < length (i .binary) → (op : Binary) × (binaryCode op ≡ getD (i .binary) o 0)
-  binary-op o h = elim (decLe 5 (getD (i .binary) o 0)) [
-    | yes l ↦ elim (decLe (suc (getD (i .binary) o 0)) 11) [
-      | yes m ↦ (binaryOf (getD (i .binary) o 0), binary-code (getD (i .binary) o 0) l m)
-      | no m ↦ absurd (given .1 .1 .1 .1 .1 .1 .1 .0 (inr (inr (inl (o, h, λ op e. omega (arith, binary-in op .1))))))
-    ]
-    | no l ↦ absurd (given .1 .1 .1 .1 .1 .1 .1 .0 (inr (inr (inl (o, h, λ op e. omega (arith, binary-in op .0))))))
-  ]
+  binary-op o h = go (getD (i .binary) o 0) (eqb (binaryCode (binaryOf (getD (i .binary) o 0))) (getD (i .binary) o 0)) refl
+      (λ f. given .1 .1 .1 .1 .1 .1 .1 .0 (inr (inr (inl (o, h, f)))))
+    where
+      go : (c : ℕ) (b : Bool) → eqb (binaryCode (binaryOf c)) c ≡ b → (((op : Binary) → binaryCode op ≡ c → ⊥) → ⊥) → (op : Binary) × (binaryCode op ≡ c)
+      go c true e f = (binaryOf c, eqb-true (binaryCode (binaryOf c)) c e)
+      go c false e f = absurd (f λ op d. eqb-false (binaryCode (binaryOf c)) c e (ap binaryCode (ap binaryOf (sym d) ∙ binary-of op) ∙ d))
 
   unary-good : GoodCodes true (i .unary)
   unary-good = record { in-group = unary-op; once = λ p q h l e. given .1 .1 .1 .1 .1 .1 .1 .0 (inr (inl (p, q, h, l, e))) }
@@ -91,60 +101,83 @@ module _ (i : Input) (t : Cols) (d : Decided (searchRows i t) 0) where
     binary-once = good-once (i .binary) (binary-good .once);
   }
 
-module _ {g : Given} {marks lengths words unary binary : List ℕ} {t : Cols} (d : Decided (searchRows (input g marks lengths words unary binary) t) 0) where
-  pub search-asks : LayersAsks g marks lengths words unary binary firstPoint t
-  search-asks =
-      let i = input g marks lengths words unary binary in
-      let ok = search-passes i t d in
+-- its numbers, as the program has them
+abbrev givenOf : Input → Given
+givenOf i = record { sessions = i .recording .sessions; propositions = i .recording .propositions; bound = i .bound; room = i .room; constants = i .constants }
+
+module _ (i : Input) (t : Cols) (d : Decided (searchRows i t) 0) where
+  ok : Passes i
+  ok = search-passes i t d
+
+  pub search-asks : GoAsks (givenOf i) (i .unary) (i .binary) firstPoint
+  search-asks = record {
+    bound-in = ok .bound-in .1;
+    room-in = ok .room-in .1;
+    propositions-in = ok .propositions-in .1;
+    unary-few = unary-few (unary-good i t d);
+    binary-few = binary-few (binary-good i t d);
+    size-in = (omega arith, ok .bound-in .0);
+    kept-in = omega arith;
+    counts = omega arith;
+  }
+
+  room : Room (givenOf i) t
+  room =
       let w = given i t d in
       record {
-        sound = record {
-          sessions-in = ok .sessions-in .1;
-          propositions-in = omega (arith, ok .propositions-in .1);
-          some = ok .propositions-in .0;
-          room-in = ok .room-in .1;
-          marks-there = ok .marks-there;
-          lengths-there = ok .lengths-there;
-          words-there = ok .words-there;
-          unary-codes = unary-codes (unary-good i t d);
-          binary-codes = binary-codes (binary-good i t d);
-        };
-        room = record {
-          codes = le-of-not-lt λ h. w .1 .1 .1 .0 (inl h);
-          lefts = le-of-not-lt λ h. w .1 .1 .1 .0 (inr (inl h));
-          rights = le-of-not-lt λ h. w .1 .1 .1 .0 (inr (inr (inl h)));
-          sizes = le-of-not-lt λ h. w .1 .1 .1 .0 (inr (inr (inr (inl h))));
-          matrices = le-of-not-lt λ h. w .1 .1 .1 .0 (inr (inr (inr (inr h))));
-        };
-        bound-in = ok .bound-in .1;
-        size-in = (omega arith, omega arith);
-        starts-long = first-long;
-        starts-below = first-below;
-        kept-in = omega arith;
-        counts = omega arith;
+        codes = le-of-not-lt λ h. w .1 .1 .1 .0 (inl h);
+        lefts = le-of-not-lt λ h. w .1 .1 .1 .0 (inr (inl h));
+        rights = le-of-not-lt λ h. w .1 .1 .1 .0 (inr (inr (inl h)));
+        sizes = le-of-not-lt λ h. w .1 .1 .1 .0 (inr (inr (inr (inl h))));
+        matrices = le-of-not-lt λ h. w .1 .1 .1 .0 (inr (inr (inr (inr h))));
       }
+
+  -- ---- from the first point on it is the whole walk
+
+  empty-over : t ≡ tableOver [] t
+  unfolding flatMap
+  empty-over = refl
+
+  none-kept : Standing i t t [] [] (startsOf (t .sizes) 0) 1 0
+  none-kept = record {
+    counted = refl;
+    holds = record { fine = λ p h. absurd (omega arith); are = empty-over };
+    rising = λ p q h l. absurd (omega arith);
+    small = λ p h. absurd (omega arith);
+    less = omega arith;
+    same = λ p h. refl;
+    begins = λ u h l. column-begins nothing [] (t .sizes) 0 (λ p q a b. absurd (omega arith)) refl u (omega arith);
+  }
+
+  whole : walkLeft i [] [] (startsOf (t .sizes) 0) 1 (leafCursor 0) 0 ≡ after (offer i) (i .room) (i .bound)
+  whole =
+      let starts = startsOf (t .sizes) 0 in
+      left-all i (i .bound + 1 - 1) (i .bound) _ (omega arith)
+      (sym (first-layer (offer i) nothing [] (layerAt i 1 starts) (offered i ok 1 starts []) (none-kept .begins) (omega arith)
+      (omega (arith, starts-long (t .sizes) 0))))
 
   -- ---- the answer
 
   module _ {t′ : Cols} where
-    walk-end : (s : Stand) → (w : Stood (input g marks lengths words unary binary) t (after (offer (input g marks lengths words unary binary)) (g .room) (g .bound)) t′ s)
-        → search (input g marks lengths words unary binary) ≡ finish (stateOf s (w .table))
+    walk-end : (s : Stand) → (w : Stood i t (after (offer i) (i .room) (i .bound)) t′ s)
+        → search i ≡ finish (stateOf s (w .table))
     unfolding walk
     walk-end s w = ap finish (w .is)
 
-    answered : (stand : Stand) → Stood (input g marks lengths words unary binary) t (after (offer (input g marks lengths words unary binary)) (g .room) (g .bound)) t′ stand
-        → Searched (input g marks lengths words unary binary) t (answerOf stand) t′
+    answered : (stand : Stand) → Stood i t (after (offer i) (i .room) (i .bound)) t′ stand
+        → Searched i t (answerOf stand) t′
     unfolding finish
     answered (Going tried n) w =
         let e = walk-end (Going tried n) w in
-        record { decided = d; outcome = (rw (e, w .holds .counted), w .holds .are ∙ ap (λ (st : State (List ℕ)). tableOver (kept st) t) (sym e)) }
+        record { decided = d; outcome = (rw (e, w .counted), w .holds .are ∙ ap (λ (st : State (List ℕ)). tableOver (kept st) t) (sym e)) }
     answered (Found root tried n) w =
         let e = walk-end (Found root tried n) w in
-        record { decided = d; outcome = (rw (e, w .holds .counted), w .holds .are ∙ ap (λ (st : State (List ℕ)). tableOver (kept st) t) (sym e)) }
+        record { decided = d; outcome = (rw (e, w .counted), w .holds .are ∙ ap (λ (st : State (List ℕ)). tableOver (kept st) t) (sym e)) }
     answered (Full size tried n) w =
         let e = walk-end (Full size tried n) w in
-        record { decided = d; outcome = (rw (e, w .holds .counted), w .holds .are ∙ ap (λ (st : State (List ℕ)). tableOver (kept st) t) (sym e)) }
+        record { decided = d; outcome = (rw (e, w .counted), w .holds .are ∙ ap (λ (st : State (List ℕ)). tableOver (kept st) t) (sym e)) }
 
-    pub search-answers : (stand : Stand) → LayersDoes g marks lengths words unary binary firstPoint t t′ stand
-        → Searched (input g marks lengths words unary binary) t (answerOf stand) t′
-    search-answers stand v = answered stand (whole-walk search-asks v (search-passes (input g marks lengths words unary binary) t d))
+    pub search-answers : (stand : Stand) → GoDoes (givenOf i) (i .recording .marks) (i .recording .lengths) (i .recording .words) (i .unary) (i .binary) firstPoint t t′ stand → Searched i t (answerOf stand) t′
+    search-answers stand v =
+        let w = v .runs t [] [] ok room none-kept in
+        answered stand (record { table = w .table; is = sym whole ∙ w .is; counted = w .counted; holds = w .holds })

@@ -1,52 +1,18 @@
--- The numbers by which the private contracts bound what a loop tries, each made from document 01's limits. They only have to be large enough, and
--- small enough that the count of tried candidates never wraps.
+-- The numbers by which the loop bounds what it tries, each made from document 01's limits. They only have to be large enough, and small enough that the
+-- count of tried candidates never wraps.
 -- Assumes nothing.
 use Prim.Native.Nat.{ℕ, _+_, _*_}
 use Rattle.rules.specs.Limits.{mostSize, mostRoom}
 
--- the operators of each group: none is offered twice
-abbrev pub unaries : ℕ
-unaries = 5
+-- at most so many operators of a group are offered, none twice
+abbrev pub operators : ℕ
+operators = 6
 
-abbrev pub binaries : ℕ
-binaries = 6
-
--- both orders of each binary operator
-abbrev pub perPair : ℕ
-perPair = 2 * binaries
-
--- a left place with every right one; every left place; at most 16 splits, with 31 sizes
-abbrev pub perColumn : ℕ
-perColumn = perPair * mostRoom
-
-abbrev pub perSplit : ℕ
-perSplit = perColumn * mostRoom
-
-abbrev pub perPairs : ℕ
-perPairs = 16 * perSplit
-
--- every place with each unary operator
-abbrev pub perUnary : ℕ
-perUnary = unaries * mostRoom
-
--- the propositions' numbers are those of their kind, and there are two constants
-abbrev pub mostLeaves : ℕ
-mostLeaves = 255
-
-abbrev pub perSeeds : ℕ
-perSeeds = mostLeaves + 2
-
--- a scan of a size, from anywhere; with the one to be kept
-abbrev pub perScan : ℕ
-perScan = perPairs + perUnary + perSeeds
-
-abbrev pub perTurn : ℕ
-perTurn = perScan + 1
-
--- a size: a scan for each formula that is kept, and one more
+-- the candidates of a size: the leaves of as many propositions as their kind can number, and two constants; or at most 16 splits, each with every
+-- pair of places, and over each pair both orders of each operator
 abbrev pub perSize : ℕ
-perSize = perTurn * (mostRoom + 1)
+perSize = 257 + 16 * (mostRoom * (mostRoom * (operators * 2)))
 
--- all sizes
+-- all sizes; each ends once
 abbrev pub inAll : ℕ
-inAll = perSize * (mostSize + 1)
+inAll = (perSize + 1) * (mostSize + 1)

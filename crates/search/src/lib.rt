@@ -1,16 +1,14 @@
 // The search: the walk of document 01 over a table in lent slices (aux.rs, cache.rs, cm.rs).
 mod given;
-mod layers;
-mod matrix;
 mod refuse;
-mod scan;
+mod turns;
 
 use crate::given::Given;
-use crate::layers::Stand;
+use crate::turns::Stand;
 use formula::kinds::Node;
 ghost use mathlib.Core.Path.{_≡_};
 ghost use Rattle.search.specs.Table.{cols};
-ghost use Rattle.search.specs.Layers.{answerOf};
+ghost use Rattle.search.specs.Turns.{answerOf};
 ghost use Rattle.search.specs.Search.{Searched};
 ghost use Rattle.walk.specs.Input.{inputOf};
 
@@ -87,8 +85,8 @@ pub fn search(
         room,
         constants,
     };
-    let first = layers::first_point();
-    let stand = layers::layers(
+    let first = turns::first_point();
+    let stand = turns::go_on(
         given,
         marks,
         lengths,

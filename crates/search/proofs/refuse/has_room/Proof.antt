@@ -2,7 +2,7 @@
 -- Assumes nothing.
 use mathlib.Core.Logic.{inl, inr}
 use native.Mathlib.Omega.{arith}
-use Rattle.search.proofs.Products.{at-most}
+use Rattle.table.proofs.Products.{at-most}
 use Rattle.search.proofs.refuse.has_room.Statement.{statement}
 use Rattle.search.proofs.refuse.has_room.Tie as tie
 

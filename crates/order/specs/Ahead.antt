@@ -1,0 +1,143 @@
+-- The cursors of a size's candidates, in their order, from any cursor on; and the candidate at each.
+-- Assumes nothing.
+use mathlib.Core.Bool.{Bool, true, false, cond, not}
+use mathlib.Core.List.{List, [], _∷_, _++_, map}
+use Prim.Native.Nat.{ℕ, zero, suc, _+_, _-_, _/_}
+use lib.ListN.{length, getD}
+use lib.Dec.{eqb, ltb}
+use Rattle.rules.specs.Lists.{each}
+use Rattle.order.specs.declared.Cursor.{Cursor}
+use Rattle.order.specs.declared.Step.{Step}
+use Rattle.order.specs.declared.Step.the-variants.{Candidate}
+use Rattle.order.specs.Size.{Cand, cand, Layer, range, commuting, leaves, start}
+
+abbrev pub cursor : ℕ → ℕ → ℕ → ℕ → Bool → Cursor
+cursor i l q o second = record { split = i; left = l; right = q; operator = o; second = second }
+
+abbrev pub leafCursor : ℕ → Cursor
+leafCursor o = cursor 0 0 0 o false
+
+-- a step that tells a candidate and the cursor after it
+abbrev pub told : Cand → Cursor → Step
+told c next = Candidate (c .code) (record { 0 = c .left }) (record { 0 = c .right }) next
+
+-- a loop over the numbers from a to before b, of whose first turn g is left: g of a, and f of each of the others
+unfoldable pub resume : {A : Type 0} → (ℕ → List A) → (ℕ → List A) → ℕ → ℕ → List A
+resume g f a b = cond (ltb a b) (g a ++ each (range (a + 1) b) f) []
+
+-- an operator over a pair of places comes twice where it doesn't commute; split 0 has the unary ones, which come once
+abbrev pub twice : ℕ → ℕ → Bool
+twice zero c = false
+twice (suc i) c = not (commuting c)
+
+-- ---- a split: its operators' codes, in split i
+
+module _ (codes : List ℕ) where
+  abbrev pub codeAt : ℕ → ℕ
+  codeAt o = getD codes o 0
+
+  -- the operator at position o over places l and q: its first order, and its second one
+  unfoldable pub both : ℕ → ℕ → ℕ → ℕ → List Cursor
+  both i l q o = cond (twice i (codeAt o)) (cursor i l q o false ∷ (cursor i l q o true ∷ [])) (cursor i l q o false ∷ [])
+
+  abbrev pub row : ℕ → ℕ → ℕ → List Cursor
+  row i l q = each (range 0 (length codes)) (both i l q)
+
+  abbrev pub column : ℕ → ℕ → ℕ → ℕ → List Cursor
+  column i from to l = each (range from to) (row i l)
+
+  -- what is left of each from a cursor on
+  unfoldable pub bothFrom : Cursor → ℕ → ℕ → ℕ → List Cursor
+  bothFrom at l q o =
+      let i = at .split in
+      cond (twice i (codeAt o)) (cond (at .second) (cursor i l q o true ∷ []) (both i l q o)) (cursor i l q o false ∷ [])
+
+  abbrev pub rowFrom : Cursor → ℕ → ℕ → List Cursor
+  rowFrom at l q = resume (bothFrom at l q) (both (at .split) l q) (at .operator) (length codes)
+
+  abbrev pub columnFrom : ℕ → Cursor → ℕ → List Cursor
+  columnFrom to at l = resume (rowFrom at l) (row (at .split) l) (at .right) to
+
+  unfoldable pub partFrom : ℕ → ℕ → ℕ → Cursor → List Cursor
+  partFrom end from to at = resume (columnFrom to at) (column (at .split) from to) (at .left) end
+
+  -- the candidate at a cursor, and the cursor after it
+  abbrev pub candIn : Cursor → Cand
+  candIn at = cand (codeAt (at .operator)) (cond (at .second) (at .right) (at .left)) (cond (at .second) (at .left) (at .right))
+
+  abbrev pub halfway : Cursor → Bool
+  halfway at = cond (at .second) false (twice (at .split) (codeAt (at .operator)))
+
+  unfoldable pub afterIn : Cursor → Cursor
+  afterIn at =
+      cond (halfway at) (cursor (at .split) (at .left) (at .right) (at .operator) true) (cursor (at .split) (at .left) (at .right) (at .operator + 1) false)
+
+-- split 0 has the unary operators, the others the binary ones
+abbrev pub codesOf : List ℕ → List ℕ → ℕ → List ℕ
+codesOf unary binary zero = unary
+codesOf unary binary (suc i) = binary
+
+-- the places of each split: in split 0 the left ones are of size s-1, and the right field is 0; in split i they are of sizes i and s-1-i
+module _ (s : ℕ) (starts : List ℕ) where
+  abbrev pub leftSize : ℕ → ℕ
+  leftSize zero = s - 1
+  leftSize (suc i) = suc i
+
+  abbrev pub leftStart : ℕ → ℕ
+  leftStart i = start starts (leftSize i)
+
+  abbrev pub leftEnd : ℕ → ℕ
+  leftEnd i = start starts (leftSize i + 1)
+
+  abbrev pub rightStart : ℕ → ℕ
+  rightStart zero = 0
+  rightStart (suc i) = start starts (s - 1 - suc i)
+
+  abbrev pub rightEnd : ℕ → ℕ
+  rightEnd zero = 1
+  rightEnd (suc i) = start starts (s - 1 - suc i + 1)
+
+-- of the leaves: at size 1 the position in their list stands in the operator's field
+unfoldable pub leavesAhead : ℕ → ℕ → Cursor → List Cursor
+leavesAhead m constants at = map leafCursor (range (at .operator) (length (leaves m constants)))
+
+abbrev pub leafAt : ℕ → ℕ → Cursor → Cand
+leafAt m constants at = getD (leaves m constants) (at .operator) (cand 0 0 0)
+
+abbrev pub afterLeaf : Cursor → Cursor
+afterLeaf at = leafCursor (at .operator + 1)
+
+module _ (g : Layer) where
+  abbrev pub codesIn : ℕ → List ℕ
+  codesIn i = codesOf (g .unary) (g .binary) i
+
+  abbrev pub part : ℕ → List Cursor
+  part i =
+      each (range (leftStart (g .size) (g .starts) i) (leftEnd (g .size) (g .starts) i))
+      (column (codesIn i) i (rightStart (g .size) (g .starts) i) (rightEnd (g .size) (g .starts) i))
+
+  abbrev pub partAhead : Cursor → ℕ → List Cursor
+  partAhead at i = partFrom (codesIn i) (leftEnd (g .size) (g .starts) i) (rightStart (g .size) (g .starts) i) (rightEnd (g .size) (g .starts) i) at
+
+  -- the unary operators first, "Then i from 1 while i < ceil(s/2)"
+  unfoldable pub partsAhead : Cursor → List Cursor
+  partsAhead at = resume (partAhead at) part (at .split) ((g .size + 1) / 2)
+
+  -- THE CURSORS AHEAD, from any cursor on
+  unfoldable pub ahead : Cursor → List Cursor
+  ahead at = cond (ltb (g .size) (length (g .starts))) (cond (eqb (g .size) 1) (leavesAhead (g .propositions) (g .constants) at) (partsAhead at)) []
+
+  -- the candidate at a cursor, and the cursor after it
+  unfoldable pub candidateAt : Cursor → Cand
+  candidateAt at = cond (eqb (g .size) 1) (leafAt (g .propositions) (g .constants) at) (candIn (codesIn (at .split)) at)
+
+  unfoldable pub after : Cursor → Cursor
+  after at = cond (eqb (g .size) 1) (afterLeaf at) (afterIn (codesIn (at .split)) at)
+
+  -- THE CANDIDATES LEFT; those left at the first cursor are the size's (`rest-first`, in proofs/)
+  unfoldable pub rest : Cursor → List Cand
+  rest at = map candidateAt (ahead at)
+
+-- where size s begins
+abbrev pub first : List ℕ → ℕ → Cursor
+first starts s = cursor 0 (cond (ltb 1 s) (getD starts (s - 1) 0) 0) 0 0 false

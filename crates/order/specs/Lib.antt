@@ -1,0 +1,6 @@
+-- What a reader must believe of the order of candidates: Size, Ahead, Steps and Starts. `Inner` is only for private functions: no public contract cites it.
+pub mod Size
+pub mod Ahead
+pub mod Steps
+pub mod Starts
+pub mod Inner

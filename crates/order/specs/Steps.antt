@@ -1,0 +1,35 @@
+-- What a step says, for every cursor.
+-- Assumes nothing.
+use mathlib.Core.Path.{_≡_}
+use mathlib.Core.Logic.{_⊎_}
+use mathlib.Core.List.{List, [], _∷_}
+use Prim.Native.Nat.{ℕ, _≤_, _<_}
+use lib.ListN.{length, getD}
+use Rattle.order.specs.declared.Cursor.{Cursor}
+use Rattle.order.specs.declared.Step.{Step}
+use Rattle.order.specs.declared.Step.the-variants.{End}
+use Rattle.order.specs.Size.{Cand, Layer, start}
+use Rattle.order.specs.Ahead.{ahead, candidateAt, after, told}
+
+-- the code stands in the list
+pub record Listed (codes : List ℕ) (c : ℕ) : Type 0 where
+  pub position : ℕ
+  pub within : position < length codes
+  pub is : getD codes position 0 ≡ c
+
+-- the sizes up to this one begin in order
+abbrev pub Rises : Layer → Type 0
+Rises g = (t : ℕ) → t ≤ g .size → start (g .starts) t ≤ start (g .starts) (g .size)
+
+-- a candidate with which no index is out of range: a proposition below m, a constant, or a listed operator over places that were kept when the size
+-- began; unused fields are 0
+pub data Safe (g : Layer) (c : Cand) : Type 0 where
+  proposition : c .code ≡ 16 → c .left < g .propositions → c .right ≡ 0 → Safe g c
+  constant : (c .code ≡ 17) ⊎ (c .code ≡ 18) → c .left ≡ 0 → c .right ≡ 0 → Safe g c
+  unary : Listed (g .unary) (c .code) → c .left < start (g .starts) (g .size) → c .right ≡ 0 → Safe g c
+  binary : Listed (g .binary) (c .code) → c .left < start (g .starts) (g .size) → c .right < start (g .starts) (g .size) → Safe g c
+
+-- none is ahead, and the step says so; or `here` is next: the step tells its candidate and the cursor after it, from which on the others are ahead
+pub data Steps (g : Layer) (at : Cursor) (step : Step) : Type 0 where
+  ends : ahead g at ≡ [] → step ≡ End → Steps g at step
+  takes : (here : Cursor) → ahead g at ≡ here ∷ ahead g (after g here) → step ≡ told (candidateAt g here) (after g here) → (Rises g → Safe g (candidateAt g here)) → Steps g at step

@@ -1,0 +1,49 @@
+-- `known_at` meets its contract: the first equal place decides.
+-- Assumes nothing.
+use native.Mathlib.Omega.{arith}
+use borrow.Author.Needs.{needs}
+use Rattle.rules.specs.Limits.{mostSessions, mostRoom}
+use Rattle.table.proofs.Products.{at-most}
+use Rattle.table.proofs.known_at.Statement.{statement}
+use Rattle.table.proofs.known_at.Tie as tie
+
+returns : tie.Need-returns
+returns c = search needs
+
+returns-2 : tie.Need-returns-2
+returns-2 c = search needs
+
+returns-3 : tie.Need-returns-3
+returns-3 c = search needs
+
+mul-if4 : tie.Need-mul-if4
+mul-if4 c = let a = c .before .before .before .before .before .args in omega (arith, at-most (a .kept) mostRoom (a .r) mostSessions (omega arith) (omega arith))
+
+returns-4 : tie.Need-returns-4
+returns-4 c = search needs
+
+first-equal-requires : tie.Need-first-equal-requires
+first-equal-requires c κs = search needs
+
+cast-t9 : tie.Need-cast-t9
+cast-t9 c = search needs
+
+returns-5 : tie.Need-returns-5
+returns-5 c = let f = c .before .first-equal .ensures in (search needs, c .if5 .taken, f .here (c .if5 .taken), f .before)
+
+returns-6 : tie.Need-returns-6
+returns-6 c = λ a p h. c .before .first-equal .ensures .before p (omega arith)
+
+pub known-at-spec : {M : Type 1} → statement M
+known-at-spec =
+    tie.close
+    (tie.spec
+    returns
+    returns-2
+    returns-3
+    mul-if4
+    returns-4
+    first-equal-requires
+    cast-t9
+    returns-5
+    returns-6)

@@ -1,0 +1,60 @@
+-- What the table's contracts come to in the walk's terms, for an input that passes the checks. Each is proved under its name in proofs/: rows-made,
+-- agrees-separating, known-is-known, keep-grows, held-is-stored, made-fine.
+-- Assumes nothing.
+use mathlib.Core.Path.{_≡_}
+use mathlib.Core.Bool.{Bool, true, false}
+use mathlib.Core.List.{List, [], _∷_, _++_}
+use Prim.Native.Nat.{ℕ, _≤_}
+use lib.ListN.{length, take}
+use Rattle.walk.specs.Walk.{Candidate}
+use Rattle.walk.specs.Walk as walk
+use Rattle.walk.specs.Input.{Input, Passes, separating, offer}
+use Rattle.walk.specs.Promises.{Table}
+use Rattle.table.specs.declared.Known.{Known}
+use Rattle.table.specs.declared.Known.the-variants.{At, New}
+use Rattle.table.specs.Slices.{Cols}
+use Rattle.table.specs.Rows.{MasksAnswer, RowsAnswer}
+use Rattle.table.specs.Compare.{agreeing, KnownAnswer}
+use Rattle.table.specs.Keep.{KeepAnswer}
+use Rattle.table.specs.Formulas.{Makes, made, Fine, Stored, Masks, Holds, RoomAt}
+
+-- the masks are written
+abbrev pub MasksMade : Type 0
+MasksMade = (i : Input) → Passes i → (old new : List ℕ) (b : Bool) → i .recording .sessions ≤ length old → MasksAnswer (i .recording .sessions) (i .recording .lengths) old new b
+    → (b ≡ true) × Masks i new
+
+-- the rows written are the candidate's matrix
+abbrev pub RowsMade : Type 0
+RowsMade = (i : Input) → Passes i → (k : Table) (masks matrices old new : List ℕ) → Masks i masks → Stored i k matrices → i .recording .sessions ≤ length old
+    → (code left right : ℕ) (c : Makes (i .recording .propositions) (length k) code left right) (b : Bool)
+    → RowsAnswer (i .recording .sessions) (i .recording .propositions) masks (i .recording .words) matrices code left right old new b
+    → (b ≡ true) × (length new ≡ length old) × (take (i .recording .sessions) new ≡ made i k c)
+
+-- a candidate's matrix has a well-formed word for each session
+abbrev pub MadeFine : Type 0
+MadeFine = (i : Input) → Passes i → (k : Table) (m kept code left right : ℕ) (c : Makes m kept code left right) → m ≤ i .recording .propositions → Fine i (made i k c)
+
+-- acceptance is the walk's
+abbrev pub AgreesSeparating : Type 0
+AgreesSeparating = (i : Input) → Passes i → (rows : List ℕ) → i .recording .sessions ≤ length rows
+    → agreeing (i .recording .sessions) (i .recording .marks) (i .recording .lengths) rows ≡ separating i (take (i .recording .sessions) rows)
+
+-- a place is answered where the walk knows the matrix
+abbrev pub isAt : Known → Bool
+isAt (At p) = true
+isAt New = false
+
+abbrev pub KnownIsKnown : Type 0
+KnownIsKnown = (i : Input) → Passes i → (k : Table) (matrices rows : List ℕ) → Stored i k matrices → length k ≤ i .room → i .recording .sessions ≤ length rows
+    → (a : Known) → KnownAnswer (i .recording .sessions) matrices rows (length k) a → walk.known (offer i) (take (i .recording .sessions) rows) k ≡ isAt a
+
+-- the slices that hold a table are those that store its matrices
+abbrev pub HeldIsStored : Type 0
+HeldIsStored = (i : Input) (k : Table) (t₀ t : Cols) → Holds i k t₀ t → Stored i k (t .matrices)
+
+-- a formula kept at the next place makes the table one longer
+abbrev pub KeepGrows : Type 0
+KeepGrows = (i : Input) → Passes i → (k : Table) (t₀ t t′ : Cols) → Holds i k t₀ t → RoomAt i (length k) t₀
+    → (rows : List ℕ) (c : Candidate (List ℕ)) → i .recording .sessions ≤ length rows → take (i .recording .sessions) rows ≡ c .matrix → Fine i (c .matrix)
+    → (b : Bool) → KeepAnswer (i .recording .sessions) rows (length k) (c .node) t t′ b
+    → (b ≡ true) × Holds i (k ++ (c ∷ [])) t₀ t′

@@ -1,0 +1,192 @@
+// The table of a search in lent slices (cm.rs, cache.rs): a candidate's matrix, its acceptance against the marks, its comparison with the kept ones, and
+// keeping it. Every function tests the numbers that it is handed, once, and says so where they are out of range; the loops behind it are private.
+mod binary;
+mod leaves;
+mod masks;
+mod store;
+mod tests;
+mod unary;
+
+use formula::kinds::Node;
+use rules::kinds::Place;
+use rules::kinds::Session;
+use sequence::operators::Group;
+use sequence::operators::operator_of;
+ghost use mathlib.Core.Path.{_≡_};
+ghost use Rattle.formula.specs.Kinds.{nodeOf};
+ghost use Rattle.table.specs.Slices.{cols};
+ghost use Rattle.table.specs.Rows.{MasksAnswer, RowsAnswer};
+ghost use Rattle.table.specs.Compare.{agreeing, CompareAnswer, KnownAnswer};
+ghost use Rattle.table.specs.Keep.{KeepAnswer};
+
+// How a matrix compares with the kept one at a place: equal in every row, or the first session that differs; outside where there is no such matrix.
+pub enum Compared {
+    Equal,
+    Differs(Session),
+    Outside,
+}
+
+// The first place whose matrix is equal, or none.
+pub enum Known {
+    At(Place),
+    New,
+}
+
+// Writes the masks of r sessions, once for a search. False where r is above the most sessions or a slice is shorter.
+pub fn masks_of(r: usize, lengths: &[u8], masks: &mut [u64]) -> bool
+    ensures { λ b. ⌜ MasksAnswer r (now (lengths .entry)) (now (masks .entry)) (now (masks .exit)) b ⌝ }
+{
+    if rules::SESSIONS < r {
+        return false;
+    }
+    if lengths.len() < r {
+        return false;
+    }
+    if masks.len() < r {
+        return false;
+    }
+    masks::fill(r, lengths, masks);
+    true
+}
+
+// Writes the matrix of the candidate with that code, left and right field: the operator's words over those of its children, which are kept, or a
+// leaf's. False where the code is no operator's and no leaf's, or what it reads isn't there.
+pub fn rows_of(
+    r: usize,
+    m: usize,
+    masks: &[u64],
+    words: &[u64],
+    matrices: &[u64],
+    code: u8,
+    left: Place,
+    right: Place,
+    rows: &mut [u64],
+) -> bool
+    ensures { λ b. ⌜ RowsAnswer r m (now (masks .entry)) (now (words .entry)) (now (matrices .entry)) code (left .0) (right .0) (now (rows .entry)) (now (rows .exit)) b ⌝ }
+{
+    if rules::SESSIONS < r {
+        return false;
+    }
+    if masks.len() < r {
+        return false;
+    }
+    if rows.len() < r {
+        return false;
+    }
+    let group = operator_of(code).group;
+    match group {
+        Group::Unary => unary::rows_of(r, m, masks, words, matrices, code, left, right, rows),
+        Group::Binary => binary::rows_of(r, m, masks, words, matrices, code, left, right, rows),
+        Group::Neither => leaves::rows_of(r, m, masks, words, matrices, code, left, right, rows),
+    }
+}
+
+// Whether exactly the sessions marked 1 accept (is_equivalent in cm.rs). False where r is above the most sessions or a slice is shorter.
+pub fn agrees(r: usize, marks: &[u8], lengths: &[u8], rows: &[u64]) -> bool
+    ensures { λ b. ⌜ b ≡ agreeing r (now (marks .entry)) (now (lengths .entry)) (now (rows .entry)) ⌝ }
+{
+    if rules::SESSIONS < r {
+        return false;
+    }
+    if marks.len() < r {
+        return false;
+    }
+    if lengths.len() < r {
+        return false;
+    }
+    if rows.len() < r {
+        return false;
+    }
+    tests::all_agree(r, marks, lengths, rows)
+}
+
+// A matrix against the kept one at a place.
+pub fn compare(r: usize, matrices: &[u64], rows: &[u64], place: Place) -> Compared
+    ensures { λ c. ⌜ CompareAnswer r (now (matrices .entry)) (now (rows .entry)) (place .0) c ⌝ }
+{
+    if rules::SESSIONS < r {
+        return Compared::Outside;
+    }
+    if rows.len() < r {
+        return Compared::Outside;
+    }
+    let from = place.0 as usize * r;
+    if matrices.len() < from + r {
+        return Compared::Outside;
+    }
+    let first = tests::first_difference(r, &matrices[from..], rows);
+    if first < r {
+        return Compared::Differs(Session(first as u8));
+    }
+    Compared::Equal
+}
+
+// A matrix against the kept ones, from the first on (what the hash of cm.rs stands for). New too where there are not so many.
+pub fn known_at(r: usize, matrices: &[u64], rows: &[u64], kept: usize) -> Known
+    ensures { λ k. ⌜ KnownAnswer r (now (matrices .entry)) (now (rows .entry)) kept k ⌝ }
+{
+    if rules::SESSIONS < r {
+        return Known::New;
+    }
+    if rules::ROOM < kept {
+        return Known::New;
+    }
+    if rows.len() < r {
+        return Known::New;
+    }
+    if matrices.len() < kept * r {
+        return Known::New;
+    }
+    let first = tests::first_equal(r, matrices, rows, kept);
+    if first < kept {
+        return Known::At(Place(first as u16));
+    }
+    Known::New
+}
+
+// Writes a formula at a place: its node and its matrix. False where a slice has no such place.
+pub fn keep(
+    r: usize,
+    rows: &[u64],
+    place: Place,
+    node: Node,
+    codes: &mut [u8],
+    lefts: &mut [u16],
+    rights: &mut [u16],
+    sizes: &mut [u8],
+    matrices: &mut [u64],
+) -> bool
+    ensures { λ b. ⌜ KeepAnswer r (now (rows .entry)) (place .0) (nodeOf node)
+        (cols (now (codes .entry)) (now (lefts .entry)) (now (rights .entry)) (now (sizes .entry)) (now (matrices .entry)))
+        (cols (now (codes .exit)) (now (lefts .exit)) (now (rights .exit)) (now (sizes .exit)) (now (matrices .exit))) b ⌝ }
+{
+    if rules::SESSIONS < r {
+        return false;
+    }
+    if rows.len() < r {
+        return false;
+    }
+    let at = place.0 as usize;
+    if codes.len() <= at {
+        return false;
+    }
+    if lefts.len() <= at {
+        return false;
+    }
+    if rights.len() <= at {
+        return false;
+    }
+    if sizes.len() <= at {
+        return false;
+    }
+    let from = at * r;
+    if matrices.len() < from + r {
+        return false;
+    }
+    codes[at] = node.code;
+    lefts[at] = node.left.0;
+    rights[at] = node.right.0;
+    sizes[at] = node.size;
+    store::put(r, matrices, rows, from);
+    true
+}
