@@ -16,7 +16,6 @@ pub mod Listing
 pub mod Rest
 pub mod Sizes
 pub mod Checks
-pub mod Decide
 pub mod Whole
 pub mod Passing
 pub mod Promises

@@ -13,21 +13,22 @@ use Rattle.words.proofs.At.{not-at}
 use Rattle.sequence.specs.Limits as limits
 use Rattle.sequence.specs.Operators.{Unary, Binary, unaryCode, binaryCode}
 use Rattle.sequence.specs.Refusals.{Decided}
+use Rattle.sequence.proofs.Groups.{unary-below, binary-between}
 use Rattle.walk.specs.Walk.{none, State, kept, finish, after, walk}
 use Rattle.walk.specs.Input.{Input, Passes, lengthOf, markOf, wordOf, unaryOf, binaryOf, offer, search}
 use Rattle.search.specs.declared.given.Given.{Given}
 use Rattle.search.specs.declared.layers.Stand.{Stand}
 use Rattle.search.specs.declared.layers.Stand.the-variants.{Going, Found, Full}
 use Rattle.search.specs.Table.{Cols, tableOver}
-use Rattle.search.specs.Refusals.{searchRows}
+use Rattle.checks.specs.Refusals.{searchRows}
 use Rattle.search.specs.Search.{Searched}
 use Rattle.search.specs.Matrix.{input}
-use Rattle.search.specs.Checks.{GoodCodes}
+use Rattle.checks.specs.Inner.{GoodCodes}
 use Rattle.search.specs.Layers.{stateOf, answerOf, Stood, firstPoint, LayersAsks, LayersDoes}
 use Rattle.search.proofs.Matrices.{unary-code, binary-code}
-use Rattle.search.proofs.Checks.{unary-low, binary-in, at-position, good-once, unary-codes, binary-codes}
+use Rattle.search.proofs.Checks.{at-position, good-once, unary-codes, binary-codes}
 use Rattle.search.proofs.Sizes.{first-long, first-below, whole-walk}
-use Rattle.search.proofs.Decide.{NoneOf, none-given, numbers-in, le-of-not-lt}
+use Rattle.checks.proofs.Decide.{NoneOf, none-given, numbers-in, le-of-not-lt}
 
 -- ---- no row is given
 
@@ -46,16 +47,16 @@ module _ (i : Input) (t : Cols) (d : Decided (searchRows i t) 0) where
   unary-op : (o : ℕ) → o < length (i .unary) → (op : Unary) × (unaryCode op ≡ getD (i .unary) o 0)
   unary-op o h = elim (decLe (suc (getD (i .unary) o 0)) 5) [
     | yes l ↦ (unaryOf (getD (i .unary) o 0), unary-code (getD (i .unary) o 0) l)
-    | no l ↦ absurd (given .1 .1 .1 .1 .1 .1 .1 .0 (inl (o, h, λ op e. omega (arith, unary-low op))))
+    | no l ↦ absurd (given .1 .1 .1 .1 .1 .1 .1 .0 (inl (o, h, λ op e. omega (arith, unary-below op))))
   ]
 
   binary-op : (o : ℕ) → o < length (i .binary) → (op : Binary) × (binaryCode op ≡ getD (i .binary) o 0)
   binary-op o h = elim (decLe 5 (getD (i .binary) o 0)) [
     | yes l ↦ elim (decLe (suc (getD (i .binary) o 0)) 11) [
       | yes m ↦ (binaryOf (getD (i .binary) o 0), binary-code (getD (i .binary) o 0) l m)
-      | no m ↦ absurd (given .1 .1 .1 .1 .1 .1 .1 .0 (inr (inr (inl (o, h, λ op e. omega (arith, binary-in op .1))))))
+      | no m ↦ absurd (given .1 .1 .1 .1 .1 .1 .1 .0 (inr (inr (inl (o, h, λ op e. omega (arith, binary-between op .1))))))
     ]
-    | no l ↦ absurd (given .1 .1 .1 .1 .1 .1 .1 .0 (inr (inr (inl (o, h, λ op e. omega (arith, binary-in op .0))))))
+    | no l ↦ absurd (given .1 .1 .1 .1 .1 .1 .1 .0 (inr (inr (inl (o, h, λ op e. omega (arith, binary-between op .0))))))
   ]
 
   unary-good : GoodCodes true (i .unary)

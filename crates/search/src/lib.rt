@@ -2,7 +2,6 @@
 mod given;
 mod layers;
 mod matrix;
-mod refuse;
 mod scan;
 
 use crate::given::Given;
@@ -11,7 +10,8 @@ use formula::kinds::Node;
 ghost use mathlib.Core.Path.{_≡_};
 ghost use Rattle.search.specs.Table.{cols};
 ghost use Rattle.search.specs.Layers.{answerOf};
-ghost use Rattle.search.specs.Search.{inputOf, Searched};
+ghost use Rattle.checks.specs.Refusals.{inputOf};
+ghost use Rattle.search.specs.Search.{Searched};
 
 // FOUND with the root node over the kept list, NONE, FULL at a size, each with the number tried and the number kept; or a refusal.
 pub enum SearchAnswer {
@@ -59,7 +59,7 @@ pub fn search(
         answer
         (cols (now (codes .exit)) (now (lefts .exit)) (now (rights .exit)) (now (sizes .exit)) (now (matrices .exit))) ⌝ }
 {
-    let refused = refuse::refusal(
+    let refused = checks::refusal(
         r,
         m,
         bound,
