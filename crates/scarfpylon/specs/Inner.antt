@@ -14,7 +14,7 @@ use Rattle.reading.specs.Reading.{Got, got, bad, broken}
 use Rattle.rules.specs.Answers.{Said}
 use Rattle.formula.specs.Nodes.{Node}
 use Rattle.formula.specs.Rule.{brokenList}
-use Rattle.search.specs.Refusals.{settingWrong}
+use Rattle.checks.specs.Refusals.{settingWrong}
 use Rattle.walk.specs.Input.{inputOf}
 use Rattle.scarfpylon.specs.Out.{outWords, word, written, brokenAt}
 

@@ -13,7 +13,7 @@ use Rattle.formula.specs.Nodes.{Node}
 use Rattle.search.specs.declared.SearchAnswer.{SearchAnswer}
 use Rattle.search.specs.declared.SearchAnswer.the-variants.{Found, None, Full, Refused}
 use Rattle.search.specs.Table.{Cols, tableOver}
-use Rattle.search.specs.Refusals.{searchRows}
+use Rattle.checks.specs.Refusals.{searchRows}
 
 -- ---- the number and values of each case: 0 and the case, the size of FOUND and FULL, the number tried, the number kept, and FOUND's root node; or
 -- document 01's number of a refusal and nothing else. The cases' numbers are our own, those of the C boundary: 1 FOUND, 2 NONE,

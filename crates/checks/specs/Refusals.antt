@@ -2,7 +2,7 @@
 -- Assumes nothing.
 use mathlib.Core.Path.{_≡_}
 use mathlib.Core.Logic.{_⊎_}
-use mathlib.Core.List.{List, [], _∷_}
+use mathlib.Core.List.{List, [], _∷_, _++_}
 use Prim.Native.Nat.{ℕ, _*_, _<_}
 use lib.ListN.{length, getD}
 use Rattle.rules.specs.Limits.{mostSize, mostRoom, Outside}
@@ -10,7 +10,7 @@ use Rattle.rules.specs.Refusals.{Row}
 use Rattle.sequence.specs.Sequence.{notUnary, notBinary}
 use Rattle.session.specs.Data.{outsideNumbers, tooShort, tooLong, bitAbove, markWrong}
 use Rattle.walk.specs.Input.{Input}
-use Rattle.search.specs.Table.{Cols}
+use Rattle.table.specs.Slices.{Cols}
 
 -- a code stands at two positions
 abbrev pub Repeated : List ℕ → Type 0
@@ -42,15 +42,20 @@ module _ (i : Input) where
         ⊎ Repeated (i .binary);
   }
 
-  -- "Order of checks: 1, 2, 3, 4, 5, 6, 7": those of the data are the session's
-  abbrev pub searchRows : Cols → List Row
-  searchRows t =
+  -- "Order of checks: 1, 2, 3, 4, 5, 6, 7": those of the data are the session's. A caller that is lent a slice more has a row of number 3 of its
+  -- own, which stands with the others of that number; which of them is given first can't be seen
+  abbrev pub searchRowsWith : List Row → Cols → List Row
+  searchRowsWith own t =
       outsideNumbers (i .recording .sessions) (i .recording .propositions)
       ∷ settingWrong
-      ∷ tooShort (i .recording .sessions) (i .recording .propositions) (i .recording .marks) (i .recording .lengths) (i .recording .words)
+      ∷ (own
+      ++ (tooShort (i .recording .sessions) (i .recording .propositions) (i .recording .marks) (i .recording .lengths) (i .recording .words)
       ∷ noRoom t
       ∷ tooLong (i .recording .sessions) (i .recording .propositions) (i .recording .marks) (i .recording .lengths) (i .recording .words)
       ∷ bitAbove (i .recording .sessions) (i .recording .propositions) (i .recording .marks) (i .recording .lengths) (i .recording .words)
       ∷ markWrong (i .recording .sessions) (i .recording .propositions) (i .recording .marks) (i .recording .lengths) (i .recording .words)
       ∷ codeWrong
-      ∷ []
+      ∷ []))
+
+  abbrev pub searchRows : Cols → List Row
+  searchRows t = searchRowsWith [] t
