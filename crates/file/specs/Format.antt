@@ -4,7 +4,7 @@ use mathlib.Core.Path.{_≡_}
 use mathlib.Core.List.{List, [], _∷_, _++_, flatMap, List·Memᴰ}
 use Prim.Native.Nat.{ℕ, zero, suc, _/_, _%_, _≤_}
 use lib.ListN.{length}
-use Rattle.words.specs.Word.{width, Wf}
+use Rattle.words.specs.Word.{width, WfRecorded}
 use Rattle.sequence.specs.Operators.{Unary, Binary, unaryCode, binaryCode}
 use Rattle.file.specs.Numbers.{sessions, propositions, bound}
 use Rattle.reading.specs.Reading.{section, one}
@@ -56,7 +56,7 @@ pub record GoodSession (m : ℕ) (s : Session) : Type 0 where
   pub mark : s .mark ≤ 1
   pub short : s .length ≤ width
   pub count : length (s .words) ≡ m
-  pub words : Each (λ _ w. Wf (s .length) w) [] (s .words)
+  pub words : Each (λ _ w. WfRecorded (s .length) w) [] (s .words)
 
 -- "code not in its group .., or repeated" (7)
 abbrev pub GoodUnary : List ℕ → ℕ → Type 0

@@ -6,7 +6,7 @@ use mathlib.Core.Bool.{Bool, true}
 use mathlib.Core.List.{List, [], _∷_}
 use Prim.Native.Nat.{ℕ, _+_, _<_}
 use Rattle.rules.specs.Lists.{_∈_}
-use Rattle.words.specs.Ltlf.{Reading}
+use Rattle.words.specs.Ltlf.{Reading, AcceptsAt}
 use Rattle.sequence.specs.Operators.{Unary, Binary, unaryCode, binaryCode, unaryReading, binaryReading}
 
 -- a formula over leaves L, unary operators U and binary operators B
@@ -15,11 +15,14 @@ pub data Tree (L U B : Type 0) : Type 0 where
   unary : U → Tree L U B → Tree L U B
   binary : B → Tree L U B → Tree L U B → Tree L U B
 
--- "Size: a leaf counts 1; an operator 1 plus its children."
+-- "Size: a leaf counts 1; an operator 1 plus its children." What an operator counts:
+abbrev pub weight : {O : Type 0} → O → ℕ
+weight op = 1
+
 abbrev pub size : {L U B : Type 0} → Tree L U B → ℕ
 size (leaf c) = 1
-size (unary op t) = 1 + size t
-size (binary op l r) = 1 + size l + size r
+size (unary op t) = weight op + size t
+size (binary op l r) = weight op + size l + size r
 
 -- "Leaves: 16 proposition, 17 false, 18 true"
 pub data Leaf : Type 0 where
@@ -49,7 +52,7 @@ Holds τ (binary op l r) = binaryReading op (τ .length) (Holds τ l) (Holds τ 
 
 -- "A session accepts a formula if n > 0 and the formula holds at 0."
 abbrev pub Accepts : Trace → Formula → Type 0
-Accepts τ t = (0 < τ .length) × Holds τ t 0
+Accepts τ t = AcceptsAt (τ .length) (Holds τ t)
 
 -- a recorded session and its mark, 1 for good and 0 for bad
 pub record MarkedTrace : Type 1 where

@@ -6,6 +6,7 @@ use mathlib.Core.Logic.{_↔_}
 use mathlib.Core.List.{List}
 use Prim.Native.Nat.{ℕ, _+_, _*_, _≤_, _<_}
 use lib.ListN.{length, getD}
+use Rattle.words.specs.Ltlf.{AcceptsAt}
 use Rattle.words.specs.Word.{width, At, Wf, Means}
 use Rattle.sequence.specs.Operators.{Unary, Binary, unaryCode, binaryCode}
 use Rattle.formula.specs.Formula.{Leaf, proposition, constant, Formula, Trace, Holds}
@@ -69,7 +70,7 @@ Evaluated n words from k node r = (t : Formula) → Spells codes k node t → Me
 
 -- what a session's word says, where `word` is the formula's
 abbrev pub AgreesWord : ℕ → ℕ → ℕ → Bool → Type 0
-AgreesWord mark n word r = (r ≡ true) ↔ ((mark ≡ 1) ↔ ((0 < n) × At word 0))
+AgreesWord mark n word r = (r ≡ true) ↔ ((mark ≡ 1) ↔ AcceptsAt n (At word))
 
 -- the session data and the list have passed
 pub record Checkable (i : Recording) (k : List Node) (root : Node) : Type 0 where

@@ -11,7 +11,7 @@ use Rattle.sequence.specs.Operators.{unaryCode, binaryCode, unaryOf, binaryOf}
 use Rattle.formula.specs.Kinds.{nodeOf}
 use Rattle.formula.specs.Formula.{Leaf, proposition, constant}
 use Rattle.walk.specs.Walk.{Candidate, found, full, State, going, ended, consider, through}
-use Rattle.walk.specs.Input.{Input, Passes, offer}
+use Rattle.walk.specs.Input.{Input, Passes, offer, inputOf}
 use Rattle.walk.specs.Promises.{Table}
 use Rattle.walk.proofs.Places.{sizeAt, Split}
 use Rattle.order.specs.declared.Cursor.{Cursor}
@@ -31,18 +31,8 @@ use Rattle.search.specs.Table.{Cols, cols, tableOver}
 
 -- the arguments as the walk's input
 abbrev pub input : Given → List ℕ → List ℕ → List ℕ → List ℕ → List ℕ → Input
-input g marks lengths words unary binary = record {
-  sessions = g .sessions;
-  propositions = g .propositions;
-  bound = g .bound;
-  room = g .room;
-  constants = g .constants;
-  marks = marks;
-  lengths = lengths;
-  words = words;
-  unary = unary;
-  binary = binary;
-}
+input g marks lengths words unary binary =
+    inputOf (g .sessions) (g .propositions) (g .bound) (g .room) (g .constants) marks lengths words unary binary
 
 -- room for C formulas
 pub record Room (g : Given) (t : Cols) : Type 0 where

@@ -3,8 +3,8 @@
 use mathlib.Core.Path.{_≡_}
 use mathlib.Core.List.{List, [], _∷_, _++_}
 use Prim.Native.Nat.{ℕ, _<_, _≤_}
-use Rattle.words.specs.Ltlf.{Reading}
-use Rattle.words.specs.Word.{width, At, Wf, Means}
+use Rattle.words.specs.Ltlf.{Reading, AcceptsAt}
+use Rattle.words.specs.Word.{width, At, WfComputed, Means}
 use Rattle.sequence.specs.declared.CharSeq.{CharSeq}
 use Rattle.sequence.specs.declared.Answer.{Answer}
 use Rattle.sequence.specs.declared.Answer.the-variants.{Sequence, Refused}
@@ -17,11 +17,11 @@ seq n x = record { length = n; values = x }
 
 -- "It is well formed if n is at most 64 and no bit at or above n is set"
 abbrev pub WellFormed : CharSeq → Type 0
-WellFormed s = Wf (s .length) (s .values)
+WellFormed s = WfComputed (s .length) (s .values)
 
 -- "A session accepts a formula if n > 0 and the formula holds at 0."
 abbrev pub Accepts : CharSeq → Type 0
-Accepts s = (0 < s .length) × At (s .values) 0
+Accepts s = AcceptsAt (s .length) (At (s .values))
 
 -- r is the characteristic sequence of f at length n
 pub record Denotes (n : ℕ) (f : Reading) (r : CharSeq) : Type 0 where

@@ -7,7 +7,7 @@ use mathlib.Core.List.{List, [], _∷_, _++_, map}
 use Prim.Native.Nat.{ℕ, _*_, _≤_, _<_}
 use lib.ListN.{length, getD}
 use lib.Dec.{eqb}
-use Rattle.words.specs.Word.{width, Wf}
+use Rattle.words.specs.Word.{width, WfRecorded}
 use Rattle.rules.specs.Limits.{mostSessions, mostPropositions, mostSize, mostRoom}
 use Rattle.sequence.specs.Operators.{Unary, Binary, unaryCode, binaryCode, unaryOf, binaryOf, commutes}
 use Rattle.session.specs.Recording.{Recording, recording, markOf, lengthOf, wordOf}
@@ -53,7 +53,7 @@ module _ (i : Input) where
     pub marks-there : i .recording .sessions ≤ length (i .recording .marks)
     pub lengths-there : i .recording .sessions ≤ length (i .recording .lengths)
     pub words-there : i .recording .propositions * i .recording .sessions ≤ length (i .recording .words)
-    pub well-formed : (j p : ℕ) → j < i .recording .sessions → p < i .recording .propositions → Wf (lengthOf (i .recording) j) (wordOf (i .recording) j p)
+    pub well-formed : (j p : ℕ) → j < i .recording .sessions → p < i .recording .propositions → WfRecorded (lengthOf (i .recording) j) (wordOf (i .recording) j p)
     pub short : (j : ℕ) → j < i .recording .sessions → lengthOf (i .recording) j ≤ width
     pub marks-in : (j : ℕ) → j < i .recording .sessions → (markOf (i .recording) j ≡ 0) ⊎ (markOf (i .recording) j ≡ 1)
     pub unary-in : (c : ℕ) → c ∈ i .unary → (op : Unary) × (unaryCode op ≡ c)

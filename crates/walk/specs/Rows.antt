@@ -58,6 +58,6 @@ binaryRow op n x y = word n (binaryTest op n (isOn x) (isOn y))
 unfoldable pub constantRow : Bool → ℕ → ℕ
 constantRow b n = word n λ i. b
 
--- "A session accepts a formula if n > 0 and the formula holds at 0."
+-- `AcceptsAt` as a test
 abbrev pub acceptsRow : ℕ → ℕ → Bool
 acceptsRow n x = ltb 0 n && isOn x 0

@@ -6,7 +6,7 @@ use Prim.Native.Nat.{ℕ, zero, suc, _+_, _-_, _/_}
 use lib.ListN.{length}
 use lib.Dec.{eqb, leb}
 use Rattle.rules.specs.Lists.{each, count}
-use Rattle.formula.specs.Formula.{Tree, leaf, unary, binary}
+use Rattle.formula.specs.Formula.{Tree, leaf, unary, binary, weight}
 use Rattle.formula.specs.Nodes.{Node, Codes}
 
 -- what is offered: leaves and operators in their order, with their codes; what each makes of its children's matrices; which operators are
@@ -87,13 +87,13 @@ module _ {L U B Mat : Type 0} (O : Offer L U B Mat) where
 
   abbrev pub unaryOn : U → Placed Mat → Candidate Mat
   unaryOn op f = record {
-    node = record { code = O .codes .ofUnary op; left = f .place; right = 0; size = 1 + f .kept .node .size };
+    node = record { code = O .codes .ofUnary op; left = f .place; right = 0; size = weight op + f .kept .node .size };
     matrix = O .unaryMatrix op (f .kept .matrix);
   }
 
   abbrev pub binaryOn : B → Placed Mat → Placed Mat → Candidate Mat
   binaryOn op l q = record {
-    node = record { code = O .codes .ofBinary op; left = l .place; right = q .place; size = 1 + l .kept .node .size + q .kept .node .size };
+    node = record { code = O .codes .ofBinary op; left = l .place; right = q .place; size = weight op + l .kept .node .size + q .kept .node .size };
     matrix = O .binaryMatrix op (l .kept .matrix) (q .kept .matrix);
   }
 

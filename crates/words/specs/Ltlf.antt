@@ -47,3 +47,7 @@ Until n f g i = (j : ℕ) × (i ≤ j) × (j < n) × g j × ((k : ℕ) → i ≤
 -- "f `R` g: for every j, i <= j < n, g holds at j or f holds at some k, i <= k < j."
 abbrev pub Release : ℕ → Reading → Reading → Reading
 Release n f g i = (j : ℕ) → i ≤ j → j < n → g j ⊎ ((k : ℕ) × (i ≤ k) × (k < j) × f k)
+
+-- "A session accepts a formula if n > 0 and the formula holds at 0." A recorded session, a sequence and a row of a matrix accept by this
+abbrev pub AcceptsAt : ℕ → Reading → Type 0
+AcceptsAt n f = (0 < n) × f 0

@@ -22,7 +22,19 @@ pub record Wf (n x : ℕ) : Type 0 where
   pub short : n ≤ width
   pub clear : (i : ℕ) → n ≤ i → bit x i ≡ 0
 
--- x is the characteristic sequence of f at length n: it is well formed, and its bit at each i below n is set just where f holds
+-- a word that was recorded has a bit for each snapshot
+abbrev pub WfRecorded : ℕ → ℕ → Type 0
+WfRecorded n x = Wf n x
+
+-- the places of a formula's word at length n: one for each snapshot
+abbrev pub places : ℕ → ℕ
+places n = n
+
+-- a word that was computed has a bit for each of these places
+abbrev pub WfComputed : ℕ → ℕ → Type 0
+WfComputed n x = Wf (places n) x
+
+-- x is the characteristic sequence of f at length n: it is well formed, and its bit at each place is set just where f holds
 pub record Means (n x : ℕ) (f : Reading) : Type 0 where
-  pub wf : Wf n x
-  pub holds : (i : ℕ) → i < n → At x i ↔ f i
+  pub wf : WfComputed n x
+  pub holds : (i : ℕ) → i < places n → At x i ↔ f i
