@@ -17,7 +17,7 @@ use Rattle.formula.specs.declared.kinds.Node.{Node}
 use Rattle.search.specs.declared.SearchAnswer.{SearchAnswer}
 use Rattle.search.specs.declared.SearchAnswer.the-variants.{Found, None, Full, Refused}
 use Rattle.search.specs.Table.{Cols, tableOver}
-use Rattle.search.specs.Refusals.{settingWrong, noRoom, searchRows}
+use Rattle.checks.specs.Refusals.{settingWrong, noRoom, searchRows}
 use Rattle.search.specs.Search.{said, walkSaid, Outcome, Searched}
 use Rattle.faces.specs.declared.lists.Done.{Done}
 use Rattle.faces.specs.Lists.{columns}

@@ -5,7 +5,7 @@ use mathlib.Core.Logic.{_↔_, _⊎_}
 use mathlib.Core.List.{List, [], _∷_, _++_}
 use Prim.Native.Nat.{ℕ, _<_}
 use Rattle.sequence.specs.Refusals.{Row, Decided}
-use Rattle.session.specs.Data.{dataRows}
+use Rattle.session.specs.Data.{outsideNumbers, tooShort, tooLong, bitAbove, markWrong}
 use Rattle.session.specs.Answers.{Said}
 use Rattle.walk.specs.Formula.{Formula, Session, Accepts, Separates}
 use Rattle.walk.specs.Nodes.{Node, Spells, codes}
@@ -35,9 +35,21 @@ recorded r m marks lengths words = record {
   binary = [];
 }
 
--- "Order of checks: 1, 2, 3, 4, 5, 6, 7, 10, 9": of these the check gives 1, 3, 4, 5, 6 and 9
+-- "Order of checks: 1, 2, 3, 4, 5, 6, 7, 10, 9": of these the check gives 1, 3, 4, 5, 6 and 9. A caller that is lent a slice more has a row of number 3 of its own, which stands with the other of that number; which of them is given first
+-- can't be seen
+abbrev pub checkRowsWith : List Row → Input → List Node → Node → List Row
+checkRowsWith own i k root =
+    outsideNumbers (i .sessions) (i .propositions)
+    ∷ (own
+    ++ (tooShort (i .sessions) (i .propositions) (i .marks) (i .lengths) (i .words)
+    ∷ tooLong (i .sessions) (i .propositions) (i .marks) (i .lengths) (i .words)
+    ∷ bitAbove (i .sessions) (i .propositions) (i .marks) (i .lengths) (i .words)
+    ∷ markWrong (i .sessions) (i .propositions) (i .marks) (i .lengths) (i .words)
+    ∷ brokenList (i .propositions) k root
+    ∷ []))
+
 abbrev pub checkRows : Input → List Node → Node → List Row
-checkRows i k root = dataRows (i .sessions) (i .propositions) (i .marks) (i .lengths) (i .words) ++ (brokenList (i .propositions) k root ∷ [])
+checkRows i k root = checkRowsWith [] i k root
 
 -- a session accepts the formula just if it is marked as good
 abbrev pub Agrees : Session → Formula → Type 0

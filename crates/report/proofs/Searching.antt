@@ -26,7 +26,7 @@ use Rattle.formula.specs.Kinds.{nodeOf}
 use Rattle.formula.specs.Rule.{Broken}
 use Rattle.search.specs.declared.SearchAnswer.the-variants.{Found, None, Full, Refused}
 use Rattle.search.specs.Table.{Cols, tableOver}
-use Rattle.search.specs.Refusals.{searchRows}
+use Rattle.checks.specs.Refusals.{searchRows}
 use Rattle.search.specs.Search.{walkSaid, Searched}
 use Rattle.search.proofs.Decide.{is-two, is-zero, settings-fine, room-fine, codes-fine}
 use Rattle.search.proofs.Promises.{passes-whole, found-end, none-end, full-end}

@@ -12,7 +12,7 @@ use Rattle.walk.specs.Input.{Input}
 use Rattle.search.specs.declared.SearchAnswer.{SearchAnswer}
 use Rattle.search.specs.declared.SearchAnswer.the-variants.{Found, None, Full, Refused}
 use Rattle.search.specs.Table.{Cols}
-use Rattle.search.specs.Refusals as core
+use Rattle.checks.specs.Refusals as core
 use Rattle.search.specs.Search.{inputOf, said, Searched}
 use Rattle.scarfpylon.specs.Out.{outWords, written}
 use Rattle.scarfpylon.specs.Search.{searchWords, searchRows, SearchDone}

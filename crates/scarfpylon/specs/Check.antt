@@ -4,26 +4,16 @@ use mathlib.Core.Path.{_≡_}
 use mathlib.Core.List.{List, [], _∷_}
 use Prim.Native.Nat.{ℕ}
 use Rattle.sequence.specs.Refusals.{Row, Decided}
-use Rattle.session.specs.Data.{outsideNumbers, tooShort, tooLong, bitAbove, markWrong}
 use Rattle.walk.specs.Nodes.{Node}
 use Rattle.walk.specs.Input.{Input}
 use Rattle.formula.specs.declared.Verdict.{Verdict}
-use Rattle.formula.specs.Rule.{brokenList}
-use Rattle.formula.specs.Check.{saidVerdict, CheckAnswer}
+use Rattle.formula.specs.Check.{saidVerdict, checkRowsWith, CheckAnswer}
 use Rattle.scarfpylon.specs.Out.{outShort, written, saidWords}
 
 module _ (i : Input) (k : List Node) (root : Node) (old : List ℕ) where
-  -- the check's rows, with that of `out` "at the place that 3 has"; which of the rows with one number is given first can't be seen
+  -- the check's rows, with that of `out` "at the place that 3 has"
   abbrev pub checkRows : List Row
-  checkRows =
-      outsideNumbers (i .sessions) (i .propositions)
-      ∷ outShort old
-      ∷ tooShort (i .sessions) (i .propositions) (i .marks) (i .lengths) (i .words)
-      ∷ tooLong (i .sessions) (i .propositions) (i .marks) (i .lengths) (i .words)
-      ∷ bitAbove (i .sessions) (i .propositions) (i .marks) (i .lengths) (i .words)
-      ∷ markWrong (i .sessions) (i .propositions) (i .marks) (i .lengths) (i .words)
-      ∷ brokenList (i .propositions) k root
-      ∷ []
+  checkRows = checkRowsWith (outShort old ∷ []) i k root
 
   -- the rows decide; "a refusal writes nothing"; else "out = 1 (separates) | 0, first session that disagrees", by the check's verdict
   pub record CheckDone (returned : ℕ) (new : List ℕ) : Type 0 where

@@ -15,7 +15,7 @@ use Rattle.session.specs.Answers.{Said}
 use Rattle.file.specs.Reading.{broken}
 use Rattle.walk.specs.Nodes.{Node}
 use Rattle.formula.specs.Rule.{brokenList}
-use Rattle.search.specs.Refusals.{settingWrong}
+use Rattle.checks.specs.Refusals.{settingWrong}
 use Rattle.search.specs.Search.{inputOf}
 use Rattle.scarfpylon.specs.Out.{outWords, word, written, brokenAt}
 

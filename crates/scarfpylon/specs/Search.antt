@@ -4,12 +4,11 @@ use mathlib.Core.Path.{_≡_}
 use mathlib.Core.List.{List, [], _∷_}
 use Prim.Native.Nat.{ℕ}
 use Rattle.sequence.specs.Refusals.{Row, Decided}
-use Rattle.session.specs.Data.{outsideNumbers, tooShort, tooLong, bitAbove, markWrong}
 use Rattle.walk.specs.Input.{Input}
 use Rattle.search.specs.declared.SearchAnswer.{SearchAnswer}
 use Rattle.search.specs.declared.SearchAnswer.the-variants.{Found, None, Full, Refused}
 use Rattle.search.specs.Table.{Cols}
-use Rattle.search.specs.Refusals.{settingWrong, noRoom, codeWrong}
+use Rattle.checks.specs.Refusals.{searchRowsWith}
 use Rattle.search.specs.Search.{Searched}
 use Rattle.scarfpylon.specs.Out.{outShort, Named, word, written}
 
@@ -30,19 +29,9 @@ searchWords (Full size tried kept) = word 0 3 ∷ word 1 size ∷ word 2 tried �
 searchWords (Refused k) = []
 
 module _ (i : Input) (t : Cols) (old : List ℕ) where
-  -- the search's rows, with that of `out` "at the place that 3 has"; which of the rows with one number is given first can't be seen
+  -- the search's rows, with that of `out` "at the place that 3 has"
   abbrev pub searchRows : List Row
-  searchRows =
-      outsideNumbers (i .sessions) (i .propositions)
-      ∷ settingWrong i
-      ∷ outShort old
-      ∷ tooShort (i .sessions) (i .propositions) (i .marks) (i .lengths) (i .words)
-      ∷ noRoom i t
-      ∷ tooLong (i .sessions) (i .propositions) (i .marks) (i .lengths) (i .words)
-      ∷ bitAbove (i .sessions) (i .propositions) (i .marks) (i .lengths) (i .words)
-      ∷ markWrong (i .sessions) (i .propositions) (i .marks) (i .lengths) (i .words)
-      ∷ codeWrong i
-      ∷ []
+  searchRows = searchRowsWith i (outShort old ∷ []) t
 
   -- "Every function returns a u64: 0 where it answered, else the refusal number ..; a refusal writes nothing"; an answer is the search's
   pub record SearchDone (returned : ℕ) (t′ : Cols) (new : List ℕ) : Type 0 where

@@ -1,6 +1,5 @@
 -- The laws behind the proofs, by subject.
 pub mod Checks
-pub mod Decide
 pub mod Passing
 pub mod Making
 pub mod Left

@@ -15,10 +15,10 @@ use Rattle.walk.specs.Input.{Input, Passes, Once}
 use Rattle.walk.specs.Promises.{AgreeWhereRead}
 use Rattle.walk.proofs.Same.{inside}
 use Rattle.search.specs.Table.{Cols}
-use Rattle.search.specs.Refusals.{settingWrong, noRoom, codeWrong, searchRows}
+use Rattle.checks.specs.Refusals.{settingWrong, noRoom, codeWrong, searchRows}
 use Rattle.search.specs.Promises.{RoomThere, DataThere}
-use Rattle.search.specs.Checks.{GoodCodes}
-use Rattle.search.proofs.Decide.{NoneOf, none-given, le-of-not-lt, settings-fine, room-fine, codes-fine}
+use Rattle.checks.specs.Inner.{GoodCodes}
+use Rattle.checks.proofs.Decide.{NoneOf, none-given, le-of-not-lt, settings-fine, room-fine, codes-fine}
 
 -- ---- no row is given
 

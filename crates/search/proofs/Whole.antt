@@ -25,14 +25,14 @@ use Rattle.search.specs.declared.given.Given.{Given}
 use Rattle.search.specs.declared.turns.Stand.{Stand}
 use Rattle.search.specs.declared.turns.Stand.the-variants.{Going, Found, Full}
 use Rattle.search.specs.Table.{Cols, tableOver}
-use Rattle.search.specs.Refusals.{searchRows}
+use Rattle.checks.specs.Refusals.{searchRows}
 use Rattle.search.specs.Search.{Searched}
-use Rattle.search.specs.Checks.{GoodCodes}
+use Rattle.checks.specs.Inner.{GoodCodes}
 use Rattle.search.specs.Turns.{Room, stateOf, answerOf, Stood, layerAt, walkLeft, Standing, firstPoint, GoAsks, GoDoes}
 use Rattle.search.proofs.Checks.{at-position, good-once, unary-few, binary-few}
 use Rattle.search.proofs.Making.{unary-of, binary-of, offered}
 use Rattle.search.proofs.Left.{left-all}
-use Rattle.search.proofs.Decide.{NoneOf, none-given, numbers-in, le-of-not-lt}
+use Rattle.checks.proofs.Decide.{NoneOf, none-given, numbers-in, le-of-not-lt}
 
 -- ---- no row is given
 

@@ -15,7 +15,7 @@ use Rattle.walk.specs.Promises as walk
 use Rattle.search.specs.declared.SearchAnswer.{SearchAnswer}
 use Rattle.search.specs.declared.SearchAnswer.the-variants.{Found, None, Full}
 use Rattle.search.specs.Table.{Cols, tableOver}
-use Rattle.search.specs.Refusals.{searchRows}
+use Rattle.checks.specs.Refusals.{searchRows}
 use Rattle.search.specs.Search.{said, Searched}
 
 -- document 01's "Any pair of results allowed for the same input is shown equal"

@@ -13,22 +13,8 @@ use Rattle.walk.specs.Nodes.{Node}
 use Rattle.search.specs.declared.SearchAnswer.{SearchAnswer}
 use Rattle.search.specs.declared.SearchAnswer.the-variants.{Found, None, Full, Refused}
 use Rattle.search.specs.Table.{Cols, tableOver}
-use Rattle.search.specs.Refusals.{searchRows}
-
--- the arguments as the walk's input
-abbrev pub inputOf : ℕ → ℕ → ℕ → ℕ → ℕ → List ℕ → List ℕ → List ℕ → List ℕ → List ℕ → Input
-inputOf r m bound room constants marks lengths words unary binary = record {
-  sessions = r;
-  propositions = m;
-  bound = bound;
-  room = room;
-  constants = constants;
-  marks = marks;
-  lengths = lengths;
-  words = words;
-  unary = unary;
-  binary = binary;
-}
+use Rattle.checks.specs.Refusals.{searchRows}
+pub use Rattle.checks.specs.Refusals.{inputOf}
 
 -- ---- the number and values of each case: 0 and the case, the size of FOUND and FULL, the number tried, the number kept, and FOUND's root node; or
 -- document 01's number of a refusal and nothing else. The cases' numbers are our own, those of the C boundary: 1 FOUND, 2 NONE,

@@ -1,6 +1,5 @@
 // The search: the walk of document 01 over a table in lent slices (aux.rs, cache.rs, cm.rs).
 mod given;
-mod refuse;
 mod turns;
 
 use crate::given::Given;
@@ -8,8 +7,9 @@ use crate::turns::Stand;
 use formula::kinds::Node;
 ghost use mathlib.Core.Path.{_≡_};
 ghost use Rattle.search.specs.Table.{cols};
+ghost use Rattle.checks.specs.Refusals.{inputOf};
 ghost use Rattle.search.specs.Turns.{answerOf};
-ghost use Rattle.search.specs.Search.{inputOf, Searched};
+ghost use Rattle.search.specs.Search.{Searched};
 
 // FOUND with the root node over the kept list, NONE, FULL at a size, each with the number tried and the number kept; or a refusal.
 pub enum SearchAnswer {
@@ -57,7 +57,7 @@ pub fn search(
         answer
         (cols (now (codes .exit)) (now (lefts .exit)) (now (rights .exit)) (now (sizes .exit)) (now (matrices .exit))) ⌝ }
 {
-    let refused = refuse::refusal(
+    let refused = checks::refusal(
         r,
         m,
         bound,

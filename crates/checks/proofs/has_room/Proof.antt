@@ -3,8 +3,8 @@
 use mathlib.Core.Logic.{inl, inr}
 use native.Mathlib.Omega.{arith}
 use Rattle.table.proofs.Products.{at-most}
-use Rattle.search.proofs.refuse.has_room.Statement.{statement}
-use Rattle.search.proofs.refuse.has_room.Tie as tie
+use Rattle.checks.proofs.has_room.Statement.{statement}
+use Rattle.checks.proofs.has_room.Tie as tie
 
 returns : tie.Need-returns
 returns c = inl (c .if1 .taken)

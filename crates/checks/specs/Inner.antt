@@ -1,4 +1,4 @@
--- What the tests behind the refusals promise each other. No public contract cites this.
+-- What the private tests promise each other. No public contract cites this.
 -- Assumes nothing.
 use mathlib.Core.Path.{_≡_}
 use mathlib.Core.Logic.{_⊎_}
@@ -9,8 +9,8 @@ use lib.ListN.{length, getD}
 use Rattle.sequence.specs.Limits as limits
 use Rattle.sequence.specs.Operators.{Unary, Binary, unaryCode, binaryCode}
 use Rattle.session.specs.Numbers.{Outside}
-use Rattle.search.specs.Table.{Cols}
-use Rattle.search.specs.Refusals.{Repeated}
+use Rattle.table.specs.Slices.{Cols}
+use Rattle.checks.specs.Refusals.{Repeated}
 
 -- a fact, or its refutation
 abbrev pub Told : Type 0 → Bool → Type 0

@@ -2,7 +2,7 @@
 -- Assumes nothing.
 use mathlib.Core.Path.{_≡_}
 use mathlib.Core.Logic.{_⊎_}
-use mathlib.Core.List.{List, [], _∷_}
+use mathlib.Core.List.{List, [], _∷_, _++_}
 use Prim.Native.Nat.{ℕ, _*_, _<_}
 use lib.ListN.{length, getD}
 use Rattle.sequence.specs.Limits as limits
@@ -11,7 +11,22 @@ use Rattle.sequence.specs.Sequence.{notUnary, notBinary}
 use Rattle.session.specs.Numbers.{Outside}
 use Rattle.session.specs.Data.{outsideNumbers, tooShort, tooLong, bitAbove, markWrong}
 use Rattle.walk.specs.Input.{Input}
-use Rattle.search.specs.Table.{Cols}
+use Rattle.table.specs.Slices.{Cols}
+
+-- the arguments as the walk's input
+abbrev pub inputOf : ℕ → ℕ → ℕ → ℕ → ℕ → List ℕ → List ℕ → List ℕ → List ℕ → List ℕ → Input
+inputOf r m bound room constants marks lengths words unary binary = record {
+  sessions = r;
+  propositions = m;
+  bound = bound;
+  room = room;
+  constants = constants;
+  marks = marks;
+  lengths = lengths;
+  words = words;
+  unary = unary;
+  binary = binary;
+}
 
 -- a code stands at two positions
 abbrev pub Repeated : List ℕ → Type 0
@@ -43,15 +58,20 @@ module _ (i : Input) where
         ⊎ Repeated (i .binary);
   }
 
-  -- "Order of checks: 1, 2, 3, 4, 5, 6, 7": those of the data are the session's
-  abbrev pub searchRows : Cols → List Row
-  searchRows t =
+  -- "Order of checks: 1, 2, 3, 4, 5, 6, 7": those of the data are the session's. A caller that is lent a slice more has a row of number 3 of its
+  -- own, which stands with the others of that number; which of them is given first can't be seen
+  abbrev pub searchRowsWith : List Row → Cols → List Row
+  searchRowsWith own t =
       outsideNumbers (i .sessions) (i .propositions)
       ∷ settingWrong
-      ∷ tooShort (i .sessions) (i .propositions) (i .marks) (i .lengths) (i .words)
+      ∷ (own
+      ++ (tooShort (i .sessions) (i .propositions) (i .marks) (i .lengths) (i .words)
       ∷ noRoom t
       ∷ tooLong (i .sessions) (i .propositions) (i .marks) (i .lengths) (i .words)
       ∷ bitAbove (i .sessions) (i .propositions) (i .marks) (i .lengths) (i .words)
       ∷ markWrong (i .sessions) (i .propositions) (i .marks) (i .lengths) (i .words)
       ∷ codeWrong
-      ∷ []
+      ∷ []))
+
+  abbrev pub searchRows : Cols → List Row
+  searchRows t = searchRowsWith [] t

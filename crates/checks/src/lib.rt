@@ -1,14 +1,13 @@
-// The refusals of a search: the tests of session data, with its own numbers, rooms and codes among them.
+// What a search refuses: the tests of session data, with its own numbers, rooms and codes among them.
 use sequence::operators::Group;
 use sequence::operators::operator_of;
 ghost use Prim.Native.Nat.{_≤_};
 ghost use lib.ListN.{length};
 ghost use Rattle.sequence.specs.Limits.{sessions, room as mostRoom};
 ghost use Rattle.sequence.specs.Refusals.{Decided};
-ghost use Rattle.search.specs.Table.{cols};
-ghost use Rattle.search.specs.Refusals.{searchRows};
-ghost use Rattle.search.specs.Search.{inputOf};
-ghost use Rattle.search.specs.Checks.{Told, GroupIs, SeenIn, CodesTold, SettingsTold, RoomTold};
+ghost use Rattle.table.specs.Slices.{cols};
+ghost use Rattle.checks.specs.Refusals.{inputOf, searchRows};
+ghost use Rattle.checks.specs.Inner.{Told, GroupIs, SeenIn, CodesTold, SettingsTold, RoomTold};
 
 fn in_group(code: u8, unary: bool) -> bool
     ensures { λ b. ⌜ Told (GroupIs unary code) b ⌝ }
@@ -109,7 +108,7 @@ fn has_room(
 }
 
 // The rows in document 01's order, 1, 2, 3, 3, the data's 4, 5 and 6, 7: the number of the first that is given, or 0 where none is.
-pub(crate) fn refusal(
+pub fn refusal(
     r: usize,
     m: usize,
     bound: usize,

@@ -5,9 +5,9 @@ use Prim.Native.Nat.{ℕ}
 use native.Mathlib.Omega.{arith}
 use borrow.Author.Needs.{needs}
 use Rattle.sequence.proofs.Groups.{in-unary, in-binary, off-unary, off-binary}
-use Rattle.search.proofs.Checks.{group-unary, group-binary, group-neither}
-use Rattle.search.proofs.refuse.in_group.Statement.{statement}
-use Rattle.search.proofs.refuse.in_group.Tie as tie
+use Rattle.checks.proofs.Codes.{group-unary, group-binary, group-neither}
+use Rattle.checks.proofs.in_group.Statement.{statement}
+use Rattle.checks.proofs.in_group.Tie as tie
 
 operator-of-requires : tie.Need-operator-of-requires
 operator-of-requires c κs = search needs

@@ -11,9 +11,9 @@ use Rattle.sequence.specs.Limits as limits
 use Rattle.sequence.specs.Refusals.{Row, Decided}
 use Rattle.session.specs.Data.{outsideNumbers, tooShort, tooLong, bitAbove, markWrong, dataRows}
 use Rattle.walk.specs.Input.{Input}
-use Rattle.search.specs.Table.{Cols}
-use Rattle.search.specs.Refusals.{settingWrong, noRoom, codeWrong, searchRows}
-use Rattle.search.specs.Checks.{GoodCodes, BadCodes, SettingsTold, RoomTold}
+use Rattle.table.specs.Slices.{Cols}
+use Rattle.checks.specs.Refusals.{settingWrong, noRoom, codeWrong, searchRows}
+use Rattle.checks.specs.Inner.{GoodCodes, BadCodes, SettingsTold, RoomTold}
 
 pub le-of-not-lt : {a b : ℕ} → (b < a → ⊥) → a ≤ b
 le-of-not-lt {a} {b} f = elim (decLe a b) [

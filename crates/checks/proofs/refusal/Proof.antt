@@ -2,11 +2,11 @@
 -- Assumes nothing.
 use borrow.Author.Tests.{not-true, not-false}
 use borrow.Author.Needs.{needs}
-use Rattle.search.specs.Table.{cols}
-use Rattle.search.specs.Search.{inputOf}
-use Rattle.search.proofs.Decide.{is-one, is-two, is-three, no-room, is-data, is-seven, is-zero, settings-fine, room-fine, unary-bad, binary-bad, codes-fine, not-one-in}
-use Rattle.search.proofs.refuse.refusal.Statement.{statement}
-use Rattle.search.proofs.refuse.refusal.Tie as tie
+use Rattle.table.specs.Slices.{cols}
+use Rattle.checks.specs.Refusals.{inputOf}
+use Rattle.checks.proofs.Decide.{is-one, is-two, is-three, no-room, is-data, is-seven, is-zero, settings-fine, room-fine, unary-bad, binary-bad, codes-fine, not-one-in}
+use Rattle.checks.proofs.refusal.Statement.{statement}
+use Rattle.checks.proofs.refusal.Tie as tie
 
 test-requires : tie.Need-test-requires
 test-requires c κs = search needs

@@ -2,8 +2,8 @@
 -- Assumes nothing.
 use mathlib.Core.Logic.{inl, inr}
 use native.Mathlib.Omega.{arith}
-use Rattle.search.proofs.refuse.settings_good.Statement.{statement}
-use Rattle.search.proofs.refuse.settings_good.Tie as tie
+use Rattle.checks.proofs.settings_good.Statement.{statement}
+use Rattle.checks.proofs.settings_good.Tie as tie
 
 returns : tie.Need-returns
 returns c = inl (inl (c .if1 .taken))

@@ -1,0 +1,3 @@
+-- Laws of the refusals, by subject.
+pub mod Codes
+pub mod Decide

@@ -1,0 +1,3 @@
+-- What a reader must believe of the refusals of a search: Refusals. `Inner` is only for private functions: no public contract cites it.
+pub mod Refusals
+pub mod Inner
