@@ -13,7 +13,8 @@ use borrow.Author.Tests.{lt-ltb, le-ltb}
 use Rattle.rules.specs.Lists.{each, count}
 use Rattle.order.specs.declared.Cursor.{Cursor}
 use Rattle.order.specs.Size.{Layer, range, leaves, start}
-use Rattle.order.specs.Ahead.{cursor, resume, twice, codeAt, both, row, column, bothFrom, rowFrom, columnFrom, partFrom, leftStart, leftEnd, rightStart, rightEnd, leavesAhead, codesIn, part, partAhead, partsAhead, ahead, rest}
+use Rattle.order.specs.Ahead.{cursor, resume, twice, codeAt, both, row, column, bothFrom, rowFrom, columnFrom, partFrom}
+use Rattle.order.specs.Ahead.{leftStart, leftEnd, rightStart, rightEnd, leavesAhead, codesIn, part, partAhead, partsAhead, ahead, rest}
 use Rattle.order.proofs.Leaves.{length-count, leaves-few}
 
 -- ---- loops

@@ -17,7 +17,8 @@ use Rattle.order.specs.declared.Step.{Step}
 use Rattle.order.specs.declared.Step.the-variants.{Candidate, End}
 use Rattle.rules.specs.declared.kinds.Place.{Place}
 use Rattle.order.specs.Size.{Cand, cand, Layer, layerOf, range, commuting, leaves, orders, start, places, unaries, pairs, ofSize, candidates}
-use Rattle.order.specs.Ahead.{cursor, leafCursor, told, twice, codeAt, both, row, column, candIn, leavesAhead, leafAt, codesIn, part, partAhead, partsAhead, ahead, candidateAt, after, rest, first}
+use Rattle.order.specs.Ahead.{cursor, leafCursor, told, twice, codeAt, both, row, column, candIn, leavesAhead}
+use Rattle.order.specs.Ahead.{leafAt, codesIn, part, partAhead, partsAhead, ahead, candidateAt, after, rest, first}
 use Rattle.order.specs.Steps.{Rises, Safe, Steps}
 use Rattle.order.proofs.Loops.{range-cons, range-nil, resume-fresh}
 use Rattle.order.proofs.Splits.{part-fresh}

@@ -18,7 +18,8 @@ use Rattle.order.specs.declared.Part.{Part}
 use Rattle.order.specs.declared.Step.{Step}
 use Rattle.order.specs.declared.Step.the-variants.{End}
 use Rattle.order.specs.Size.{Cand, cand, Layer, range, leaves, start}
-use Rattle.order.specs.Ahead.{cursor, leafCursor, told, twice, codeAt, candIn, halfway, afterIn, leftStart, leftEnd, rightStart, rightEnd, leavesAhead, leafAt, afterLeaf, codesOf, codesIn, part, partAhead, partsAhead, ahead, candidateAt, after, first}
+use Rattle.order.specs.Ahead.{cursor, leafCursor, told, twice, codeAt, candIn, halfway, afterIn, leftStart, leftEnd, rightStart, rightEnd}
+use Rattle.order.specs.Ahead.{leavesAhead, leafAt, afterLeaf, codesOf, codesIn, part, partAhead, partsAhead, ahead, candidateAt, after, first}
 use Rattle.order.specs.Steps.{Listed, Rises, Safe, Steps}
 use Rattle.order.specs.Inner.{Takes, LeafIn, InLeaves, InPart, Stands, StandsIn, partOf, partStart, PartsTake}
 use Rattle.order.proofs.Loops.{resume-in, resume-out, resume-done, resume-fresh}

@@ -1,4 +1,5 @@
--- The cursors of a size's candidates, in their order, from any cursor on; and the candidate at each.
+-- The cursors at which a size's candidates stand, in the order of document 01, from any cursor on; and the candidate at each.
+-- Every loop that a cursor stands in is a `resume`: what is left of its first turn, and the other turns whole.
 -- Assumes nothing.
 use mathlib.Core.Bool.{Bool, true, false, cond, not}
 use mathlib.Core.List.{List, [], _∷_, _++_, map}
@@ -30,23 +31,25 @@ abbrev pub twice : ℕ → ℕ → Bool
 twice zero c = false
 twice (suc i) c = not (commuting c)
 
--- ---- a split: its operators' codes, in split i
+-- ---- a split i, over the operators with these codes
 
 module _ (codes : List ℕ) where
   abbrev pub codeAt : ℕ → ℕ
   codeAt o = getD codes o 0
 
-  -- the operator at position o over places l and q: its first order, and its second one
+  -- the operator at position o over places l and q: "op(l, q), and if it doesn't commute, op(q, l)"
   unfoldable pub both : ℕ → ℕ → ℕ → ℕ → List Cursor
   both i l q o = cond (twice i (codeAt o)) (cursor i l q o false ∷ (cursor i l q o true ∷ [])) (cursor i l q o false ∷ [])
 
+  -- "for each .. operator in the given order"
   abbrev pub row : ℕ → ℕ → ℕ → List Cursor
   row i l q = each (range 0 (length codes)) (both i l q)
 
+  -- "for each kept q"
   abbrev pub column : ℕ → ℕ → ℕ → ℕ → List Cursor
   column i from to l = each (range from to) (row i l)
 
-  -- what is left of each from a cursor on
+  -- what is left of each from a cursor on; a mark of a second order where there is none is not looked at
   unfoldable pub bothFrom : Cursor → ℕ → ℕ → ℕ → List Cursor
   bothFrom at l q o =
       let i = at .split in
@@ -58,6 +61,7 @@ module _ (codes : List ℕ) where
   abbrev pub columnFrom : ℕ → Cursor → ℕ → List Cursor
   columnFrom to at l = resume (rowFrom at l) (row (at .split) l) (at .right) to
 
+  -- "each kept l"
   unfoldable pub partFrom : ℕ → ℕ → ℕ → Cursor → List Cursor
   partFrom end from to at = resume (columnFrom to at) (column (at .split) from to) (at .left) end
 
@@ -119,11 +123,11 @@ module _ (g : Layer) where
   abbrev pub partAhead : Cursor → ℕ → List Cursor
   partAhead at i = partFrom (codesIn i) (leftEnd (g .size) (g .starts) i) (rightStart (g .size) (g .starts) i) (rightEnd (g .size) (g .starts) i) at
 
-  -- the unary operators first, "Then i from 1 while i < ceil(s/2)"
+  -- split 0 is "first every kept formula of size s-1 .., and for each the unary operators"; "Then i from 1 while i < ceil(s/2)"
   unfoldable pub partsAhead : Cursor → List Cursor
   partsAhead at = resume (partAhead at) part (at .split) ((g .size + 1) / 2)
 
-  -- THE CURSORS AHEAD, from any cursor on
+  -- THE CURSORS AHEAD, from any cursor on; none where `starts` does not reach the size
   unfoldable pub ahead : Cursor → List Cursor
   ahead at = cond (ltb (g .size) (length (g .starts))) (cond (eqb (g .size) 1) (leavesAhead (g .propositions) (g .constants) at) (partsAhead at)) []
 

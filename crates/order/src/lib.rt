@@ -38,10 +38,10 @@ pub enum Step {
 }
 
 // The places of a split: the left ones end before `end`, the right ones go from `from` to before `to`.
-pub struct Part {
-    pub end: u16,
-    pub from: u16,
-    pub to: u16,
+struct Part {
+    end: u16,
+    from: u16,
+    to: u16,
 }
 
 fn leaf_cursor(o: usize) -> Cursor

@@ -1,22 +1,23 @@
--- A candidate's rows by the group of its code: what a loop over the rows wrote is the candidate's, and what each group reads.
+-- A candidate's rows by the group of its code: what each group reads, what a row is, and that what a group wrote is the candidate's.
 -- Assumes nothing.
 use mathlib.Core.Path.{_≡_, sym, ap, _∙_, subst}
 use mathlib.Core.Bool.{Bool, true, false}
-use mathlib.Core.List.{List}
+use mathlib.Core.List.{List, []}
 use Prim.Native.Nat.{ℕ, _+_, _*_, _≤_, _<_, min}
 use native.Mathlib.Omega.{arith}
 use lib.ListN.{length, getD}
 use Rattle.words.specs.Word.{width, At, Means}
 use Rattle.sequence.specs.Operators.{Unary, Binary, unaryCode, binaryCode}
-use Rattle.sequence.specs.Masked.{unaryMasked, binaryMasked}
+use Rattle.sequence.specs.Masked.{unaryMasked, binaryMasked, UnaryWord, BinaryWord}
 use Rattle.rules.specs.Limits.{mostSessions, mostPropositions}
 use Rattle.formula.specs.Formula.{Leaf}
 use Rattle.formula.specs.Nodes.{leafCode}
 use Rattle.formula.specs.Rule.{IsUnary, IsBinary}
-use Rattle.table.specs.Rows.{Filled, Reads, RowIs, RowsAnswer}
-use Rattle.table.specs.Inner.{UnaryAt, BinaryAt, GroupAnswer}
+use Rattle.table.specs.Slices.{Told}
+use Rattle.table.specs.Rows.{Filled, Reads, RowIs, RowsAsk, RowsAnswer}
+use Rattle.table.specs.Inner.{UnaryRow, BinaryRow, part, UnaryAnswer, BinaryAnswer, LeafAnswer}
 use Rattle.table.proofs.Filling.{filled-as}
-use Rattle.table.proofs.Parts.{part, part-at}
+use Rattle.table.proofs.Parts.{part-at}
 use Rattle.table.proofs.Groups.{unary-or-binary, unary-or-leaf, binary-or-leaf, unary-same, binary-same}
 
 -- a leaf's word of session j
@@ -93,37 +94,71 @@ module _ {r m : ℕ} {masks words matrices : List ℕ} {code left right : ℕ} w
   -- ---- what was written
 
   module _ {old new : List ℕ} where
-    pub unary-told : (op : Unary) → unaryCode op ≡ code → left * r + r ≤ length matrices → Filled r old (UnaryAt op masks (part matrices (left * r))) new
-        → GroupAnswer r m masks words matrices code left right old new true
-    unary-told op e h f = (
-      Reads.unary op e h,
-      filled-as (λ j w l p. RowIs.unary op e (subst (λ (x : ℕ). Means width w (unaryMasked op (At (getD masks j 0)) (At x))) (part-at matrices (left * r) j (omega arith)) p)) f,
-    )
-
-    pub binary-told : (op : Binary) → binaryCode op ≡ code → left * r + r ≤ length matrices → right * r + r ≤ length matrices
-        → Filled r old (BinaryAt op masks (part matrices (left * r)) (part matrices (right * r))) new
-        → GroupAnswer r m masks words matrices code left right old new true
-    binary-told op e h h′ f = (
-      Reads.binary op e h h′,
-      filled-as (λ j w l p.
-          RowIs.binary op e (subst (λ (x : ℕ). Means width w (binaryMasked op (At (getD masks j 0)) (At x) (At (getD matrices (right * r + j) 0)))) (part-at matrices (left * r) j (omega arith))
-          (subst (λ (y : ℕ). Means width w (binaryMasked op (At (getD masks j 0)) (At (getD (part matrices (left * r)) j 0)) (At y))) (part-at matrices (right * r) j (omega arith)) p))) f,
-    )
-
     pub proposition-told : {p : ℕ} → code ≡ 16 → m ≤ mostPropositions → left < m → m * r ≤ length words → p ≡ min left 255
-        → Filled r old (λ j w. w ≡ getD words (j * m + p) 0) new → GroupAnswer r m masks words matrices code left right old new true
+        → Filled r old (λ j w. w ≡ getD words (j * m + p) 0) new → Told (Reads r m masks words matrices code left right) (Filled r old (RowIs r m masks words matrices code left right) new) (new ≡ old) true
     proposition-told {p} e a b c q f =
         let n : p ≡ left = omega arith in
         (Reads.proposition (sym e) a b c, filled-as (λ j w l h. RowIs.proposition (sym e) (h ∙ ap (λ (x : ℕ). getD words (j * m + x) 0) n)) f)
 
-    pub false-told : code ≡ 17 → Filled r old (λ j w. w ≡ 0) new → GroupAnswer r m masks words matrices code left right old new true
+    pub false-told : code ≡ 17 → Filled r old (λ j w. w ≡ 0) new → Told (Reads r m masks words matrices code left right) (Filled r old (RowIs r m masks words matrices code left right) new) (new ≡ old) true
     false-told e f = (Reads.constant false (sym e), filled-as (λ j w l h. RowIs.none (sym e) h) f)
 
-    pub true-told : code ≡ 18 → Filled r old (λ j w. w ≡ getD masks j 0) new → GroupAnswer r m masks words matrices code left right old new true
+    pub true-told : code ≡ 18 → Filled r old (λ j w. w ≡ getD masks j 0) new → Told (Reads r m masks words matrices code left right) (Filled r old (RowIs r m masks words matrices code left right) new) (new ≡ old) true
     true-told e f = (Reads.constant true (sym e), filled-as (λ j w l h. RowIs.all (sym e) h) f)
 
--- the numbers that every group has are in range
-pub rows-told : (r m : ℕ) (masks words matrices : List ℕ) (code left right : ℕ) (old new : List ℕ) (b : Bool) → r ≤ mostSessions → r ≤ length masks → r ≤ length old
-    → GroupAnswer r m masks words matrices code left right old new b → RowsAnswer r m masks words matrices code left right old new b
-rows-told r m masks words matrices code left right old new true s k o g = (record { sessions-in = s; masks-there = k; rows-there = o; reads = g .0 }, g .1)
-rows-told r m masks words matrices code left right old new false s k o g = (λ a. g .0 (a .reads), g .1)
+-- ---- from the groups to the candidate
+
+module _ (r m : ℕ) (masks words matrices : List ℕ) (code left right : ℕ) (old new : List ℕ) (s : r ≤ mostSessions) (k : r ≤ length masks) (o : r ≤ length old) where
+  abbrev Is : ℕ → ℕ → Type 0
+  Is = RowIs r m masks words matrices code left right
+
+  abbrev Answer : Bool → Type 0
+  Answer = RowsAnswer r m masks words matrices code left right old new
+
+  asks : Reads r m masks words matrices code left right → RowsAsk r m masks words matrices code left right old
+  asks q = record { sessions-in = s; masks-there = k; rows-there = o; reads = q }
+
+  unary-row : IsUnary code → left * r + r ≤ length matrices → (j w : ℕ) → j < r → UnaryRow code masks (part matrices (left * r)) j w → Is j w
+  unary-row u h j w l (UnaryWord.word op e p) =
+      RowIs.unary op e (subst (λ (x : ℕ). Means width w (unaryMasked op (At (getD masks j 0)) (At x))) (part-at matrices (left * r) j (omega arith)) p)
+  unary-row u h j w l (UnaryWord.nothing f z) = absurd (f (u .0) (u .1))
+
+  pub unary-told : IsUnary code → (b : Bool) → UnaryAnswer r masks matrices code left old new b → Answer b
+  unary-told u true g = (asks (Reads.unary (u .0) (u .1) (g .0)), filled-as (unary-row u (g .0)) (g .1))
+  unary-told u false g = (λ a. g .0 (unary-reads u (a .reads)), g .1)
+
+  binary-row : IsBinary code → left * r + r ≤ length matrices → right * r + r ≤ length matrices → (j w : ℕ) → j < r
+      → BinaryRow code masks (part matrices (left * r)) (part matrices (right * r)) j w → Is j w
+  binary-row u h h′ j w l (BinaryWord.word op e p) =
+      RowIs.binary op e
+      (subst (λ (x : ℕ). Means width w (binaryMasked op (At (getD masks j 0)) (At x) (At (getD matrices (right * r + j) 0)))) (part-at matrices (left * r) j (omega arith))
+      (subst (λ (y : ℕ). Means width w (binaryMasked op (At (getD masks j 0)) (At (getD (part matrices (left * r)) j 0)) (At y))) (part-at matrices (right * r) j (omega arith)) p))
+  binary-row u h h′ j w l (BinaryWord.nothing f z) = absurd (f (u .0) (u .1))
+
+  pub binary-told : IsBinary code → (b : Bool) → BinaryAnswer r masks matrices code left right old new b → Answer b
+  binary-told u true g = (asks (Reads.binary (u .0) (u .1) (g .0 .0) (g .0 .1)), filled-as (binary-row u (g .0 .0) (g .0 .1)) (g .1))
+  binary-told u false g = (λ a. g .0 (binary-reads u (a .reads)), g .1)
+
+  module _ (u : IsUnary code → ⊥) (v : IsBinary code → ⊥) where
+    leaf-row : (j w : ℕ) → RowIs r m masks words [] code left 0 j w → Is j w
+    leaf-row j w (RowIs.unary op e p) = absurd (u (op, e))
+    leaf-row j w (RowIs.binary op e p) = absurd (v (op, e))
+    leaf-row j w (RowIs.proposition e p) = RowIs.proposition e p
+    leaf-row j w (RowIs.none e p) = RowIs.none e p
+    leaf-row j w (RowIs.all e p) = RowIs.all e p
+
+    leaf-reads : Reads r m masks words [] code left 0 → Reads r m masks words matrices code left right
+    leaf-reads (Reads.unary op e h) = absurd (u (op, e))
+    leaf-reads (Reads.binary op e h l) = absurd (v (op, e))
+    leaf-reads (Reads.proposition e a b c) = Reads.proposition e a b c
+    leaf-reads (Reads.constant b e) = Reads.constant b e
+
+    read-leaf : Reads r m masks words matrices code left right → Reads r m masks words [] code left 0
+    read-leaf (Reads.unary op e h) = absurd (u (op, e))
+    read-leaf (Reads.binary op e h l) = absurd (v (op, e))
+    read-leaf (Reads.proposition e a b c) = Reads.proposition e a b c
+    read-leaf (Reads.constant b e) = Reads.constant b e
+
+    pub leaf-told : (b : Bool) → LeafAnswer r m masks words code left old new b → Answer b
+    leaf-told true g = (asks (leaf-reads (g .0)), filled-as (λ j w l p. leaf-row j w p) (g .1))
+    leaf-told false g = (λ a. g .0 (read-leaf (a .reads)), g .1)

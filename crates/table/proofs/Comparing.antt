@@ -7,8 +7,8 @@ use native.Mathlib.Nat.{lt-of-not-le}
 use native.Mathlib.Omega.{arith}
 use lib.ListN.{length, getD}
 use Rattle.table.specs.Compare.{Same, CompareAsk, KnownAsk}
-use Rattle.table.specs.Inner.{FirstDiffers}
-use Rattle.table.proofs.Parts.{part, part-at}
+use Rattle.table.specs.Inner.{part, FirstDiffers}
+use Rattle.table.proofs.Parts.{part-at}
 use Rattle.table.proofs.Products.{place-end}
 
 pub place-ask : {r : ℕ} {matrices rows : List ℕ} {kept p : ℕ} → KnownAsk r matrices rows kept → p < kept → CompareAsk r matrices rows p

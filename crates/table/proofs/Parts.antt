@@ -4,11 +4,9 @@ use mathlib.Core.Path.{_≡_, _∙_}
 use mathlib.Core.List.{List}
 use Prim.Native.Nat.{ℕ, _+_, _-_, _≤_, _<_}
 use native.Mathlib.Omega.{arith}
-use lib.ListN.{length, getD, take, drop, length-take, length-drop}
-use lib.Seq.{getD-take, getD-drop, length-take-le}
-
-abbrev pub part : List ℕ → ℕ → List ℕ
-part s a = take (length s - a) (drop a s)
+use lib.ListN.{length, getD, drop, length-take, length-drop}
+use lib.Seq.{getD-take, getD-drop}
+use Rattle.table.specs.Inner.{part}
 
 pub part-at : (s : List ℕ) (a j : ℕ) → a + j < length s → getD (part s a) j 0 ≡ getD s (a + j) 0
 part-at s a j h = getD-take (length s - a) (drop a s) j 0 (omega arith) ∙ getD-drop a s j 0

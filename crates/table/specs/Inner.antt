@@ -1,13 +1,13 @@
 -- What the table's private functions promise each other. No public contract cites this.
 -- Assumes nothing.
 use mathlib.Core.Path.{_≡_}
-use mathlib.Core.Bool.{Bool}
-use mathlib.Core.List.{List}
-use Prim.Native.Nat.{ℕ, _≤_, _<_}
-use lib.ListN.{length, getD}
+use mathlib.Core.Bool.{Bool, true, false}
+use mathlib.Core.List.{List, []}
+use Prim.Native.Nat.{ℕ, _+_, _-_, _*_, _≤_, _<_}
+use lib.ListN.{length, getD, take, drop}
 use Rattle.words.specs.Word.{width, At, Means}
 use Rattle.sequence.specs.Operators.{Unary, Binary}
-use Rattle.sequence.specs.Masked.{unaryMasked, binaryMasked}
+use Rattle.sequence.specs.Masked.{unaryMasked, binaryMasked, UnaryWord, BinaryWord}
 use Rattle.rules.specs.Limits.{mostSessions}
 use Rattle.table.specs.Slices.{Told}
 use Rattle.table.specs.Rows.{Filled, Reads, RowIs}
@@ -28,12 +28,30 @@ BinaryAt op masks x y j w = Means width w (binaryMasked op (At (getD masks j 0))
 
 -- ---- a group of codes
 
-abbrev pub GroupAsk : ℕ → List ℕ → List ℕ → Type 0
-GroupAsk r masks rows = Long r masks × Long r rows
+-- the operator with the code
+abbrev pub UnaryRow : ℕ → List ℕ → List ℕ → ℕ → ℕ → Type 0
+UnaryRow code masks x j w = UnaryWord code (getD x j 0) (getD masks j 0) w
 
-abbrev pub GroupAnswer : ℕ → ℕ → List ℕ → List ℕ → List ℕ → ℕ → ℕ → ℕ → List ℕ → List ℕ → Bool → Type 0
-GroupAnswer r m masks words matrices code left right old new b =
-    Told (Reads r m masks words matrices code left right) (Filled r old (RowIs r m masks words matrices code left right) new) (new ≡ old) b
+abbrev pub BinaryRow : ℕ → List ℕ → List ℕ → List ℕ → ℕ → ℕ → Type 0
+BinaryRow code masks x y j w = BinaryWord code (getD x j 0) (getD y j 0) (getD masks j 0) w
+
+-- the words of a slice from a word on
+abbrev pub part : List ℕ → ℕ → List ℕ
+part s a = take (length s - a) (drop a s)
+
+abbrev pub UnaryAnswer : ℕ → List ℕ → List ℕ → ℕ → ℕ → List ℕ → List ℕ → Bool → Type 0
+UnaryAnswer r masks matrices code left old new b =
+    Told (left * r + r ≤ length matrices) (Filled r old (UnaryRow code masks (part matrices (left * r))) new) (new ≡ old) b
+
+abbrev pub BinaryAnswer : ℕ → List ℕ → List ℕ → ℕ → ℕ → ℕ → List ℕ → List ℕ → Bool → Type 0
+BinaryAnswer r masks matrices code left right old new b =
+    Told ((left * r + r ≤ length matrices) × (right * r + r ≤ length matrices))
+    (Filled r old (BinaryRow code masks (part matrices (left * r)) (part matrices (right * r))) new) (new ≡ old) b
+
+-- a leaf reads no matrix and no right field
+abbrev pub LeafAnswer : ℕ → ℕ → List ℕ → List ℕ → ℕ → ℕ → List ℕ → List ℕ → Bool → Type 0
+LeafAnswer r m masks words code left old new b =
+    Told (Reads r m masks words [] code left 0) (Filled r old (RowIs r m masks words [] code left 0) new) (new ≡ old) b
 
 -- ---- comparison
 
@@ -48,3 +66,20 @@ pub record FirstEqual (r : ℕ) (matrices rows : List ℕ) (kept p : ℕ) : Type
   pub within : p ≤ kept
   pub before : (q : ℕ) → q < p → Same r matrices rows q r → ⊥
   pub here : p < kept → Same r matrices rows p r
+
+-- ---- keeping
+
+-- a fact, or its refutation
+abbrev pub Decides : Type 0 → Bool → Type 0
+Decides fact true = fact
+Decides fact false = fact → ⊥
+
+-- there are r rows, and slices of those lengths have the place
+pub record FitsAt (r place rows codes lefts rights sizes matrices : ℕ) : Type 0 where
+  pub sessions-in : r ≤ mostSessions
+  pub rows-there : r ≤ rows
+  pub codes-in : place < codes
+  pub lefts-in : place < lefts
+  pub rights-in : place < rights
+  pub sizes-in : place < sizes
+  pub matrix-in : place * r + r ≤ matrices

@@ -1,13 +1,10 @@
 // The binary operators over two matrices: the operator is chosen once for a candidate, and each has a loop of its own.
 use rules::kinds::Place;
-ghost use mathlib.Core.Path.{_≡_};
 ghost use mathlib.Core.List.{[]};
-ghost use Prim.Native.Nat.{_≤_};
-ghost use lib.ListN.{length};
 ghost use Rattle.sequence.specs.Operators.{Binary};
 ghost use Rattle.formula.specs.Rule.{IsBinary};
 ghost use Rattle.table.specs.Rows.{Filled};
-ghost use Rattle.table.specs.Inner.{Long, BinaryAt, GroupAsk, GroupAnswer};
+ghost use Rattle.table.specs.Inner.{Long, BinaryAt, BinaryRow, BinaryAnswer};
 
 fn or_rows(r: usize, x: &[u64], y: &[u64], rows: &mut [u64])
     requires { ⌜ Long r (now x) × Long r (now y) × Long r (now rows) ⌝ }
@@ -75,20 +72,34 @@ fn equiv_rows(r: usize, masks: &[u64], x: &[u64], y: &[u64], rows: &mut [u64])
     }
 }
 
+// The operator with the code, over the rows of its children.
+fn by_code(r: usize, masks: &[u64], x: &[u64], y: &[u64], code: u8, rows: &mut [u64])
+    requires { ⌜ Long r (now masks) × Long r (now x) × Long r (now y) × Long r (now rows) × IsBinary code ⌝ }
+    ensures { λ u. ⌜ Filled r (now (rows .entry)) (BinaryRow code (now (masks .entry)) (now (x .entry)) (now (y .entry))) (now (rows .exit)) ⌝ }
+{
+    match code {
+        5 => or_rows(r, x, y, rows),
+        6 => and_rows(r, x, y, rows),
+        7 => until_rows(r, x, y, rows),
+        8 => release_rows(r, masks, x, y, rows),
+        9 => implies_rows(r, masks, x, y, rows),
+        10 => equiv_rows(r, masks, x, y, rows),
+        _ => {}
+    }
+}
+
 // The rows of a candidate whose code is a binary operator's.
 pub(crate) fn rows_of(
     r: usize,
-    m: usize,
     masks: &[u64],
-    words: &[u64],
     matrices: &[u64],
     code: u8,
     left: Place,
     right: Place,
     rows: &mut [u64],
 ) -> bool
-    requires { ⌜ GroupAsk r (now masks) (now rows) × IsBinary code ⌝ }
-    ensures { λ b. ⌜ GroupAnswer r m (now (masks .entry)) (now (words .entry)) (now (matrices .entry)) code (left .0) (right .0) (now (rows .entry)) (now (rows .exit)) b ⌝ }
+    requires { ⌜ Long r (now masks) × Long r (now rows) × IsBinary code ⌝ }
+    ensures { λ b. ⌜ BinaryAnswer r (now (masks .entry)) (now (matrices .entry)) code (left .0) (right .0) (now (rows .entry)) (now (rows .exit)) b ⌝ }
 {
     let one = left.0 as usize * r;
     if matrices.len() < one + r {
@@ -98,16 +109,6 @@ pub(crate) fn rows_of(
     if matrices.len() < other + r {
         return false;
     }
-    let x = &matrices[one..];
-    let y = &matrices[other..];
-    match code {
-        5 => or_rows(r, x, y, rows),
-        6 => and_rows(r, x, y, rows),
-        7 => until_rows(r, x, y, rows),
-        8 => release_rows(r, masks, x, y, rows),
-        9 => implies_rows(r, masks, x, y, rows),
-        10 => equiv_rows(r, masks, x, y, rows),
-        _ => return false,
-    }
+    by_code(r, masks, &matrices[one..], &matrices[other..], code, rows);
     true
 }

@@ -10,7 +10,7 @@ ghost use lib.ListN.{length, getD};
 ghost use Rattle.rules.specs.Limits.{mostPropositions};
 ghost use Rattle.formula.specs.Rule.{IsUnary, IsBinary};
 ghost use Rattle.table.specs.Rows.{Filled};
-ghost use Rattle.table.specs.Inner.{Long, GroupAsk, GroupAnswer};
+ghost use Rattle.table.specs.Inner.{Long, LeafAnswer};
 
 // A proposition's words, which lie m per session.
 fn proposition_rows(r: usize, m: usize, words: &[u64], p: Proposition, rows: &mut [u64])
@@ -54,14 +54,12 @@ pub(crate) fn rows_of(
     m: usize,
     masks: &[u64],
     words: &[u64],
-    matrices: &[u64],
     code: u8,
     left: Place,
-    right: Place,
     rows: &mut [u64],
 ) -> bool
-    requires { ⌜ GroupAsk r (now masks) (now rows) × (IsUnary code → ⊥) × (IsBinary code → ⊥) ⌝ }
-    ensures { λ b. ⌜ GroupAnswer r m (now (masks .entry)) (now (words .entry)) (now (matrices .entry)) code (left .0) (right .0) (now (rows .entry)) (now (rows .exit)) b ⌝ }
+    requires { ⌜ Long r (now masks) × Long r (now rows) × (IsUnary code → ⊥) × (IsBinary code → ⊥) ⌝ }
+    ensures { λ b. ⌜ LeafAnswer r m (now (masks .entry)) (now (words .entry)) code (left .0) (now (rows .entry)) (now (rows .exit)) b ⌝ }
 {
     if code == PROPOSITION {
         if rules::PROPOSITIONS < m {

@@ -75,9 +75,9 @@ pub fn rows_of(
     }
     let group = operator_of(code).group;
     match group {
-        Group::Unary => unary::rows_of(r, m, masks, words, matrices, code, left, right, rows),
-        Group::Binary => binary::rows_of(r, m, masks, words, matrices, code, left, right, rows),
-        Group::Neither => leaves::rows_of(r, m, masks, words, matrices, code, left, right, rows),
+        Group::Unary => unary::rows_of(r, masks, matrices, code, left, rows),
+        Group::Binary => binary::rows_of(r, masks, matrices, code, left, right, rows),
+        Group::Neither => leaves::rows_of(r, m, masks, words, code, left, rows),
     }
 }
 
@@ -160,33 +160,23 @@ pub fn keep(
         (cols (now (codes .entry)) (now (lefts .entry)) (now (rights .entry)) (now (sizes .entry)) (now (matrices .entry)))
         (cols (now (codes .exit)) (now (lefts .exit)) (now (rights .exit)) (now (sizes .exit)) (now (matrices .exit))) b ⌝ }
 {
-    if rules::SESSIONS < r {
-        return false;
+    if store::fits(
+        r,
+        place,
+        rows.len(),
+        codes.len(),
+        lefts.len(),
+        rights.len(),
+        sizes.len(),
+        matrices.len(),
+    ) {
+        let at = place.0 as usize;
+        codes[at] = node.code;
+        lefts[at] = node.left.0;
+        rights[at] = node.right.0;
+        sizes[at] = node.size;
+        store::put(r, matrices, rows, at * r);
+        return true;
     }
-    if rows.len() < r {
-        return false;
-    }
-    let at = place.0 as usize;
-    if codes.len() <= at {
-        return false;
-    }
-    if lefts.len() <= at {
-        return false;
-    }
-    if rights.len() <= at {
-        return false;
-    }
-    if sizes.len() <= at {
-        return false;
-    }
-    let from = at * r;
-    if matrices.len() < from + r {
-        return false;
-    }
-    codes[at] = node.code;
-    lefts[at] = node.left.0;
-    rights[at] = node.right.0;
-    sizes[at] = node.size;
-    store::put(r, matrices, rows, from);
-    true
+    false
 }

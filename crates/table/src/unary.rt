@@ -1,13 +1,10 @@
 // The unary operators over a matrix: the operator is chosen once for a candidate, and each has a loop of its own.
 use rules::kinds::Place;
-ghost use mathlib.Core.Path.{_≡_};
 ghost use mathlib.Core.List.{[]};
-ghost use Prim.Native.Nat.{_≤_};
-ghost use lib.ListN.{length};
 ghost use Rattle.sequence.specs.Operators.{Unary};
 ghost use Rattle.formula.specs.Rule.{IsUnary};
 ghost use Rattle.table.specs.Rows.{Filled};
-ghost use Rattle.table.specs.Inner.{Long, UnaryAt, GroupAsk, GroupAnswer};
+ghost use Rattle.table.specs.Inner.{Long, UnaryAt, UnaryRow, UnaryAnswer};
 
 fn not_rows(r: usize, masks: &[u64], x: &[u64], rows: &mut [u64])
     requires { ⌜ Long r (now x) × Long r (now masks) × Long r (now rows) ⌝ }
@@ -64,33 +61,37 @@ fn globally_rows(r: usize, masks: &[u64], x: &[u64], rows: &mut [u64])
     }
 }
 
-// The rows of a candidate whose code is a unary operator's.
-pub(crate) fn rows_of(
-    r: usize,
-    m: usize,
-    masks: &[u64],
-    words: &[u64],
-    matrices: &[u64],
-    code: u8,
-    left: Place,
-    right: Place,
-    rows: &mut [u64],
-) -> bool
-    requires { ⌜ GroupAsk r (now masks) (now rows) × IsUnary code ⌝ }
-    ensures { λ b. ⌜ GroupAnswer r m (now (masks .entry)) (now (words .entry)) (now (matrices .entry)) code (left .0) (right .0) (now (rows .entry)) (now (rows .exit)) b ⌝ }
+// The operator with the code, over the rows of its child.
+fn by_code(r: usize, masks: &[u64], x: &[u64], code: u8, rows: &mut [u64])
+    requires { ⌜ Long r (now masks) × Long r (now x) × Long r (now rows) × IsUnary code ⌝ }
+    ensures { λ u. ⌜ Filled r (now (rows .entry)) (UnaryRow code (now (masks .entry)) (now (x .entry))) (now (rows .exit)) ⌝ }
 {
-    let from = left.0 as usize * r;
-    if matrices.len() < from + r {
-        return false;
-    }
-    let x = &matrices[from..];
     match code {
         0 => not_rows(r, masks, x, rows),
         1 => weak_next_rows(r, masks, x, rows),
         2 => strong_next_rows(r, x, rows),
         3 => finally_rows(r, x, rows),
         4 => globally_rows(r, masks, x, rows),
-        _ => return false,
+        _ => {}
     }
+}
+
+// The rows of a candidate whose code is a unary operator's.
+pub(crate) fn rows_of(
+    r: usize,
+    masks: &[u64],
+    matrices: &[u64],
+    code: u8,
+    left: Place,
+    rows: &mut [u64],
+) -> bool
+    requires { ⌜ Long r (now masks) × Long r (now rows) × IsUnary code ⌝ }
+    ensures { λ b. ⌜ UnaryAnswer r (now (masks .entry)) (now (matrices .entry)) code (left .0) (now (rows .entry)) (now (rows .exit)) b ⌝ }
+{
+    let from = left.0 as usize * r;
+    if matrices.len() < from + r {
+        return false;
+    }
+    by_code(r, masks, &matrices[from..], code, rows);
     true
 }
