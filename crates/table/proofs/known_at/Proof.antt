@@ -4,7 +4,7 @@ use native.Mathlib.Omega.{arith}
 use borrow.Author.Needs.{needs}
 use Rattle.sequence.specs.Limits as limits
 use Rattle.session.specs.Numbers.{sessions}
-use Rattle.table.proofs.Products.{at-most}
+use Rattle.rows.proofs.Products.{at-most}
 use Rattle.table.proofs.known_at.Statement.{statement}
 use Rattle.table.proofs.known_at.Tie as tie
 
