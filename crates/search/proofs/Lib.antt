@@ -17,5 +17,4 @@ pub mod Rest
 pub mod Sizes
 pub mod Checks
 pub mod Whole
-pub mod Passing
 pub mod Promises

@@ -7,18 +7,22 @@ use mathlib.Core.List.{List, [], _∷_, List·Memᴰ·head, List·Memᴰ·tail}
 use Prim.Native.Nat.{ℕ, zero, suc, _+_, _*_, _≤_, _<_}
 use native.Mathlib.Omega.{arith}
 use lib.ListN.{length, getD}
-use Rattle.words.specs.Word.{At}
+use Rattle.words.specs.Word.{width, At}
+use Rattle.words.proofs.At.{not-at}
+use Rattle.sequence.specs.Limits as limits
+use Rattle.sequence.specs.Operators.{Unary, Binary, unaryCode, binaryCode}
 use Rattle.sequence.specs.Refusals.{Row, Decided}
 use Rattle.session.specs.Data.{outsideNumbers, tooShort, tooLong, bitAbove, markWrong}
 use Rattle.walk.specs.Formula.{_∈_}
-use Rattle.walk.specs.Input.{Input, Passes, Once}
+use Rattle.walk.specs.Input.{Input, Passes, Once, lengthOf, markOf, wordOf}
 use Rattle.walk.specs.Promises.{AgreeWhereRead}
 use Rattle.walk.proofs.Same.{inside}
-use Rattle.search.specs.Table.{Cols}
+use Rattle.table.specs.Slices.{Cols}
 use Rattle.checks.specs.Refusals.{settingWrong, noRoom, codeWrong, searchRows}
-use Rattle.search.specs.Promises.{RoomThere, DataThere}
+use Rattle.checks.specs.Promises.{RoomThere, PassesWhole, DataThere, DecidedSame}
 use Rattle.checks.specs.Inner.{GoodCodes}
-use Rattle.checks.proofs.Decide.{NoneOf, none-given, le-of-not-lt, settings-fine, room-fine, codes-fine}
+use Rattle.checks.proofs.Codes.{unary-or, binary-or, at-position, good-once}
+use Rattle.checks.proofs.Decide.{NoneOf, none-given, numbers-in, le-of-not-lt, settings-fine, room-fine, codes-fine}
 
 -- ---- no row is given
 
@@ -27,12 +31,12 @@ unfolding Decided
 decided-zero [] h = refl
 decided-zero (row ∷ rows) h = inr (h .0, decided-zero rows (h .1))
 
-at-in : (l : List ℕ) (p : ℕ) → p < length l → getD l p 0 ∈ l
+pub at-in : (l : List ℕ) (p : ℕ) → p < length l → getD l p 0 ∈ l
 at-in [] p h = absurd (omega arith)
 at-in (x ∷ l) zero h = List·Memᴰ·head refl
 at-in (x ∷ l) (suc p) h = List·Memᴰ·tail (at-in l p (omega arith))
 
-once-at : (l : List ℕ) → Once l → (p q : ℕ) → p < q → q < length l → getD l p 0 ≡ getD l q 0 → ⊥
+pub once-at : (l : List ℕ) → Once l → (p q : ℕ) → p < q → q < length l → getD l p 0 ≡ getD l q 0 → ⊥
 once-at [] w p q h l e = omega arith
 once-at (x ∷ l) w p zero h m e = omega arith
 once-at (x ∷ l) w zero (suc q) h m e = w .0 (subst (λ (y : ℕ). y ∈ l) (sym e) (at-in l q (omega arith)))
@@ -79,6 +83,61 @@ module _ (i : Input) (t : Cols) where
     where
       none : NoneOf (searchRows i t)
       none = none-given i t d
+
+-- ---- the input passes
+
+bit-or : (n : ℕ) → n ≤ 1 → (n ≡ 0) ⊎ (n ≡ 1)
+bit-or zero h = inl refl
+bit-or (suc zero) h = inr refl
+bit-or (suc (suc n)) h = absurd (omega arith)
+
+module _ (i : Input) (t : Cols) (d : Decided (searchRows i t) 0) where
+  given : NoneOf (searchRows i t)
+  given = none-given i t d
+
+  numbers : (1 ≤ i .sessions) × (i .sessions ≤ limits.sessions) × (1 ≤ i .propositions) × (i .propositions ≤ limits.propositions)
+  numbers = numbers-in (i .sessions) (i .propositions) (given .0)
+
+  unary-op : (o : ℕ) → o < length (i .unary) → (op : Unary) × (unaryCode op ≡ getD (i .unary) o 0)
+  unary-op o h = ⊎-elim (λ w. w) (λ f. absurd (given .1 .1 .1 .1 .1 .1 .1 .0 (inl (o, h, f)))) (unary-or (getD (i .unary) o 0))
+
+  binary-op : (o : ℕ) → o < length (i .binary) → (op : Binary) × (binaryCode op ≡ getD (i .binary) o 0)
+  binary-op o h = ⊎-elim (λ w. w) (λ f. absurd (given .1 .1 .1 .1 .1 .1 .1 .0 (inr (inr (inl (o, h, f)))))) (binary-or (getD (i .binary) o 0))
+
+  unary-good : GoodCodes true (i .unary)
+  unary-good = record { in-group = unary-op; once = λ p q h l e. given .1 .1 .1 .1 .1 .1 .1 .0 (inr (inl (p, q, h, l, e))) }
+
+  binary-good : GoodCodes false (i .binary)
+  binary-good = record { in-group = binary-op; once = λ p q h l e. given .1 .1 .1 .1 .1 .1 .1 .0 (inr (inr (inr (p, q, h, l, e)))) }
+
+  short : (j : ℕ) → j < i .sessions → lengthOf i j ≤ width
+  short j h = le-of-not-lt λ l. given .1 .1 .1 .1 .0 (j, h, l)
+
+  -- where none is, the input passes the walk's checks
+  pub search-passes : Passes i
+  search-passes = record {
+    sessions-in = (numbers .0, numbers .1);
+    propositions-in = (numbers .2, numbers .3);
+    bound-in = (le-of-not-lt λ h. given .1 .0 (inl (inl h)), le-of-not-lt λ h. given .1 .0 (inl (inr h)));
+    room-in = (le-of-not-lt λ h. given .1 .0 (inr (inl (inl h))), le-of-not-lt λ h. given .1 .0 (inr (inl (inr h))));
+    constants-in = bit-or (i .constants) (le-of-not-lt λ h. given .1 .0 (inr (inr h)));
+    marks-there = le-of-not-lt λ h. given .1 .1 .0 (inl h);
+    lengths-there = le-of-not-lt λ h. given .1 .1 .0 (inr (inl h));
+    words-there = le-of-not-lt λ h. given .1 .1 .0 (inr (inr h));
+    well-formed = λ j p h l. record {
+      short = short j h;
+      clear = λ b m. not-at (wordOf i j p) b (λ w. given .1 .1 .1 .1 .1 .0 (j, h, p, l, b, m, w));
+    };
+    short = short;
+    marks-in = λ j h. bit-or (markOf i j) (le-of-not-lt λ l. given .1 .1 .1 .1 .1 .1 .0 (j, h, l));
+    unary-in = λ c m. let (o, h, e) = at-position (i .unary) c 0 m in let (op, q) = unary-op o h in (op, q ∙ e);
+    unary-once = good-once (i .unary) (unary-good .once);
+    binary-in = λ c m. let (o, h, e) = at-position (i .binary) c 0 m in let (op, q) = binary-op o h in (op, q ∙ e);
+    binary-once = good-once (i .binary) (binary-good .once);
+  }
+
+pub passes-whole : PassesWhole
+passes-whole i t = (λ d. (search-passes i t d, room-there i t d), λ w. not-refused i t (w .0) (w .1))
 
 -- ---- what is beyond is not looked at
 
@@ -150,7 +209,7 @@ agree-sym i j s = record {
 long-enough : (i : Input) → DataThere i → tooShort (i .sessions) (i .propositions) (i .marks) (i .lengths) (i .words) .given → ⊥
 long-enough i d = ⊎-elim (λ h. omega (arith, d .marks)) (⊎-elim (λ h. omega (arith, d .lengths)) (λ h. omega (arith, d .words)))
 
-pub decided-same : (i j : Input) → AgreeWhereRead i j → DataThere i → DataThere j → (t : Cols) (n : ℕ) → Decided (searchRows i t) n → Decided (searchRows j t) n
+pub decided-same : DecidedSame
 decided-same i j s x y t n d =
     let z = agree-sym i j s in
     decided-alike (searchRows i t) (searchRows j t) n (
