@@ -28,7 +28,8 @@ use Rattle.search.specs.Table.{Cols, tableOver}
 use Rattle.checks.specs.Refusals.{searchRows}
 use Rattle.search.specs.Search.{walkSaid, Searched}
 use Rattle.checks.proofs.Decide.{is-two, is-zero, settings-fine, room-fine, codes-fine}
-use Rattle.search.proofs.Promises.{passes-whole, found-end, none-end, full-end}
+use Rattle.checks.proofs.Passing.{passes-whole}
+use Rattle.search.proofs.Promises.{found-end, none-end, full-end}
 use Rattle.lines.specs.Line.{noneLine, fullLine, refusedLine}
 use Rattle.lines.specs.Bench.{inputOf, GoodSays}
 use Rattle.lines.proofs.Sizes.{walk-small}

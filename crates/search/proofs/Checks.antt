@@ -1,4 +1,4 @@
--- What follows of codes that are good: none is repeated, and they are few.
+-- Codes that pass the checks are few.
 -- Assumes nothing.
 use mathlib.Core.Path.{_≡_, sym, _∙_, subst}
 use mathlib.Core.Logic.{_⊎_, ⊎-elim}
@@ -9,25 +9,11 @@ use native.Mathlib.Omega.{arith}
 use lib.ListN.{length, getD, length-append, List·getD-append}
 use lib.Seq.{getD-append-seam, append-snoc}
 use Rattle.sequence.proofs.Groups.{unary-below, binary-between}
-use Rattle.rules.specs.Lists.{Each, _∈_}
+use Rattle.rules.specs.Lists.{Each}
 use Rattle.session.proofs.Few.{few}
-use Rattle.walk.specs.Input.{Once}
-use Rattle.checks.specs.Inner.{GoodCodes}
+use Rattle.walk.specs.Input.{Input, Passes}
+use Rattle.checks.proofs.Passing.{at-in, once-at}
 use Rattle.search.specs.Costs.{operators}
-
--- a member stands at a position
-pub at-position : {A : Type 0} (l : List A) (x d : A) → x ∈ l → (p : ℕ) × (p < length l) × (getD l p d ≡ x)
-at-position [] x d m = absurd (List·Memᴰ·not-nil m)
-at-position (y ∷ l) x d m = ⊎-elim
-    (λ e. (0, omega arith, sym e))
-    (λ h. let (p, lt, e) = at-position l x d h in (suc p, omega arith, e)) (List·Memᴰ·cases-cons m)
-
-pub good-once : (l : List ℕ) → ((p q : ℕ) → p < q → q < length l → getD l p 0 ≡ getD l q 0 → ⊥) → Once l
-good-once [] f = tt
-good-once (c ∷ l) f = (
-  λ m. let (p, lt, e) = at-position l c 0 m in f 0 (suc p) (omega arith) (omega arith) (sym e),
-  good-once l (λ p q h lt e. f (suc p) (suc q) (omega arith) (omega arith) e),
-)
 
 -- no number twice in a range of n: at most n
 abbrev fit : ℕ → ℕ → List ℕ → ℕ → Type 0
@@ -54,8 +40,15 @@ at-most : (lo n : ℕ) (l : List ℕ) → ((o : ℕ) → o < length l → (lo �
 at-most lo n l r f = few lo n (fit lo n) (λ b c w. w .0) (λ b c w. w .1) (λ b c w. w .2) l (each-fit lo n [] l r f)
 
 -- so few operators of a group are offered
-pub unary-few : {l : List ℕ} → GoodCodes true l → length l ≤ operators
-unary-few {l} w = omega (arith, at-most 0 5 l (λ o h. (omega arith, let g = w .in-group o h in omega (arith, unary-below (g .0), g .1))) (w .once))
+module _ {i : Input} (ok : Passes i) where
+  unary-at : (o : ℕ) → o < length (i .unary) → (0 ≤ getD (i .unary) o 0) × (getD (i .unary) o 0 < 5)
+  unary-at o h = let g = ok .unary-in _ (at-in (i .unary) o h) in (omega arith, omega (arith, unary-below (g .0), g .1))
 
-pub binary-few : {l : List ℕ} → GoodCodes false l → length l ≤ operators
-binary-few {l} w = at-most 5 6 l (λ o h. let g = w .in-group o h in (omega (arith, binary-between (g .0) .0, g .1), omega (arith, binary-between (g .0) .1, g .1))) (w .once)
+  pub unary-few : length (i .unary) ≤ operators
+  unary-few = omega (arith, at-most 0 5 (i .unary) unary-at (once-at (i .unary) (ok .unary-once)))
+
+  binary-at : (o : ℕ) → o < length (i .binary) → (5 ≤ getD (i .binary) o 0) × (getD (i .binary) o 0 < 11)
+  binary-at o h = let g = ok .binary-in _ (at-in (i .binary) o h) in (omega (arith, binary-between (g .0) .0, g .1), omega (arith, binary-between (g .0) .1, g .1))
+
+  pub binary-few : length (i .binary) ≤ operators
+  binary-few = at-most 5 6 (i .binary) binary-at (once-at (i .binary) (ok .binary-once))

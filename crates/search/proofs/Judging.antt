@@ -25,12 +25,13 @@ use Rattle.order.specs.Steps.{Rises, Steps}
 use Rattle.order.proofs.Rest.{step-left, step-safe}
 use Rattle.table.specs.declared.Known.the-variants.{At, New}
 use Rattle.table.specs.Slices.{Cols}
-use Rattle.table.specs.Rows.{RowsAnswer}
+use Rattle.rows.specs.Rows.{RowsAnswer}
+use Rattle.rows.specs.Formulas.{nothing, Makes, Fine, Stored, Masks}
+use Rattle.rows.proofs.Matrices.{rows-made, made-fine}
 use Rattle.table.specs.Compare.{agreeing, KnownAnswer}
 use Rattle.table.specs.Keep.{KeepAnswer}
-use Rattle.table.specs.Formulas.{nothing, Makes, Fine, Stored, Masks, Holds, RoomAt}
-use Rattle.table.specs.Formulas as table
-use Rattle.table.proofs.Matrices.{rows-made, made-fine}
+use Rattle.table.specs.Formulas.{Holds, RoomAt}
+use Rattle.rows.specs.Formulas as rows
 use Rattle.table.proofs.Acceptance.{agrees-separating}
 use Rattle.table.proofs.Duplicates.{known-is-known}
 use Rattle.table.proofs.Kept.{held-is-stored, keep-grows}
@@ -131,7 +132,7 @@ module _ {i : Input} (ok : Passes i) {t₀ t : Cols} {k₀ k : Table} {starts : 
   makes : Makes (i .recording .propositions) (length k) code (a .0) (b .0)
   makes = safe-makes i ok s starts (length k) told (omega (arith, w .begins s low (omega arith) .inside, w .less)) (step-safe step rises)
 
-  matrix-is : table.made i k makes ≡ formula .matrix
+  matrix-is : rows.made i k makes ≡ formula .matrix
   matrix-is = made-written i k makes ∙ made-base i k₀ k (w .same) makes-base
 
   fine : Fine i (formula .matrix)

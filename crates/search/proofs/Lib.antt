@@ -1,6 +1,5 @@
 -- The laws behind the proofs, by subject.
 pub mod Checks
-pub mod Passing
 pub mod Making
 pub mod Left
 pub mod Judging

@@ -22,12 +22,12 @@ use Rattle.order.specs.Size.{Cand, cand, Layer, start, commuting, leaves, const
 use Rattle.order.specs.Steps.{Listed, Safe}
 use Rattle.order.proofs.Layers as layers
 use Rattle.order.proofs.Lists.{map-append, map-map}
-use Rattle.table.specs.Formulas.{nothing, matrixAt, LeafIn, Makes}
-use Rattle.table.specs.Formulas as table
-use Rattle.table.proofs.Groups.{unary-or-binary, unary-or-leaf, binary-or-leaf}
+use Rattle.rows.specs.Formulas.{nothing, matrixAt, LeafIn, Makes}
+use Rattle.rows.proofs.Groups.{unary-or-binary, unary-or-leaf, binary-or-leaf}
+use Rattle.rows.specs.Formulas as rows
 use Rattle.sequence.proofs.Decoding.{unary-of, binary-of}
 use Rattle.search.specs.Turns.{leafOf, made, make, layerAt}
-use Rattle.search.proofs.Passing.{at-in}
+use Rattle.checks.proofs.Passing.{at-in}
 
 -- ---- the operator with a code
 
@@ -72,7 +72,7 @@ module _ (i : Input) (k : Table) where
       rw (w .0, w .1) (ap (offer i .leafMatrix) (ap₂ leafOf (sym e) (sym f) ∙ leaf-of c))
 
   -- it is the one that the table writes
-  pub made-written : {m n code left right : ℕ} (c : Makes m n code left right) → table.made i k c ≡ made i k (cand code left right)
+  pub made-written : {m n code left right : ℕ} (c : Makes m n code left right) → rows.made i k c ≡ made i k (cand code left right)
   made-written {code = code} {left} {right} (Makes.leaf c e f z h) = sym (made-leaf c code left right e f)
   made-written {code = code} {left} {right} (Makes.unary op e l z) = sym (made-unary op code left right e)
   made-written {code = code} {left} {right} (Makes.binary op e l q) = sym (made-binary op code left right e)

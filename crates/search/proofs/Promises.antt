@@ -22,9 +22,8 @@ use Rattle.search.specs.declared.SearchAnswer.the-variants.{Found, None,
 use Rattle.search.specs.Table.{Cols, tableOver}
 use Rattle.checks.specs.Refusals.{searchRows}
 use Rattle.search.specs.Search.{said, walkSaid, endSaid, foundSaid, noneSaid, fullSaid, Searched}
-use Rattle.search.specs.Promises.{Unique, PassesWhole, SameWhereRead, Holding, FoundSmallest, NoneMeansNone, FullNeedsRoom, LargerSame}
-use Rattle.search.proofs.Whole.{search-passes}
-use Rattle.search.proofs.Passing.{not-refused, room-there, decided-same}
+use Rattle.search.specs.Promises.{Unique, SameWhereRead, Holding, FoundSmallest, NoneMeansNone, FullNeedsRoom, LargerSame}
+use Rattle.checks.proofs.Passing.{search-passes, decided-same}
 
 -- ---- any two results for the same input are equal
 
@@ -97,9 +96,6 @@ module _ {i : Input} {t : Cols} where
 -- (a) of document 01's "How tight the statements have to be"
 pub search-unique : Unique
 search-unique i t a b u v p q = unique a b u v p q
-
-pub passes-whole : PassesWhole
-passes-whole i t = (λ d. (search-passes i t d, room-there i t d), λ w. not-refused i t (w .0) (w .1))
 
 -- the answers to two inputs whose walks are one, where neither is a refusal
 same-answers : (i j : Input) (t : Cols) (a b : SearchAnswer) (u v : Cols) → search i ≡ search j → said a .number ≡ 0 → said b .number ≡ 0

@@ -31,11 +31,12 @@ use Rattle.order.proofs.Rest.{step-left, end-left}
 use Rattle.table.specs.declared.Known.{Known}
 use Rattle.table.specs.declared.Known.the-variants.{At, New}
 use Rattle.table.proofs.Known.{the-type as known-type}
-use Rattle.table.specs.Rows.{MasksAnswer}
+use Rattle.rows.specs.Rows.{MasksAnswer}
+use Rattle.rows.specs.Formulas.{nothing, Masks}
+use Rattle.rows.proofs.Matrices.{length-map, masks-made}
+use Rattle.rows.proofs.Products.{place-end}
 use Rattle.table.specs.Compare.{agreeing, KnownAnswer}
-use Rattle.table.specs.Formulas.{nothing, Masks, Holds, RoomAt}
-use Rattle.table.proofs.Matrices.{length-map, masks-made}
-use Rattle.table.proofs.Products.{place-end}
+use Rattle.table.specs.Formulas.{Holds, RoomAt}
 use Rattle.search.specs.declared.given.Given.{Given}
 use Rattle.search.specs.declared.turns.Point.{Point}
 use Rattle.search.specs.declared.turns.Stand.the-variants.{Going, Found, Full}

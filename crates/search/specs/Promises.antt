@@ -1,46 +1,24 @@
 -- What is promised of every answer of the search, whatever the input: the mission's demand 3, in terms of the reading. `u` is what the lent slices
--- hold after the search, `t` what they held before. Each is proved under its name in proofs/Promises: search-unique, passes-whole,
+-- hold after the search, `t` what they held before. Each is proved under its name in proofs/Promises: search-unique,
 -- found-smallest and so on.
 -- Assumes nothing.
 use mathlib.Core.Path.{_≡_}
-use mathlib.Core.Logic.{_↔_}
-use Prim.Native.Nat.{ℕ, _+_, _*_, _≤_}
+use Prim.Native.Nat.{ℕ, _+_}
 use lib.ListN.{length}
 use Rattle.formula.specs.declared.kinds.Node.{Node}
 use Rattle.formula.specs.Kinds.{nodeOf}
-use Rattle.rules.specs.Refusals.{Decided}
-use Rattle.walk.specs.Input.{Input, Passes}
+use Rattle.walk.specs.Input.{Input}
 use Rattle.walk.specs.Promises.{Table, NoneBelow, Kept, AgreeWhereRead, Wider}
 use Rattle.walk.specs.Promises as walk
 use Rattle.search.specs.declared.SearchAnswer.{SearchAnswer}
 use Rattle.search.specs.declared.SearchAnswer.the-variants.{Found, None, Full}
 use Rattle.search.specs.Table.{Cols, tableOver}
-use Rattle.checks.specs.Refusals.{searchRows}
+use Rattle.checks.specs.Promises.{DataThere}
 use Rattle.search.specs.Search.{said, Searched}
 
 -- document 01's "Any pair of results allowed for the same input is shown equal"
 abbrev pub Unique : Type 0
 Unique = (i : Input) (t : Cols) (a b : SearchAnswer) (u v : Cols) → Searched i t a u → Searched i t b v → (a ≡ b) × (u ≡ v)
-
--- ---- the mission's "input that passes the checks"
-
--- the table's lent slices are no shorter than document 01's "C x r, C" ask
-pub record RoomThere (i : Input) (t : Cols) : Type 0 where
-  pub codes : i .room ≤ length (t .codes)
-  pub lefts : i .room ≤ length (t .lefts)
-  pub rights : i .room ≤ length (t .rights)
-  pub sizes : i .room ≤ length (t .sizes)
-  pub matrices : i .room * i .recording .sessions ≤ length (t .matrices)
-
--- no row is given exactly where the input passes the walk's checks and the lent slices have room
-abbrev pub PassesWhole : Type 0
-PassesWhole = (i : Input) (t : Cols) → Decided (searchRows i t) 0 ↔ (Passes i × RoomThere i t)
-
--- marks, lengths and words are as long as they are read
-pub record DataThere (i : Input) : Type 0 where
-  pub marks : i .recording .sessions ≤ length (i .recording .marks)
-  pub lengths : i .recording .sessions ≤ length (i .recording .lengths)
-  pub words : i .recording .propositions * i .recording .sessions ≤ length (i .recording .words)
 
 -- what lies beyond is not looked at: inputs that agree where they are read have one result, a refusal too
 abbrev pub SameWhereRead : Type 0

@@ -18,7 +18,8 @@ use Rattle.order.specs.declared.Cursor.{Cursor}
 use Rattle.order.specs.Size.{Cand, Layer, layerOf, start}
 use Rattle.order.specs.Ahead.{rest, first, leafCursor}
 use Rattle.order.specs.Starts.{startsOf}
-use Rattle.table.specs.Formulas.{nothing, matrixAt, Holds}
+use Rattle.table.specs.Formulas.{Holds}
+use Rattle.rows.specs.Formulas.{nothing, matrixAt}
 use Rattle.search.specs.declared.given.Given.{Given}
 use Rattle.search.specs.declared.SearchAnswer.{SearchAnswer}
 use Rattle.search.specs.declared.SearchAnswer.the-variants as answer

@@ -88,7 +88,7 @@ pub(crate) fn go_on(
     let room = given.room;
     let constants = given.constants;
     let mut masks = [0u64; rules::SESSIONS];
-    table::masks_of(r, lengths, &mut masks);
+    rows::masks_of(r, lengths, &mut masks);
     let mut rows = [0u64; rules::SESSIONS];
     let mut s = from.size;
     let mut at = from.at;
@@ -115,7 +115,7 @@ pub(crate) fn go_on(
         };
         n += 1;
         at = next;
-        table::rows_of(r, m, &masks, words, matrices, code, left, right, &mut rows);
+        rows::rows_of(r, m, &masks, words, matrices, code, left, right, &mut rows);
         let node = Node {
             code,
             left,

@@ -2,14 +2,18 @@
 -- Assumes nothing.
 use mathlib.Core.Path.{_≡_, sym, _∙_}
 use mathlib.Core.List.{List}
-use Prim.Native.Nat.{ℕ, _+_, _*_, _≤_, _<_}
+use Prim.Native.Nat.{ℕ, _+_, _-_, _*_, _≤_, _<_}
 use native.Mathlib.Nat.{lt-of-not-le}
 use native.Mathlib.Omega.{arith}
-use lib.ListN.{length, getD}
+use lib.ListN.{length, getD, take, drop}
 use Rattle.table.specs.Compare.{Same, CompareAsk, KnownAsk}
-use Rattle.table.specs.Inner.{part, FirstDiffers}
-use Rattle.table.proofs.Parts.{part-at}
-use Rattle.table.proofs.Products.{place-end}
+use Rattle.rows.proofs.Parts.{part-at}
+use Rattle.rows.proofs.Products.{place-end}
+use Rattle.table.specs.Inner.{FirstDiffers}
+
+-- the words of a slice from a word on
+abbrev part : List ℕ → ℕ → List ℕ
+part s a = take (length s - a) (drop a s)
 
 pub place-ask : {r : ℕ} {matrices rows : List ℕ} {kept p : ℕ} → KnownAsk r matrices rows kept → p < kept → CompareAsk r matrices rows p
 place-ask {r} {kept = kept} {p = p} a h = record {

@@ -13,7 +13,7 @@ use Rattle.walk.specs.Promises.{Table}
 use Rattle.walk.proofs.Reading.{lawful}
 use Rattle.table.specs.declared.Known.the-variants.{At, New}
 use Rattle.table.specs.Compare.{Same, KnownAsk}
-use Rattle.table.specs.Formulas.{matrixAt, Stored}
+use Rattle.rows.specs.Formulas.{matrixAt, Stored}
 use Rattle.table.specs.Promises.{KnownIsKnown}
 
 module _ (i : Input) where

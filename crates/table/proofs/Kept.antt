@@ -16,10 +16,11 @@ use Rattle.walk.specs.Input.{Input, row}
 use Rattle.walk.specs.Promises.{Table}
 use Rattle.table.specs.Slices.{Cols, tableOver}
 use Rattle.table.specs.Keep.{KeepAsk, keptAt}
-use Rattle.table.specs.Formulas.{nothing, matrixAt, Fine, Holds, RoomAt}
+use Rattle.rows.specs.Formulas.{nothing, matrixAt, Fine}
+use Rattle.table.specs.Formulas.{Holds, RoomAt}
 use Rattle.table.specs.Promises.{HeldIsStored, KeepGrows}
-use Rattle.table.proofs.Matrices.{length-map}
-use Rattle.table.proofs.Products.{place-end}
+use Rattle.rows.proofs.Matrices.{length-map}
+use Rattle.rows.proofs.Products.{place-end}
 
 -- ---- contents at the front
 

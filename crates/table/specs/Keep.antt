@@ -8,7 +8,8 @@ use lib.ListN.{length, set}
 use lib.Seq.{paste}
 use Rattle.rules.specs.Limits.{mostSessions}
 use Rattle.formula.specs.Nodes.{Node}
-use Rattle.table.specs.Slices.{Cols, cols, Told}
+use Rattle.rows.specs.Rows.{Told}
+use Rattle.table.specs.Slices.{Cols, cols}
 
 -- there are r rows, and the place is one of each slice
 pub record KeepAsk (r : ℕ) (rows : List ℕ) (place : ℕ) (t : Cols) : Type 0 where

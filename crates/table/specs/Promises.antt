@@ -1,5 +1,5 @@
--- What the table's contracts come to in the walk's terms, for an input that passes the checks. Each is proved under its name in proofs/: rows-made,
--- agrees-separating, known-is-known, keep-grows, held-is-stored, made-fine.
+-- What the table's contracts come to in the walk's terms, for an input that passes the checks. Each is proved under its name in proofs/:
+-- agrees-separating (Acceptance), known-is-known (Duplicates), held-is-stored and keep-grows (Kept).
 -- Assumes nothing.
 use mathlib.Core.Path.{_≡_}
 use mathlib.Core.Bool.{Bool, true, false}
@@ -10,29 +10,13 @@ use Rattle.walk.specs.Walk.{Candidate}
 use Rattle.walk.specs.Walk as walk
 use Rattle.walk.specs.Input.{Input, Passes, separating, offer}
 use Rattle.walk.specs.Promises.{Table}
+use Rattle.rows.specs.Formulas.{Fine, Stored}
 use Rattle.table.specs.declared.Known.{Known}
 use Rattle.table.specs.declared.Known.the-variants.{At, New}
 use Rattle.table.specs.Slices.{Cols}
-use Rattle.table.specs.Rows.{MasksAnswer, RowsAnswer}
 use Rattle.table.specs.Compare.{agreeing, KnownAnswer}
 use Rattle.table.specs.Keep.{KeepAnswer}
-use Rattle.table.specs.Formulas.{Makes, made, Fine, Stored, Masks, Holds, RoomAt}
-
--- the masks are written
-abbrev pub MasksMade : Type 0
-MasksMade = (i : Input) → Passes i → (old new : List ℕ) (b : Bool) → i .recording .sessions ≤ length old → MasksAnswer (i .recording .sessions) (i .recording .lengths) old new b
-    → (b ≡ true) × Masks i new
-
--- the rows written are the candidate's matrix
-abbrev pub RowsMade : Type 0
-RowsMade = (i : Input) → Passes i → (k : Table) (masks matrices old new : List ℕ) → Masks i masks → Stored i k matrices → i .recording .sessions ≤ length old
-    → (code left right : ℕ) (c : Makes (i .recording .propositions) (length k) code left right) (b : Bool)
-    → RowsAnswer (i .recording .sessions) (i .recording .propositions) masks (i .recording .words) matrices code left right old new b
-    → (b ≡ true) × (length new ≡ length old) × (take (i .recording .sessions) new ≡ made i k c)
-
--- a candidate's matrix has a well-formed word for each session
-abbrev pub MadeFine : Type 0
-MadeFine = (i : Input) → Passes i → (k : Table) (m kept code left right : ℕ) (c : Makes m kept code left right) → m ≤ i .recording .propositions → Fine i (made i k c)
+use Rattle.table.specs.Formulas.{Holds, RoomAt}
 
 -- acceptance is the walk's
 abbrev pub AgreesSeparating : Type 0

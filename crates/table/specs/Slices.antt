@@ -1,6 +1,5 @@
 -- The lent slices of a table, and the kept formulas in them.
 -- Assumes nothing.
-use mathlib.Core.Bool.{Bool, true, false}
 use mathlib.Core.List.{List, map, flatMap}
 use Prim.Native.Nat.{ℕ}
 use Rattle.rules.specs.Answers.{over}
@@ -28,9 +27,3 @@ tableOver k t = record {
   sizes = over (map (λ c. c .node .size) k) (t .sizes);
   matrices = over (flatMap (λ c. c .matrix) k) (t .matrices);
 }
-
--- what a function of the table answers: true where it was asked for what it can do, and then that is done; false in every other case, and then
--- nothing was written
-abbrev pub Told : Type 0 → Type 0 → Type 0 → Bool → Type 0
-Told asked done untouched true = asked × done
-Told asked done untouched false = (asked → ⊥) × untouched

@@ -1,21 +1,14 @@
-// The table of a search in lent slices (cm.rs, cache.rs): a candidate's matrix, its acceptance against the marks, its comparison with the kept ones, and
-// keeping it. Every function tests the numbers that it is handed, once, and says so where they are out of range; the loops behind it are private.
-mod binary;
-mod leaves;
-mod masks;
+// The table of a search in lent slices (cm.rs, cache.rs): a matrix's acceptance against the marks, its comparison with the kept ones, and keeping it.
+// Every function tests the numbers that it is handed, once, and says so where they are out of range; the loops behind it are private.
 mod store;
 mod tests;
-mod unary;
 
 use formula::kinds::Node;
 use rules::kinds::Place;
 use rules::kinds::Session;
-use sequence::operators::Group;
-use sequence::operators::operator_of;
 ghost use mathlib.Core.Path.{_≡_};
 ghost use Rattle.formula.specs.Kinds.{nodeOf};
 ghost use Rattle.table.specs.Slices.{cols};
-ghost use Rattle.table.specs.Rows.{MasksAnswer, RowsAnswer};
 ghost use Rattle.table.specs.Compare.{agreeing, CompareAnswer, KnownAnswer};
 ghost use Rattle.table.specs.Keep.{KeepAnswer};
 
@@ -30,55 +23,6 @@ pub enum Compared {
 pub enum Known {
     At(Place),
     New,
-}
-
-// Writes the masks of r sessions, once for a search. False where r is above the most sessions or a slice is shorter.
-pub fn masks_of(r: usize, lengths: &[u8], masks: &mut [u64]) -> bool
-    ensures { λ b. ⌜ MasksAnswer r (now (lengths .entry)) (now (masks .entry)) (now (masks .exit)) b ⌝ }
-{
-    if rules::SESSIONS < r {
-        return false;
-    }
-    if lengths.len() < r {
-        return false;
-    }
-    if masks.len() < r {
-        return false;
-    }
-    masks::fill(r, lengths, masks);
-    true
-}
-
-// Writes the matrix of the candidate with that code, left and right field: the operator's words over those of its children, which are kept, or a
-// leaf's. False where the code is no operator's and no leaf's, or what it reads isn't there.
-pub fn rows_of(
-    r: usize,
-    m: usize,
-    masks: &[u64],
-    words: &[u64],
-    matrices: &[u64],
-    code: u8,
-    left: Place,
-    right: Place,
-    rows: &mut [u64],
-) -> bool
-    ensures { λ b. ⌜ RowsAnswer r m (now (masks .entry)) (now (words .entry)) (now (matrices .entry)) code (left .0) (right .0) (now (rows .entry)) (now (rows .exit)) b ⌝ }
-{
-    if rules::SESSIONS < r {
-        return false;
-    }
-    if masks.len() < r {
-        return false;
-    }
-    if rows.len() < r {
-        return false;
-    }
-    let group = operator_of(code).group;
-    match group {
-        Group::Unary => unary::rows_of(r, masks, matrices, code, left, rows),
-        Group::Binary => binary::rows_of(r, masks, matrices, code, left, right, rows),
-        Group::Neither => leaves::rows_of(r, m, masks, words, code, left, rows),
-    }
 }
 
 // Whether exactly the sessions marked 1 accept (is_equivalent in cm.rs). False where r is above the most sessions or a slice is shorter.

@@ -11,10 +11,10 @@ of-file-requires : tie.Need-of-file-requires
 of-file-requires c κs = search needs
 
 array-share-prefix-text : tie.Need-array-share-prefix-text
-array-share-prefix-text c = lines-in (c .of_file .ensures)
+array-share-prefix-text c = lines-in (c .of-file .ensures)
 
 slice-aggregate-write-all : tie.Need-slice-aggregate-write-all
-slice-aggregate-write-all c = sym (length-take-le _ _ (lines-in (c .before .of_file .ensures)))
+slice-aggregate-write-all c = sym (length-take-le _ _ (lines-in (c .before .of-file .ensures)))
 
 write-all-requires : tie.Need-write-all-requires
 write-all-requires c κs = search needs

@@ -14,10 +14,10 @@ write-all-requires : tie.Need-write-all-requires
 write-all-requires c κs = search needs
 
 array-share-prefix-text : tie.Need-array-share-prefix-text
-array-share-prefix-text c = lines-in (c .before .of_file .ensures)
+array-share-prefix-text c = lines-in (c .before .of-file .ensures)
 
 slice-aggregate-write-all : tie.Need-slice-aggregate-write-all
-slice-aggregate-write-all c = sym (length-take-le _ _ (lines-in (c .before .before .of_file .ensures)))
+slice-aggregate-write-all c = sym (length-take-le _ _ (lines-in (c .before .before .of-file .ensures)))
 
 write-all-requires-2 : tie.Need-write-all-requires-2
 write-all-requires-2 c κs = search needs

@@ -7,7 +7,7 @@ use borrow.Author.Needs.{needs}
 use Rattle.rules.specs.Limits.{mostSessions}
 use Rattle.table.specs.Compare.{CompareAsk, Same}
 use Rattle.table.proofs.Comparing.{same-below, differs-here}
-use Rattle.table.proofs.Products.{at-most}
+use Rattle.rows.proofs.Products.{at-most}
 use Rattle.table.proofs.compare.Statement.{statement}
 use Rattle.table.proofs.compare.Tie as tie
 

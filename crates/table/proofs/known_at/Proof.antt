@@ -3,7 +3,7 @@
 use native.Mathlib.Omega.{arith}
 use borrow.Author.Needs.{needs}
 use Rattle.rules.specs.Limits.{mostSessions, mostRoom}
-use Rattle.table.proofs.Products.{at-most}
+use Rattle.rows.proofs.Products.{at-most}
 use Rattle.table.proofs.known_at.Statement.{statement}
 use Rattle.table.proofs.known_at.Tie as tie
 

@@ -8,9 +8,9 @@ use borrow.Author.Count.{below-more}
 use borrow.Author.Needs.{needs}
 use Rattle.rules.specs.Limits.{mostSessions, mostRoom}
 use Rattle.table.specs.Compare.{Same}
-use Rattle.table.proofs.Parts.{part-long}
+use Rattle.rows.proofs.Parts.{part-long}
 use Rattle.table.proofs.Comparing.{place-ask, same-below, not-same}
-use Rattle.table.proofs.Products.{place-end, next-row, at-most}
+use Rattle.rows.proofs.Products.{place-end, next-row, at-most}
 use Rattle.table.proofs.tests.first_equal.Statement.{statement}
 use Rattle.table.proofs.tests.first_equal.Tie as tie
 

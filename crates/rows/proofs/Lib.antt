@@ -1,0 +1,8 @@
+-- Laws of a candidate's rows, by subject.
+pub mod Filling
+pub mod Products
+pub mod Parts
+pub mod Groups
+pub mod Candidates
+pub mod Matrices
+pub mod Unique
