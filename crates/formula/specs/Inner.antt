@@ -6,8 +6,9 @@ use mathlib.Core.Logic.{_↔_}
 use mathlib.Core.List.{List}
 use Prim.Native.Nat.{ℕ, _+_, _*_, _≤_, _<_}
 use lib.ListN.{length, getD}
-use Rattle.words.specs.Ltlf.{AcceptsAt}
-use Rattle.words.specs.Word.{width, At, Wf, Means}
+use Rattle.words.specs.Word.{width, At, Wf}
+use Rattle.sequence.specs.declared.CharSeq.{CharSeq}
+use Rattle.sequence.specs.Sequence.{Accepts, Denotes}
 use Rattle.sequence.specs.Operators.{Unary, Binary, unaryCode, binaryCode}
 use Rattle.formula.specs.Formula.{Leaf, proposition, constant, Formula, Trace, Holds}
 use Rattle.formula.specs.Nodes.{Node, nodeAt, Spells, codes, leafCode, leafNumber}
@@ -62,15 +63,15 @@ pub record Ready (n : ℕ) (words : List ℕ) (from : ℕ) (k : List Node) (belo
   pub within : below ≤ length k
   pub fits : Fits propositions k below node
 
--- what it answers: the word of whatever formula the node spells
-abbrev pub Evaluated : ℕ → List ℕ → ℕ → List Node → Node → ℕ → Type 0
-Evaluated n words from k node r = (t : Formula) → Spells codes k node t → Means n r (Holds (traceAt n words from) t)
+-- what it answers: the sequence of whatever formula the node spells
+abbrev pub Evaluated : ℕ → List ℕ → ℕ → List Node → Node → CharSeq → Type 0
+Evaluated n words from k node r = (t : Formula) → Spells codes k node t → Denotes n (Holds (traceAt n words from) t) r
 
 -- ---- the check
 
--- what a session's word says, where `word` is the formula's
-abbrev pub AgreesWord : ℕ → ℕ → ℕ → Bool → Type 0
-AgreesWord mark n word r = (r ≡ true) ↔ ((mark ≡ 1) ↔ AcceptsAt n (At word))
+-- what a session says, where s is the formula's sequence there
+abbrev pub AgreesSeq : ℕ → CharSeq → Bool → Type 0
+AgreesSeq mark s r = (r ≡ true) ↔ ((mark ≡ 1) ↔ Accepts s)
 
 -- the session data and the list have passed
 pub record Checkable (i : Recording) (k : List Node) (root : Node) : Type 0 where
