@@ -25,8 +25,9 @@ use Rattle.rules.specs.Lists.{count}
 use Rattle.session.specs.Recording.{Recording, markOf, lengthOf, wordOf}
 use Rattle.formula.specs.Recorded.{markedTrace, markedTraces}
 use Rattle.formula.specs.Rule.{Broken, brokenList}
-use Rattle.formula.specs.Check.{checkRows, Agrees, Outcome}
-use Rattle.formula.specs.Inner.{Fits, traceAt, Ready, Evaluated, AgreesSeq, Checkable, Found}
+use Rattle.formula.specs.Check.{saidVerdict, checkRows, Agrees, Outcome, CheckAnswer}
+use Rattle.formula.specs.declared.Verdict.{Verdict}
+use Rattle.formula.specs.Inner.{Fits, traceAt, Ready, Evaluated, AgreesSeq, Checkable, Found, VerdictOn}
 use Rattle.formula.proofs.Faults.{whole-fits}
 use Rattle.formula.proofs.Spelled.{spelled}
 
@@ -163,10 +164,15 @@ module _ (i : Recording) (k : List Node) (root : Node) (c : Checkable i k root) 
   formula : (t : Formula) × Spells codes k root t
   formula = spelled (i .propositions) k (c .all) (length k) (omega arith) root (c .fits)
 
-  pub names-session : j < i .sessions → (t : Formula) × Spells codes k root t × Outcome i t (0 ∷ j ∷ [])
+  names-session : j < i .sessions → (t : Formula) × Spells codes k root t × Outcome i t (0 ∷ j ∷ [])
   names-session h =
       let t = formula in
       (t .0, t .1, inr (j, record { there = h; disagrees = f .here (t .0) (t .1) h; before = f .before (t .0) (t .1) }, refl))
 
-  pub accepts-formula : i .sessions ≤ j → (t : Formula) × Spells codes k root t × Outcome i t (1 ∷ [])
+  accepts-formula : i .sessions ≤ j → (t : Formula) × Spells codes k root t × Outcome i t (1 ∷ [])
   accepts-formula h = let t = formula in (t .0, t .1, inl (all-agree i (t .0) (λ g l. f .before (t .0) (t .1) g (omega arith)), refl))
+
+  -- whatever the verdict, where no row is given
+  pub verdict-answers : Decided (checkRows i k root) 0 → (v : Verdict) → VerdictOn (i .sessions) j v → CheckAnswer i k root (saidVerdict v)
+  verdict-answers d v (inl (h, e)) = subst (CheckAnswer i k root) (sym e) (record { number = d; refused = λ n. absurd (n refl); passed = λ z. names-session h })
+  verdict-answers d v (inr (h, e)) = subst (CheckAnswer i k root) (sym e) (record { number = d; refused = λ n. absurd (n refl); passed = λ z. accepts-formula h })

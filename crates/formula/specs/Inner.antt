@@ -2,8 +2,8 @@
 -- Assumes nothing.
 use mathlib.Core.Path.{_≡_}
 use mathlib.Core.Bool.{Bool, true, false}
-use mathlib.Core.Logic.{_↔_}
-use mathlib.Core.List.{List}
+use mathlib.Core.Logic.{_↔_, _⊎_}
+use mathlib.Core.List.{List, [], _∷_}
 use Prim.Native.Nat.{ℕ, _+_, _*_, _≤_, _<_}
 use lib.ListN.{length, getD}
 use Rattle.words.specs.Word.{width, At, Wf}
@@ -17,7 +17,8 @@ use Rattle.formula.specs.Recorded.{markedTrace}
 use Rattle.rules.specs.Limits.{mostSize}
 use Rattle.rules.specs.Kinds.{mostNumber}
 use Rattle.formula.specs.Rule.{Fault}
-use Rattle.formula.specs.Check.{Agrees}
+use Rattle.formula.specs.Check.{saidVerdict, Agrees}
+use Rattle.formula.specs.declared.Verdict.{Verdict}
 
 abbrev pub LeafIn : ℕ → Leaf → Type 0
 LeafIn m (proposition p) = p < m
@@ -89,3 +90,9 @@ pub record Found (i : Recording) (k : List Node) (root : Node) (j : ℕ) : Type 
   pub upto : j ≤ i .sessions
   pub before : (t : Formula) → Spells codes k root t → (h : ℕ) → h < j → Agrees (markedTrace i h) t
   pub here : (t : Formula) → Spells codes k root t → j < i .sessions → Agrees (markedTrace i j) t → ⊥
+
+-- the verdict, where j is the first of so many sessions that disagrees, or their number
+abbrev pub VerdictOn : ℕ → ℕ → Verdict → Type 0
+VerdictOn sessions j v =
+    ((j < sessions) × (saidVerdict v ≡ record { number = 0; values = 0 ∷ j ∷ [] }))
+    ⊎ ((sessions ≤ j) × (saidVerdict v ≡ record { number = 0; values = 1 ∷ [] }))

@@ -76,7 +76,7 @@ const OPERATORS: [Operator; COUNT] = [
         token: [b'-', b'>', 0, 0],
         bytes: 2,
         group: Group::Binary,
-        commutes: false,
+        commutes: false, // p -> q and q -> p differ
     },
     Operator {
         token: [b'<', b'-', b'>', 0],
