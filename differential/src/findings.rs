@@ -216,5 +216,6 @@ pub fn run() -> i32 {
     acceptance();
     matrices();
     crate::search::findings();
+    crate::search::beyond();
     0
 }

@@ -3,6 +3,7 @@ use crate::bytes::bytes_left;
 use crate::bytes::word_at;
 use reading::Step;
 use reading::byte_within;
+use sequence::Answer;
 use sequence::CharSeq;
 ghost use mathlib.Core.Path.{_≡_};
 ghost use mathlib.Core.List.{[]};
@@ -19,11 +20,10 @@ pub(crate) fn is_clear(n: usize, w: u64) -> bool
     requires { ⌜ n ≤ width ⌝ }
     ensures { λ r. ⌜ r ≡ ltb w (2 ^ n) ⌝ }
 {
-    let word = CharSeq {
-        length: n,
-        values: w,
+    let Answer::Sequence(_) = CharSeq::new(n, w) else {
+        return false;
     };
-    word.is_well_formed()
+    true
 }
 
 // The word at an offset, of a session of length n.

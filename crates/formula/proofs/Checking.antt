@@ -1,4 +1,4 @@
--- The analyst's check: what the tests of session data give, a session's agreement by its word, and the sessions one after the other.
+-- The analyst's check: what the tests of session data give, a session's agreement by its sequence, and the sessions one after the other.
 -- Assumes nothing.
 use mathlib.Core.Path.{_≡_, refl, sym, subst}
 use mathlib.Core.Logic.{_↔_, _⊎_, inl, inr, ⊎-elim, Iff·trans}
@@ -10,8 +10,11 @@ use native.Mathlib.Numerals.{add-one}
 use native.Mathlib.Omega.{arith}
 use lib.Dec.{lit<}
 use lib.ListN.{length, getD}
-use Rattle.words.specs.Word.{width, Wf, Means}
+use Rattle.words.specs.Ltlf.{AcceptsAt}
+use Rattle.words.specs.Word.{width, Wf}
 use Rattle.words.proofs.At.{not-at}
+use Rattle.sequence.specs.declared.CharSeq.{CharSeq}
+use Rattle.sequence.specs.Sequence.{Accepts, Denotes}
 use Rattle.rules.specs.Refusals.{Row, Decided, firstOf}
 use Rattle.rules.proofs.Refusals.{Numbered, decided-none, decided-both}
 use Rattle.session.specs.Data.{dataRows}
@@ -22,12 +25,13 @@ use Rattle.rules.specs.Lists.{count}
 use Rattle.session.specs.Recording.{Recording, markOf, lengthOf, wordOf}
 use Rattle.formula.specs.Recorded.{markedTrace, markedTraces}
 use Rattle.formula.specs.Rule.{Broken, brokenList}
-use Rattle.formula.specs.Check.{checkRows, Agrees, Outcome}
-use Rattle.formula.specs.Inner.{Fits, traceAt, Ready, Evaluated, AgreesWord, Checkable, Found}
+use Rattle.formula.specs.Check.{saidVerdict, checkRows, Agrees, Outcome, CheckAnswer}
+use Rattle.formula.specs.declared.Verdict.{Verdict}
+use Rattle.formula.specs.Inner.{Fits, traceAt, Ready, Evaluated, AgreesSeq, Checkable, Found, VerdictOn}
 use Rattle.formula.proofs.Faults.{whole-fits}
 use Rattle.formula.proofs.Spelled.{spelled}
 
--- ---- a session's word
+-- ---- a session's sequence
 
 module _ {mark : ℕ} {P : Type 0} where
   pub marked-good : (a : Bool) → (a ≡ true) ↔ P → mark ≡ 1 → (a ≡ true) ↔ ((mark ≡ 1) ↔ P)
@@ -40,16 +44,17 @@ module _ {mark : ℕ} {P : Type 0} where
   bad-rejects p n = (λ h. (λ m. absurd (n m), λ q. absurd (p q)), λ q. refl)
 
 module _ (i : Recording) (k : List Node) (root : Node) where
-  -- the word of session j says whether the session agrees
-  pub agrees-word : (j from w : ℕ) (b : Bool) → from ≡ j * i .propositions → Evaluated (lengthOf i j) (i .words) from k root w
-      → AgreesWord (markOf i j) (lengthOf i j) w b → (t : Formula) → Spells codes k root t → (b ≡ true) ↔ Agrees (markedTrace i j) t
-  agrees-word j from w b e ev a t s =
-      let m : Means (lengthOf i j) w (Holds (markedTrace i j .trace) t) =
-      subst (λ (f : ℕ). Means (lengthOf i j) w (Holds (traceAt (lengthOf i j) (i .words) f) t)) e (ev t s) in
-      Iff·trans a (
-        λ q. (λ n. let p = q .0 n in (p .0, m .holds 0 (p .0) .0 (p .1)), λ p. q .1 (p .0, m .holds 0 (p .0) .1 (p .1))),
-        λ q. (λ n. let p = q .0 n in (p .0, m .holds 0 (p .0) .1 (p .1)), λ p. q .1 (p .0, m .holds 0 (p .0) .0 (p .1))),
-      )
+  -- the formula's sequence at session j says whether the session agrees
+  pub agrees-seq : (j from : ℕ) (w : CharSeq) (b : Bool) → from ≡ j * i .propositions → Evaluated (lengthOf i j) (i .words) from k root w
+      → AgreesSeq (markOf i j) w b → (t : Formula) → Spells codes k root t → (b ≡ true) ↔ Agrees (markedTrace i j) t
+  agrees-seq j from w b e ev a t s =
+      let d : Denotes (lengthOf i j) (Holds (markedTrace i j .trace) t) w =
+      subst (λ (f : ℕ). Denotes (lengthOf i j) (Holds (traceAt (lengthOf i j) (i .words) f) t) w) e (ev t s) in
+      let same : Accepts w ↔ AcceptsAt (lengthOf i j) (Holds (markedTrace i j .trace) t) = (
+        λ p. let h : 0 < lengthOf i j = omega (arith, d .length, p .0) in (h, d .means .holds 0 h .0 (p .1)),
+        λ p. (omega (arith, d .length, p .0), d .means .holds 0 (p .0) .1 (p .1)),
+      ) in
+      Iff·trans a (λ q. (λ n. same .0 (q .0 n), λ p. q .1 (same .1 p)), λ q. (λ n. same .1 (q .0 n), λ p. q .1 (same .0 p)))
 
   pub words-room : Checkable i k root → (j from : ℕ) → j < i .sessions → from ≡ j * i .propositions → from + i .propositions ≤ length (i .words)
   words-room c j from h e =
@@ -159,10 +164,15 @@ module _ (i : Recording) (k : List Node) (root : Node) (c : Checkable i k root) 
   formula : (t : Formula) × Spells codes k root t
   formula = spelled (i .propositions) k (c .all) (length k) (omega arith) root (c .fits)
 
-  pub names-session : j < i .sessions → (t : Formula) × Spells codes k root t × Outcome i t (0 ∷ j ∷ [])
+  names-session : j < i .sessions → (t : Formula) × Spells codes k root t × Outcome i t (0 ∷ j ∷ [])
   names-session h =
       let t = formula in
       (t .0, t .1, inr (j, record { there = h; disagrees = f .here (t .0) (t .1) h; before = f .before (t .0) (t .1) }, refl))
 
-  pub accepts-formula : i .sessions ≤ j → (t : Formula) × Spells codes k root t × Outcome i t (1 ∷ [])
+  accepts-formula : i .sessions ≤ j → (t : Formula) × Spells codes k root t × Outcome i t (1 ∷ [])
   accepts-formula h = let t = formula in (t .0, t .1, inl (all-agree i (t .0) (λ g l. f .before (t .0) (t .1) g (omega arith)), refl))
+
+  -- whatever the verdict, where no row is given
+  pub verdict-answers : Decided (checkRows i k root) 0 → (v : Verdict) → VerdictOn (i .sessions) j v → CheckAnswer i k root (saidVerdict v)
+  verdict-answers d v (inl (h, e)) = subst (CheckAnswer i k root) (sym e) (record { number = d; refused = λ n. absurd (n refl); passed = λ z. names-session h })
+  verdict-answers d v (inr (h, e)) = subst (CheckAnswer i k root) (sym e) (record { number = d; refused = λ n. absurd (n refl); passed = λ z. accepts-formula h })

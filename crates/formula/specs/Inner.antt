@@ -2,12 +2,13 @@
 -- Assumes nothing.
 use mathlib.Core.Path.{_≡_}
 use mathlib.Core.Bool.{Bool, true, false}
-use mathlib.Core.Logic.{_↔_}
-use mathlib.Core.List.{List}
+use mathlib.Core.Logic.{_↔_, _⊎_}
+use mathlib.Core.List.{List, [], _∷_}
 use Prim.Native.Nat.{ℕ, _+_, _*_, _≤_, _<_}
 use lib.ListN.{length, getD}
-use Rattle.words.specs.Ltlf.{AcceptsAt}
-use Rattle.words.specs.Word.{width, At, Wf, Means}
+use Rattle.words.specs.Word.{width, At, Wf}
+use Rattle.sequence.specs.declared.CharSeq.{CharSeq}
+use Rattle.sequence.specs.Sequence.{Accepts, Denotes}
 use Rattle.sequence.specs.Operators.{Unary, Binary, unaryCode, binaryCode}
 use Rattle.formula.specs.Formula.{Leaf, proposition, constant, Formula, Trace, Holds}
 use Rattle.formula.specs.Nodes.{Node, nodeAt, Spells, codes, leafCode, leafNumber}
@@ -16,7 +17,8 @@ use Rattle.formula.specs.Recorded.{markedTrace}
 use Rattle.rules.specs.Limits.{mostSize}
 use Rattle.rules.specs.Kinds.{mostNumber}
 use Rattle.formula.specs.Rule.{Fault}
-use Rattle.formula.specs.Check.{Agrees}
+use Rattle.formula.specs.Check.{saidVerdict, Agrees}
+use Rattle.formula.specs.declared.Verdict.{Verdict}
 
 abbrev pub LeafIn : ℕ → Leaf → Type 0
 LeafIn m (proposition p) = p < m
@@ -62,15 +64,15 @@ pub record Ready (n : ℕ) (words : List ℕ) (from : ℕ) (k : List Node) (belo
   pub within : below ≤ length k
   pub fits : Fits propositions k below node
 
--- what it answers: the word of whatever formula the node spells
-abbrev pub Evaluated : ℕ → List ℕ → ℕ → List Node → Node → ℕ → Type 0
-Evaluated n words from k node r = (t : Formula) → Spells codes k node t → Means n r (Holds (traceAt n words from) t)
+-- what it answers: the sequence of whatever formula the node spells
+abbrev pub Evaluated : ℕ → List ℕ → ℕ → List Node → Node → CharSeq → Type 0
+Evaluated n words from k node r = (t : Formula) → Spells codes k node t → Denotes n (Holds (traceAt n words from) t) r
 
 -- ---- the check
 
--- what a session's word says, where `word` is the formula's
-abbrev pub AgreesWord : ℕ → ℕ → ℕ → Bool → Type 0
-AgreesWord mark n word r = (r ≡ true) ↔ ((mark ≡ 1) ↔ AcceptsAt n (At word))
+-- what a session says, where s is the formula's sequence there
+abbrev pub AgreesSeq : ℕ → CharSeq → Bool → Type 0
+AgreesSeq mark s r = (r ≡ true) ↔ ((mark ≡ 1) ↔ Accepts s)
 
 -- the session data and the list have passed
 pub record Checkable (i : Recording) (k : List Node) (root : Node) : Type 0 where
@@ -88,3 +90,9 @@ pub record Found (i : Recording) (k : List Node) (root : Node) (j : ℕ) : Type 
   pub upto : j ≤ i .sessions
   pub before : (t : Formula) → Spells codes k root t → (h : ℕ) → h < j → Agrees (markedTrace i h) t
   pub here : (t : Formula) → Spells codes k root t → j < i .sessions → Agrees (markedTrace i j) t → ⊥
+
+-- the verdict, where j is the first of so many sessions that disagrees, or their number
+abbrev pub VerdictOn : ℕ → ℕ → Verdict → Type 0
+VerdictOn sessions j v =
+    ((j < sessions) × (saidVerdict v ≡ record { number = 0; values = 0 ∷ j ∷ [] }))
+    ⊎ ((sessions ≤ j) × (saidVerdict v ≡ record { number = 0; values = 1 ∷ [] }))

@@ -10,16 +10,13 @@ ghost use Prim.Native.Nat.{_≤_, _<_};
 ghost use Rattle.words.specs.Word.{At};
 ghost use Rattle.formula.specs.Kinds.{nodeOf, nodes};
 ghost use Rattle.session.specs.Recording.{recording};
-ghost use Rattle.formula.specs.Inner.{Checkable, Found, AgreesWord};
+ghost use Rattle.formula.specs.Inner.{Checkable, Found, AgreesSeq};
 
-// A session of that mark and length, and a formula's word there.
-fn agrees(mark: u8, length: usize, word: u64) -> bool
-    ensures { λ r. ⌜ AgreesWord mark length word r ⌝ }
+// A session of that mark, and a formula's sequence there.
+fn agrees(mark: u8, seq: CharSeq) -> bool
+    ensures { λ r. ⌜ AgreesSeq mark seq r ⌝ }
 {
-    let accepts = CharSeq {
-        length,
-        values: word,
-    }.accepts();
+    let accepts = seq.accepts();
     if mark == 1 {
         return accepts;
     }
@@ -50,7 +47,7 @@ pub(crate) fn first_disagreeing(
     let mut from: usize = 0;
     while j < r {
         let length = lengths[j] as usize;
-        let word = eval(
+        let seq = eval(
             length,
             words,
             from,
@@ -61,7 +58,7 @@ pub(crate) fn first_disagreeing(
             below,
             root,
         );
-        if agrees(marks[j], length, word) {
+        if agrees(marks[j], seq) {
             from += m;
             j += 1;
         } else {

@@ -1,4 +1,4 @@
-// One session's word of a formula, over a node list that has passed the rule.
+// One session's sequence of a formula, over a node list that has passed the rule.
 use crate::kinds::FALSE;
 use crate::kinds::Node;
 use crate::kinds::PROPOSITION;
@@ -13,8 +13,8 @@ ghost use Rattle.formula.specs.Kinds.{nodeOf, nodes};
 ghost use Rattle.formula.specs.Rule.{IsUnary, IsBinary};
 ghost use Rattle.formula.specs.Inner.{Ready, Evaluated};
 
-// A leaf's word: a proposition's as it was recorded, none for false, and all snapshots for true.
-fn leaf_word(
+// A leaf's sequence: a proposition's as it was recorded, none for false, and all snapshots for true.
+fn leaf(
     length: usize,
     words: &[u64],
     from: usize,
@@ -24,21 +24,28 @@ fn leaf_word(
     sizes: &[u8],
     below: usize,
     node: Node,
-) -> u64
+) -> CharSeq
     requires { ⌜ Ready length (now words) from (nodes (now codes) (now lefts) (now rights) (now sizes)) below (nodeOf node) × (IsUnary (node .code) → ⊥) × (IsBinary (node .code) → ⊥) ⌝ }
     ensures { λ r. ⌜ Evaluated length (now (words .entry)) from (nodes (now (codes .entry)) (now (lefts .entry)) (now (rights .entry)) (now (sizes .entry))) (nodeOf node) r ⌝ }
 {
     if node.code == PROPOSITION {
         let p = Proposition::from_left(node.left).0 as usize;
-        return words[from + p];
+        let word = words[from + p];
+        return CharSeq {
+            length,
+            values: word,
+        };
     }
     if node.code == FALSE {
-        return 0;
+        return CharSeq { length, values: 0 };
     }
-    CharSeq::mask(length)
+    CharSeq {
+        length,
+        values: CharSeq::mask(length),
+    }
 }
 
-// The word of a node: it calls itself on the children, whose places are smaller.
+// The sequence of a node: it calls itself on the children, whose places are smaller.
 pub(crate) fn eval(
     length: usize,
     words: &[u64],
@@ -49,7 +56,7 @@ pub(crate) fn eval(
     sizes: &[u8],
     below: usize,
     node: Node,
-) -> u64
+) -> CharSeq
     requires { ⌜ Ready length (now words) from (nodes (now codes) (now lefts) (now rights) (now sizes)) below (nodeOf node) ⌝ }
     ensures { λ r. ⌜ Evaluated length (now (words .entry)) from (nodes (now (codes .entry)) (now (lefts .entry)) (now (rights .entry)) (now (sizes .entry))) (nodeOf node) r ⌝ }
 {
@@ -69,7 +76,7 @@ pub(crate) fn eval(
                 left,
                 child,
             );
-            operators::unary_word(node.code, x, CharSeq::mask(length))
+            x.unary(node.code)
         }
         Group::Binary => {
             let left = node.left.0 as usize;
@@ -88,9 +95,9 @@ pub(crate) fn eval(
                 right,
                 other,
             );
-            operators::binary_word(node.code, x, y, CharSeq::mask(length))
+            x.binary(node.code, y)
         }
-        Group::Neither => leaf_word(
+        Group::Neither => leaf(
             length,
             words,
             from,

@@ -6,8 +6,11 @@ pub mod nodes;
 
 use kinds::Node;
 use rules::kinds::Session;
+ghost use Prim.Native.Nat.{_≤_};
+ghost use Rattle.rules.specs.Limits.{mostSessions};
 ghost use Rattle.formula.specs.Kinds.{nodeOf, nodes};
 ghost use Rattle.formula.specs.Check.{saidVerdict, CheckAnswer};
+ghost use Rattle.formula.specs.Inner.{VerdictOn};
 ghost use Rattle.session.specs.Recording.{recording};
 
 // What the analyst's check answers.
@@ -15,6 +18,18 @@ pub enum Verdict {
     Accepted,
     Disagrees(Session),
     Refused(u8),
+}
+
+// The verdict, where `first` is the first of r sessions that disagrees, or r.
+fn verdict_on(r: usize, first: usize) -> Verdict
+    requires { ⌜ first ≤ mostSessions ⌝ }
+    ensures { λ v. ⌜ VerdictOn r first v ⌝ }
+{
+    let number = first as u8;
+    if first < r {
+        return Verdict::Disagrees(Session(number));
+    }
+    Verdict::Accepted
 }
 
 // Whether the root's formula separates the marked sessions, and if not, the first session that disagrees.
@@ -52,8 +67,5 @@ pub fn check(
         sizes,
         root,
     );
-    if first < r {
-        return Verdict::Disagrees(Session(first as u8));
-    }
-    Verdict::Accepted
+    verdict_on(r, first)
 }

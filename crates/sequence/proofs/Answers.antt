@@ -7,13 +7,15 @@ use Prim.Native.Nat.{ℕ, _≤_, _<_}
 use native.Mathlib.Decide.{ℕ-discrete}
 use native.Mathlib.Omega.{arith}
 use lib.Dec.{lit<}
-use Rattle.words.specs.Word.{width}
+use Rattle.words.specs.Word.{width, Wf}
 use Rattle.words.proofs.At.{not-at}
 use Rattle.sequence.specs.declared.CharSeq.{CharSeq}
+use Rattle.sequence.specs.declared.Answer.{Answer}
+use Rattle.sequence.specs.declared.Answer.the-variants.{Sequence, Refused}
 use Rattle.sequence.specs.Operators.{Unary, Binary, unaryCode, binaryCode}
 use Rattle.rules.specs.Refusals.{Row, Decided, firstOf}
-use Rattle.sequence.specs.Sequence.{WellFormed, notUnary, notBinary, unequal, illFormed, unaryRows, binaryRows}
-use Rattle.rules.proofs.Refusals.{Numbered, decided-both, decided-none, decided-not}
+use Rattle.sequence.specs.Sequence.{seq, WellFormed, notUnary, notBinary, unequal, illFormed, NewAnswer, unaryRows, binaryRows}
+use Rattle.rules.proofs.Refusals.{Numbered, decided-unique, decided-both, decided-none, decided-not}
 
 -- ---- the rows, part by part
 
@@ -69,3 +71,14 @@ unary-passes op s w = inr (λ h. h op refl, passes s [] w refl)
 pub binary-passes : (op : Binary) (s t : CharSeq) → WellFormed s → WellFormed t → s .length ≡ t .length → Decided (binaryRows (binaryCode op) s t) 0
 unfolding Decided
 binary-passes op s t w u e = inr (λ h. h op refl, passes s (illFormed t ++ (unequal s t ∷ [])) w (passes t (unequal s t ∷ []) u (decided-not (unequal s t) (λ n. n e))))
+
+-- ---- the constructor: its answer tells whether the word is well formed at the length
+
+pub new-passed : {n x : ℕ} {a : Answer} {s : CharSeq} → NewAnswer n x a → a ≡ Sequence s → Wf n x
+new-passed {n} {x} {a} {s} p e = passed (seq n x) [] tt (subst (λ (b : Answer). NewAnswer n x b) e p .0) .0
+
+pub new-refused : {n x k : ℕ} {a : Answer} → NewAnswer n x a → a ≡ Refused k → Wf n x → ⊥
+unfolding Decided
+new-refused {n} {x} {k} {a} p e w =
+    let q = subst (λ (b : Answer). NewAnswer n x b) e p in
+    omega (arith, q .1, decided-unique (illFormed (seq n x)) k 0 (q .0) (passes (seq n x) [] w refl))

@@ -1,17 +1,21 @@
--- A session's mask, and each operator on a bare word cut to the session's length: one law over the operator.
+-- A session's mask, each operator on a bare word cut to the session's length, and the methods of `CharSeq`: one law over the operator each.
 -- Assumes nothing.
-use mathlib.Core.Path.{_≡_, _∙_}
-use Prim.Native.Nat.{ℕ, _-_, _*_, _%_, _^_, _≤_, _<_}
+use mathlib.Core.Path.{_≡_, refl, _∙_}
+use mathlib.Core.Logic.{inl, inr, ⊎-elim}
+use Prim.Native.Nat.{ℕ, _+_, _-_, _*_, _%_, _^_, _≤_, _<_}
 use native.Mathlib.Nat.{lt-of-not-le, lt-of-lt-of-le}
 use native.Mathlib.Omega.{arith}
 use lib.Pow.{ones-lt, pow-mono, shl-exact}
-use Rattle.words.specs.Ltlf.{Not, Implies, Equiv}
+use Rattle.words.specs.Ltlf.{Reading, Not, Implies, Equiv}
 use Rattle.words.specs.Word.{width, At, Wf, Means}
 use Rattle.words.proofs.Bits.{bit-ones, bit-high}
 use Rattle.words.proofs.At.{lt-wf}
 use Rattle.words.proofs.Lengths.{Mask, masked-cut, weak-next-cut, globally-cut, release-cut, strong-next-cut, finally-cut, or-cut, and-cut, until-cut}
 use Rattle.sequence.specs.Operators.{Unary, not, weakNext, strongNext, finally, globally, Binary, or, and, until, release, implies, equiv, unaryReading, binaryReading}
-use Rattle.sequence.specs.Masked.{unaryMasked, binaryMasked}
+use Rattle.sequence.specs.declared.CharSeq.{CharSeq}
+use Rattle.sequence.specs.Sequence.{seq, WellFormed, Denotes}
+use Rattle.sequence.specs.Masked.{unaryMasked, binaryMasked, UnaryOn, BinaryOn}
+use Rattle.sequence.proofs.Agreeing.{Agree, means-agree}
 
 -- `1 << k`, where k is below 64
 pub one-shl : (k : ℕ) → k < width → (1 * 2 ^ k) % 2 ^ width ≡ 2 ^ k
@@ -39,3 +43,54 @@ binary-cut until k w u p = until-cut w u p
 binary-cut release {x = x} {y = y} k w u p = release-cut (w .short) k x y p
 binary-cut implies {x = x} {y = y} k w u p = masked-cut (w .short) k (Implies (At x) (At y)) p
 binary-cut equiv {x = x} {y = y} k w u p = masked-cut (w .short) k (Equiv (At x) (At y)) p
+
+-- ---- a mask as a word, and as the places below a length: an operator looks at it only within the word
+
+module _ {m m′ : Reading} (a : Agree width m m′) where
+  unary-on-other : (op : Unary) (f : Reading) (i : ℕ) → i < width → unaryMasked op m f i → unaryMasked op m′ f i
+  unary-on-other not f i h t = (a i h .0 (t .0), t .1)
+  unary-on-other weakNext f i h t = (a i h .0 (t .0), λ q. t .1 (q .0, a (i + 1) (q .0) .1 (q .1)))
+  unary-on-other strongNext f i h t = t
+  unary-on-other finally f i h t = t
+  unary-on-other globally f i h t = (a i h .0 (t .0), λ j l w q. t .1 j l w (a j w .1 q))
+
+  binary-on-other : (op : Binary) (f g : Reading) (i : ℕ) → i < width → binaryMasked op m f g i → binaryMasked op m′ f g i
+  binary-on-other or f g i h t = t
+  binary-on-other and f g i h t = t
+  binary-on-other until f g i h t = t
+  binary-on-other release f g i h t =
+      (a i h .0 (t .0), λ j l w. ⊎-elim (λ p. inl (λ q. p (a j w .1 q))) (λ p. inr (p .0, p .1, p .2, λ q. p .3 (a (p .0) (omega (arith, p .2)) .1 q))) (t .1 j l w))
+  binary-on-other implies f g i h t = (a i h .0 (t .0), t .1)
+  binary-on-other equiv f g i h t = (a i h .0 (t .0), t .1)
+
+back : {m m′ : Reading} → Agree width m m′ → Agree width m′ m
+back a i h = (a i h .1, a i h .0)
+
+unary-same : {m m′ : Reading} → Agree width m m′ → (op : Unary) (f : Reading) → Agree width (unaryMasked op m f) (unaryMasked op m′ f)
+unary-same a op f i h = (unary-on-other a op f i h, unary-on-other (back a) op f i h)
+
+binary-same : {m m′ : Reading} → Agree width m m′ → (op : Binary) (f g : Reading) → Agree width (binaryMasked op m f g) (binaryMasked op m′ f g)
+binary-same a op f g i h = (binary-on-other a op f g i h, binary-on-other (back a) op f g i h)
+
+-- ---- the methods: an operator on the word with the length's mask, and its reading where the sequences are well formed
+
+pub unary-on : (op : Unary) (s : CharSeq) {m r : ℕ} → Mask (s .length) m → Means width r (unaryMasked op (At m) (At (s .values))) → UnaryOn op s (seq (s .length) r)
+unary-on op s k p = (refl, means-agree p (unary-same (k .holds) op (At (s .values))))
+
+pub binary-on : (op : Binary) (s t : CharSeq) {m r : ℕ} → Mask (s .length) m → Means width r (binaryMasked op (At m) (At (s .values)) (At (t .values)))
+    → BinaryOn op s t (seq (s .length) r)
+binary-on op s t k p = (refl, means-agree p (binary-same (k .holds) op (At (s .values)) (At (t .values))))
+
+mask-of : {n : ℕ} → n ≤ width → Mask n (2 ^ n - 1)
+mask-of {n} h = ones-mask n n (omega arith) h (λ i w l. l)
+
+pub unary-reads : (op : Unary) (s r : CharSeq) → WellFormed s → UnaryOn op s r → Denotes (s .length) (unaryReading op (s .length) (At (s .values))) r
+unary-reads op s r w p =
+    let k = mask-of (w .short) in
+    record { length = p .0; means = unary-cut op k w (means-agree (p .1) (unary-same (back (k .holds)) op (At (s .values)))) }
+
+pub binary-reads : (op : Binary) (s t r : CharSeq) → WellFormed s → Wf (s .length) (t .values) → BinaryOn op s t r
+    → Denotes (s .length) (binaryReading op (s .length) (At (s .values)) (At (t .values))) r
+binary-reads op s t r w u p =
+    let k = mask-of (w .short) in
+    record { length = p .0; means = binary-cut op k w u (means-agree (p .1) (binary-same (back (k .holds)) op (At (s .values)) (At (t .values)))) }

@@ -8,16 +8,16 @@ use mathlib.Core.List.{List}
 use Prim.Native.Nat.{ℕ, zero, suc, _-_}
 use native.Mathlib.Omega.{arith}
 use Rattle.words.specs.Ltlf.{Reading}
-use Rattle.words.specs.Word.{width, At, Means}
+use Rattle.words.specs.Word.{At}
 use Rattle.words.proofs.At.{means-unique}
 use Rattle.sequence.specs.declared.CharSeq.{CharSeq}
 use Rattle.sequence.specs.declared.Answer.{Answer}
 use Rattle.sequence.specs.declared.Answer.the-variants.{Sequence, Refused}
 use Rattle.sequence.specs.declared.operators.Operator.{Operator}
 use Rattle.sequence.specs.Operators.{Unary, Binary, unaryCode, binaryCode, unaryReading, binaryReading, not, weakNext, strongNext, finally, globally, or, and, until, release, implies, equiv}
-use Rattle.sequence.specs.Masked.{UnaryWord, BinaryWord, unaryMasked, binaryMasked}
-use Rattle.sequence.specs.Masked.UnaryWord.{word as uword, nothing as unothing}
-use Rattle.sequence.specs.Masked.BinaryWord.{word as bword, nothing as bnothing}
+use Rattle.sequence.specs.Masked.{UnaryOn, BinaryOn, UnaryBy, BinaryBy}
+use Rattle.sequence.specs.Masked.UnaryBy.{operator as uop, nothing as unothing}
+use Rattle.sequence.specs.Masked.BinaryBy.{operator as bop, nothing as bnothing}
 use Rattle.sequence.specs.Table.{Listed, unary, binary, neither, unaryRow, binaryRow}
 use Rattle.sequence.specs.Sequence.{seq, Denotes, Answers, NewAnswer, UnaryRead, UnaryAnswer, BinaryRead, BinaryAnswer}
 use Rattle.rules.specs.Refusals.{Row}
@@ -104,7 +104,7 @@ binary-unique code s t a b p q = answers-unique _ _ one a b p q
         denotes-unique r r′ (u .2)
         (subst (λ (op : Binary). Denotes (s .length) (binaryReading op (s .length) (At (s .values)) (At (t .values))) r′) (binary-one (v .0) (u .0) (v .1 ∙ sym (u .1))) (v .2))
 
--- ---- the table and the words by code
+-- ---- the table
 
 pub listed-unique : (code : ℕ) (r s : Operator) → Listed code r → Listed code s → r ≡ s
 listed-unique code r s (unary a e p) (unary b d q) = p ∙ ap unaryRow (unary-one a b (e ∙ sym d)) ∙ sym q
@@ -117,16 +117,22 @@ listed-unique code r s (binary a e p) (neither m n q) = absurd (n a e)
 listed-unique code r s (neither m n p) (unary b d q) = absurd (m b d)
 listed-unique code r s (neither m n p) (binary b d q) = absurd (n b d)
 
-pub unary-word-unique : (code x m r s : ℕ) → UnaryWord code x m r → UnaryWord code x m s → r ≡ s
-unary-word-unique code x m r s (uword a e p) (uword b d q) =
-    means-unique p (subst (λ (op : Unary). Means width s (unaryMasked op (At m) (At x))) (unary-one b a (d ∙ sym e)) q)
-unary-word-unique code x m r s (uword a e p) (unothing n q) = absurd (n a e)
-unary-word-unique code x m r s (unothing n p) (uword b d q) = absurd (n b d)
-unary-word-unique code x m r s (unothing n p) (unothing l q) = p ∙ sym q
+-- ---- the operators' methods, and by code
 
-pub binary-word-unique : (code x y m r s : ℕ) → BinaryWord code x y m r → BinaryWord code x y m s → r ≡ s
-binary-word-unique code x y m r s (bword a e p) (bword b d q) =
-    means-unique p (subst (λ (op : Binary). Means width s (binaryMasked op (At m) (At x) (At y))) (binary-one b a (d ∙ sym e)) q)
-binary-word-unique code x y m r s (bword a e p) (bnothing n q) = absurd (n a e)
-binary-word-unique code x y m r s (bnothing n p) (bword b d q) = absurd (n b d)
-binary-word-unique code x y m r s (bnothing n p) (bnothing l q) = p ∙ sym q
+pub unary-on-unique : (op : Unary) (s r t : CharSeq) → UnaryOn op s r → UnaryOn op s t → r ≡ t
+unary-on-unique op s r t p q = same-seq r t (p .0 ∙ sym (q .0)) (means-unique (p .1) (q .1))
+
+pub binary-on-unique : (op : Binary) (s s′ r t : CharSeq) → BinaryOn op s s′ r → BinaryOn op s s′ t → r ≡ t
+binary-on-unique op s s′ r t p q = same-seq r t (p .0 ∙ sym (q .0)) (means-unique (p .1) (q .1))
+
+pub unary-by-unique : (code : ℕ) (s r t : CharSeq) → UnaryBy code s r → UnaryBy code s t → r ≡ t
+unary-by-unique code s r t (uop a e p) (uop b d q) = unary-on-unique a s r t p (subst (λ (op : Unary). UnaryOn op s t) (unary-one b a (d ∙ sym e)) q)
+unary-by-unique code s r t (uop a e p) (unothing n q) = absurd (n a e)
+unary-by-unique code s r t (unothing n p) (uop b d q) = absurd (n b d)
+unary-by-unique code s r t (unothing n p) (unothing l q) = p ∙ sym q
+
+pub binary-by-unique : (code : ℕ) (s s′ r t : CharSeq) → BinaryBy code s s′ r → BinaryBy code s s′ t → r ≡ t
+binary-by-unique code s s′ r t (bop a e p) (bop b d q) = binary-on-unique a s s′ r t p (subst (λ (op : Binary). BinaryOn op s s′ t) (binary-one b a (d ∙ sym e)) q)
+binary-by-unique code s s′ r t (bop a e p) (bnothing n q) = absurd (n a e)
+binary-by-unique code s s′ r t (bnothing n p) (bop b d q) = absurd (n b d)
+binary-by-unique code s s′ r t (bnothing n p) (bnothing l q) = p ∙ sym q

@@ -1,11 +1,13 @@
--- The operators by code on bare words, at the places of a mask m of 64. On a session's mask and well-formed words these are the readings
--- (`unary-cut`, `binary-cut` in proofs/Masked.antt).
+-- The operators at the places of a mask m of 64, and what the methods of `CharSeq` answer, for any words. On a session's mask and well-formed
+-- words these are the readings at its length (`unary-cut`, `binary-cut` in proofs/Masked.antt).
 -- Assumes nothing.
 use mathlib.Core.Path.{_≡_}
-use Prim.Native.Nat.{ℕ}
+use Prim.Native.Nat.{ℕ, _<_}
 use Rattle.words.specs.Ltlf.{Reading, Or, And, StrongNext, Finally, Until}
 use Rattle.words.specs.Masked.{NotOn, ImpliesOn, EquivOn, WeakNextOn, GloballyOn, ReleaseOn}
 use Rattle.words.specs.Word.{width, At, Means}
+use Rattle.sequence.specs.declared.CharSeq.{CharSeq}
+use Rattle.sequence.specs.Sequence.{seq}
 use Rattle.sequence.specs.Operators.{Unary, not, weakNext, strongNext, finally, globally, Binary, or, and, until, release, implies, equiv, unaryCode, binaryCode}
 
 abbrev pub unaryMasked : Unary → Reading → Reading → Reading
@@ -23,11 +25,22 @@ binaryMasked release m f g = ReleaseOn m f g
 binaryMasked implies m f g = ImpliesOn m f g
 binaryMasked equiv m f g = EquivOn m f g
 
--- what the words by code answer; a code of no operator of the group has no snapshot
-pub data UnaryWord (code x m r : ℕ) : Type 0 where
-  word : (op : Unary) → unaryCode op ≡ code → Means width r (unaryMasked op (At m) (At x)) → UnaryWord code x m r
-  nothing : ((op : Unary) → unaryCode op ≡ code → ⊥) → r ≡ 0 → UnaryWord code x m r
+-- the places below a length, of any length: those of its mask
+abbrev pub Below : ℕ → Reading
+Below n i = i < n
 
-pub data BinaryWord (code x y m r : ℕ) : Type 0 where
-  word : (op : Binary) → binaryCode op ≡ code → Means width r (binaryMasked op (At m) (At x) (At y)) → BinaryWord code x y m r
-  nothing : ((op : Binary) → binaryCode op ≡ code → ⊥) → r ≡ 0 → BinaryWord code x y m r
+-- what the operators' methods answer, of any words: a sequence of the left one's length, whose word is the operator's at the places below it
+abbrev pub UnaryOn : Unary → CharSeq → CharSeq → Type 0
+UnaryOn op s r = (r .length ≡ s .length) × Means width (r .values) (unaryMasked op (Below (s .length)) (At (s .values)))
+
+abbrev pub BinaryOn : Binary → CharSeq → CharSeq → CharSeq → Type 0
+BinaryOn op s t r = (r .length ≡ s .length) × Means width (r .values) (binaryMasked op (Below (s .length)) (At (s .values)) (At (t .values)))
+
+-- and by code; a code of no operator of the group has no snapshot
+pub data UnaryBy (code : ℕ) (s r : CharSeq) : Type 0 where
+  operator : (op : Unary) → unaryCode op ≡ code → UnaryOn op s r → UnaryBy code s r
+  nothing : ((op : Unary) → unaryCode op ≡ code → ⊥) → r ≡ seq (s .length) 0 → UnaryBy code s r
+
+pub data BinaryBy (code : ℕ) (s t r : CharSeq) : Type 0 where
+  operator : (op : Binary) → binaryCode op ≡ code → BinaryOn op s t r → BinaryBy code s t r
+  nothing : ((op : Binary) → binaryCode op ≡ code → ⊥) → r ≡ seq (s .length) 0 → BinaryBy code s t r

@@ -6,7 +6,9 @@ ghost use Prim.Native.Nat.{_<_};
 ghost use mathlib.Core.List.{[], _∷_};
 ghost use Rattle.words.specs.Word.{width, Means};
 ghost use Rattle.rules.specs.Refusals.{Decided, firstOf};
-ghost use Rattle.sequence.specs.Sequence.{WellFormed, Accepts, illFormed, notUnary, notBinary, unequal, NewAnswer, UnaryAnswer, BinaryAnswer};
+ghost use Rattle.sequence.specs.Operators.{not, weakNext, strongNext, finally, globally, or, and, until, release, implies, equiv};
+ghost use Rattle.sequence.specs.Masked.{UnaryOn, BinaryOn, UnaryBy, BinaryBy};
+ghost use Rattle.sequence.specs.Sequence.{seq, WellFormed, Accepts, illFormed, notUnary, notBinary, unequal, NewAnswer, UnaryAnswer, BinaryAnswer};
 
 pub mod operators;
 
@@ -77,6 +79,157 @@ impl CharSeq {
             Self::FULL_MASK
         }
     }
+
+    // The eleven operators (cs.rs), at the places below the sequence's own length. They refuse nothing: `apply_unary` and `apply_binary` do.
+
+    // `!`
+    pub fn not(self) -> CharSeq
+        ensures { λ r. ⌜ UnaryOn not self r ⌝ }
+    {
+        CharSeq {
+            length: self.length,
+            values: words::not(self.values, Self::mask(self.length)),
+        }
+    }
+
+    // `X`
+    pub fn weak_next(self) -> CharSeq
+        ensures { λ r. ⌜ UnaryOn weakNext self r ⌝ }
+    {
+        CharSeq {
+            length: self.length,
+            values: words::weak_next(self.values, Self::mask(self.length)),
+        }
+    }
+
+    // `X[!]`
+    pub fn strong_next(self) -> CharSeq
+        ensures { λ r. ⌜ UnaryOn strongNext self r ⌝ }
+    {
+        CharSeq {
+            length: self.length,
+            values: words::strong_next(self.values),
+        }
+    }
+
+    // `F`
+    pub fn finally(self) -> CharSeq
+        ensures { λ r. ⌜ UnaryOn finally self r ⌝ }
+    {
+        CharSeq {
+            length: self.length,
+            values: words::finally(self.values),
+        }
+    }
+
+    // `G`
+    pub fn globally(self) -> CharSeq
+        ensures { λ r. ⌜ UnaryOn globally self r ⌝ }
+    {
+        CharSeq {
+            length: self.length,
+            values: words::globally(self.values, Self::mask(self.length)),
+        }
+    }
+
+    // `|`
+    pub fn or(self, right: CharSeq) -> CharSeq
+        ensures { λ r. ⌜ BinaryOn or self right r ⌝ }
+    {
+        CharSeq {
+            length: self.length,
+            values: words::or(self.values, right.values),
+        }
+    }
+
+    // `&`
+    pub fn and(self, right: CharSeq) -> CharSeq
+        ensures { λ r. ⌜ BinaryOn and self right r ⌝ }
+    {
+        CharSeq {
+            length: self.length,
+            values: words::and(self.values, right.values),
+        }
+    }
+
+    // `U`
+    pub fn until(self, right: CharSeq) -> CharSeq
+        ensures { λ r. ⌜ BinaryOn until self right r ⌝ }
+    {
+        CharSeq {
+            length: self.length,
+            values: words::until(self.values, right.values),
+        }
+    }
+
+    // `R`
+    pub fn release(self, right: CharSeq) -> CharSeq
+        ensures { λ r. ⌜ BinaryOn release self right r ⌝ }
+    {
+        CharSeq {
+            length: self.length,
+            values: words::release(self.values, right.values, Self::mask(self.length)),
+        }
+    }
+
+    // `->`
+    pub fn implies(self, right: CharSeq) -> CharSeq
+        ensures { λ r. ⌜ BinaryOn implies self right r ⌝ }
+    {
+        CharSeq {
+            length: self.length,
+            values: words::implies(self.values, right.values, Self::mask(self.length)),
+        }
+    }
+
+    // `<->`
+    pub fn equiv(self, right: CharSeq) -> CharSeq
+        ensures { λ r. ⌜ BinaryOn equiv self right r ⌝ }
+    {
+        CharSeq {
+            length: self.length,
+            values: words::equiv(self.values, right.values, Self::mask(self.length)),
+        }
+    }
+
+    // A code of no operator of the group gives a sequence that holds nowhere.
+    fn nowhere(self) -> CharSeq
+        ensures { λ r. ⌜ r ≡ seq (self .length) 0 ⌝ }
+    {
+        CharSeq {
+            length: self.length,
+            values: 0,
+        }
+    }
+
+    // The unary operator of a code.
+    pub fn unary(self, code: u8) -> CharSeq
+        ensures { λ r. ⌜ UnaryBy code self r ⌝ }
+    {
+        match code {
+            0 => self.not(),
+            1 => self.weak_next(),
+            2 => self.strong_next(),
+            3 => self.finally(),
+            4 => self.globally(),
+            _ => self.nowhere(),
+        }
+    }
+
+    // The binary operator of a code.
+    pub fn binary(self, code: u8, right: CharSeq) -> CharSeq
+        ensures { λ r. ⌜ BinaryBy code self right r ⌝ }
+    {
+        match code {
+            5 => self.or(right),
+            6 => self.and(right),
+            7 => self.until(right),
+            8 => self.release(right),
+            9 => self.implies(right),
+            10 => self.equiv(right),
+            _ => self.nowhere(),
+        }
+    }
 }
 
 // The first of two refusals in the order of the checks; 0 is none.
@@ -124,11 +277,7 @@ pub fn apply_unary(code: u8, seq: CharSeq) -> Answer
     if refusal != 0 {
         return Answer::Refused(refusal);
     }
-    let mask = CharSeq::mask(seq.length);
-    Answer::Sequence(CharSeq {
-        length: seq.length,
-        values: operators::unary_word(code, seq.values, mask),
-    })
+    Answer::Sequence(seq.unary(code))
 }
 
 // The binary operator of a code on two sequences of one length, or a refusal.
@@ -142,9 +291,5 @@ pub fn apply_binary(code: u8, left: CharSeq, right: CharSeq) -> Answer
     if refusal != 0 {
         return Answer::Refused(refusal);
     }
-    let mask = CharSeq::mask(left.length);
-    Answer::Sequence(CharSeq {
-        length: left.length,
-        values: operators::binary_word(code, left.values, right.values, mask),
-    })
+    Answer::Sequence(left.binary(code, right))
 }

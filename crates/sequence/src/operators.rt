@@ -1,7 +1,5 @@
-// The constant table of the eleven operators (unary.rs, binary.rs): token, group and commuting mark by code; and the operators on bare
-// words by code, for callers that have tested code and words before.
+// The constant table of the eleven operators (unary.rs, binary.rs): token, group and commuting mark by code.
 ghost use Rattle.sequence.specs.Table.{Listed};
-ghost use Rattle.sequence.specs.Masked.{UnaryWord, BinaryWord};
 
 pub enum Group {
     Unary,
@@ -78,7 +76,7 @@ const OPERATORS: [Operator; COUNT] = [
         token: [b'-', b'>', 0, 0],
         bytes: 2,
         group: Group::Binary,
-        commutes: false,
+        commutes: false, // p -> q and q -> p differ
     },
     Operator {
         token: [b'<', b'-', b'>', 0],
@@ -102,34 +100,5 @@ pub fn operator_of(code: u8) -> Operator
             group: Group::Neither,
             commutes: false,
         }
-    }
-}
-
-// The unary operator of a code on a word, at the places of a mask.
-pub fn unary_word(code: u8, x: u64, mask: u64) -> u64
-    ensures { λ r. ⌜ UnaryWord code x mask r ⌝ }
-{
-    match code {
-        0 => words::not(x, mask),
-        1 => words::weak_next(x, mask),
-        2 => words::strong_next(x),
-        3 => words::finally(x),
-        4 => words::globally(x, mask),
-        _ => 0,
-    }
-}
-
-// The binary operator of a code on two words, at the places of a mask.
-pub fn binary_word(code: u8, x: u64, y: u64, mask: u64) -> u64
-    ensures { λ r. ⌜ BinaryWord code x y mask r ⌝ }
-{
-    match code {
-        5 => words::or(x, y),
-        6 => words::and(x, y),
-        7 => words::until(x, y),
-        8 => words::release(x, y, mask),
-        9 => words::implies(x, y, mask),
-        10 => words::equiv(x, y, mask),
-        _ => 0,
     }
 }

@@ -1,4 +1,5 @@
 // The tests of session data that search and check share.
+use sequence::Answer;
 use sequence::CharSeq;
 ghost use mathlib.Core.Bool.{true};
 ghost use Prim.Native.Nat.{_+_, _*_, _≤_, _<_};
@@ -33,15 +34,11 @@ fn session_clear(words: &[u64], from: usize, m: usize, n: usize) -> bool
 {
     let mut p: usize = 0;
     while p < m {
-        let word = CharSeq {
-            length: n,
-            values: words[from + p],
-        };
-        if word.is_well_formed() {
-            p += 1;
-        } else {
+        let word = words[from + p];
+        let Answer::Sequence(_) = CharSeq::new(n, word) else {
             return false;
-        }
+        };
+        p += 1;
     }
     true
 }

@@ -6,6 +6,7 @@ use super::input::{Ending, Input, Outcome};
 use super::lent::{search, Lens, Lent};
 use super::prose;
 use super::refused;
+use super::settled;
 use super::tally::Tally;
 use crate::boundary::{self, Boundary, Way};
 use crate::words::Random;
@@ -96,6 +97,16 @@ fn altered(random: &mut Random, outcome: &Outcome) -> Outcome {
     wrong
 }
 
+/// An outcome in the program's words.
+fn said(outcome: &Outcome) -> String {
+    let ending = match outcome.ending {
+        Ending::Found(root) => format!("found size {}", root.size),
+        Ending::None => "none".to_string(),
+        Ending::Full(size) => format!("full size {size}"),
+    };
+    format!("{ending} tried {} kept {}", outcome.tried, outcome.kept())
+}
+
 impl Comparison {
     /// Says what was compared since the last section.
     fn section(&mut self, what: &str) -> Tally {
@@ -146,13 +157,44 @@ impl Comparison {
         self.tally.compared(&input, wrong);
     }
 
-    /// An input with something broken: document 01's number, and nothing written.
+    /// S1 to S5 by name: document 01's own numbers, the Rust's search and ours.
+    fn settled(&mut self) {
+        for example in settled::taken() {
+            let before = self.tally.differ;
+            let outcome = counted::outcome(&example.input, u64::MAX).expect("a settled example ends");
+            self.good(example.input.clone(), u64::MAX);
+            if !example.allows(&outcome) {
+                let wrong = "the Rust's answer is not the one that document 01 settles".to_string();
+                self.tally.compared(&example.input, Some(wrong));
+            }
+            self.say(example.name, &said(&outcome), before);
+        }
+        for (name, input, number) in settled::refused() {
+            let before = self.tally.differ;
+            let lens = Lens::asked(&input);
+            assert_eq!(refused::number(&input, &lens), number);
+            self.refusal(input, lens, number);
+            self.say(name, &format!("refused {number}"), before);
+        }
+    }
+
+    /// A line for a named example.
+    fn say(&self, name: &str, said: &str, before: u64) {
+        let verdict = if self.tally.differ == before { "" } else { ": DIFFERS" };
+        println!("{name}: {said}{verdict}");
+    }
+
+    /// An input with something broken.
     fn broken(&mut self, number: u64) {
         let (given, lens) = refused::draw(number);
         let due = refused::number(&given, &lens);
-        if due == 0 {
-            return;
+        if due > 0 {
+            self.refusal(given, lens, due);
         }
+    }
+
+    /// An input that is refused: document 01's number, and nothing written.
+    fn refusal(&mut self, given: Input, lens: Lens, due: u64) {
         self.tally.refused(due);
         let before = Lent::new(lens, self.random.next());
         let mut lent = before.clone();
@@ -174,6 +216,8 @@ pub fn run(way: Way, extent: Extent) -> i32 {
         seen: 0,
         unseen: 0,
     };
+    comparison.settled();
+    let settled = comparison.section("S1 to S5");
     every::each(extent.stride, |input| comparison.good(input, u64::MAX));
     let small = comparison.section("small inputs in turn");
     for number in 0..extent.random {
@@ -189,10 +233,11 @@ pub fn run(way: Way, extent: Extent) -> i32 {
         "altered answers: {} seen to be wrong, {} not seen",
         comparison.seen, comparison.unseen
     );
-    let differ = small.differ + random.differ + broken.differ;
+    let differ = settled.differ + small.differ + random.differ + broken.differ;
     println!(
-        "compared {} searches ({} small ones in turn, {} random, {} refused), {differ} differ",
-        small.compared + random.compared + broken.compared,
+        "compared {} searches ({} settled, {} small ones in turn, {} random, {} refused), {differ} differ",
+        settled.compared + small.compared + random.compared + broken.compared,
+        settled.compared,
         small.compared,
         random.compared,
         broken.compared,

@@ -1,4 +1,4 @@
-//! What the Rust's own search does where document 01 asks for something else: its seeds, a bound of 0, an operator listed twice.
+//! What the Rust's own search does where document 01 asks for something else: its seeds, a bound of 0, an operator listed twice, larger numbers.
 use super::counted::{self, Start};
 use super::input::Input;
 use crate::algos::aux::enum_aux;
@@ -53,6 +53,40 @@ pub fn findings() {
         println!(
             "  the session marked 1, B = 2, unary operators {:?}: tried {tried}",
             twice.unary
+        );
+    }
+}
+
+/// Numbers above document 01's: the Rust has no limits of its own.
+pub fn beyond() {
+    println!("Numbers above document 01's (33 sessions and 17 propositions are refused 1, B = 32 is refused 2):");
+    let mut many = smallest(2, vec![0]);
+    many.r = 33;
+    many.marks = vec![0; 33];
+    many.lengths = vec![1; 33];
+    many.words = vec![1; 33];
+    println!(
+        "  33 sessions of one snapshot at which p holds, all marked 0, B = 2, `!`: {}",
+        bare(&many)
+    );
+    let mut wide = smallest(2, vec![0]);
+    wide.m = 17;
+    wide.lengths = vec![1];
+    wide.words = vec![1; 17];
+    println!("  one such session with 17 propositions that hold: {}", bare(&wide));
+    let mut far = smallest(32, vec![2]);
+    far.marks = vec![1];
+    far.lengths = vec![32];
+    far.words = vec![1 << 31];
+    for bound in [31, 32] {
+        far.bound = bound;
+        let answer = bare(&far);
+        println!(
+            "  one session of 32 snapshots, p at the last alone, `X[!]`, B = {bound}: {}",
+            match answer.matches("X[!]").count() {
+                0 => answer,
+                count => format!("`X[!]` {count} times on p"),
+            }
         );
     }
 }

@@ -9,7 +9,7 @@ use Rattle.session.specs.Data.{dataRows}
 use Rattle.formula.specs.Kinds.{nodeOf, nodes}
 use Rattle.formula.specs.Rule.{brokenList}
 use Rattle.session.specs.Recording.{recording}
-use Rattle.formula.proofs.Checking.{decided-early, decided-list, checkable, names-session, accepts-formula}
+use Rattle.formula.proofs.Checking.{decided-early, decided-list, checkable, verdict-answers}
 use Rattle.formula.proofs.check.Statement.{statement}
 use Rattle.formula.proofs.check.Tie as tie
 
@@ -38,24 +38,26 @@ returns-2 c = let a = c .before .before .before .before .before .before .before 
 first-disagreeing-requires : tie.Need-first-disagreeing-requires
 first-disagreeing-requires c κs = let a = c .before .before .before .before .before .before .before .before .before .before .before .args in checkable (recording (a .r) (a .m) (a .marks .now) (a .lengths .now) (a .words .now)) (nodes (a .codes .now) (a .lefts .now) (a .rights .now) (a .sizes .now)) (nodeOf (a .root)) (c .before .before .before .test .result) (c .before .refusal .result) (c .before .before .before .test .ensures) (c .before .before .if1 .left) (c .before .refusal .ensures) (c .if2 .left) .0
 
-cast-t15 : tie.Need-cast-t15
-cast-t15 c = let a = c .before .before .before .before .before .before .before .before .before .before .before .before .before .args in omega (arith, checkable (recording (a .r) (a .m) (a .marks .now) (a .lengths .now) (a .words .now)) (nodes (a .codes .now) (a .lefts .now) (a .rights .now) (a .sizes .now)) (nodeOf (a .root)) (c .before .before .before .before .before .test .result) (c .before .before .before .refusal .result) (c .before .before .before .before .before .test .ensures) (c .before .before .before .before .if1 .left) (c .before .before .before .refusal .ensures) (c .before .before .if2 .left) .1)
+verdict-on-requires : tie.Need-verdict-on-requires
+verdict-on-requires c κs =
+    let listed = c .before .before in
+    let tested = listed .before .before in
+    let a = tested .before .before .before .before .before .before .before .before .args in
+    let f = c .first-disagreeing .ensures .upto in
+    omega (arith, checkable (recording (a .r) (a .m) (a .marks .now) (a .lengths .now) (a .words .now)) (nodes (a .codes .now) (a .lefts .now) (a .rights .now) (a .sizes .now)) (nodeOf (a .root)) (tested .test .result) (listed .refusal .result) (tested .test .ensures) (listed .before .if1 .left) (listed .refusal .ensures) (c .before .if2 .left) .1)
 
 returns-3 : tie.Need-returns-3
-returns-3 c = let a = c .before .before .before .before .before .before .before .before .before .before .before .before .before .args in
-    record {
-      number = decided-list (recording (a .r) (a .m) (a .marks .now) (a .lengths .now) (a .words .now)) (nodes (a .codes .now) (a .lefts .now) (a .rights .now) (a .sizes .now)) (nodeOf (a .root)) (c .before .before .before .before .before .test .result) 0 (c .before .before .before .before .before .test .ensures) (c .before .before .before .before .if1 .left) (subst (Decided (brokenList (a .m) (nodes (a .codes .now) (a .lefts .now) (a .rights .now) (a .sizes .now)) (nodeOf (a .root)) ∷ [])) (c .before .before .if2 .left) (c .before .before .before .refusal .ensures));
-      refused = λ n. absurd (n refl);
-      passed = λ e. names-session (recording (a .r) (a .m) (a .marks .now) (a .lengths .now) (a .words .now)) (nodes (a .codes .now) (a .lefts .now) (a .rights .now) (a .sizes .now)) (nodeOf (a .root)) (checkable (recording (a .r) (a .m) (a .marks .now) (a .lengths .now) (a .words .now)) (nodes (a .codes .now) (a .lefts .now) (a .rights .now) (a .sizes .now)) (nodeOf (a .root)) (c .before .before .before .before .before .test .result) (c .before .before .before .refusal .result) (c .before .before .before .before .before .test .ensures) (c .before .before .before .before .if1 .left) (c .before .before .before .refusal .ensures) (c .before .before .if2 .left) .0) (c .before .first-disagreeing .ensures) (c .if3 .taken);
-    }
-
-returns-4 : tie.Need-returns-4
-returns-4 c = let a = c .before .before .before .before .before .before .before .before .before .before .before .before .before .args in
-    record {
-      number = decided-list (recording (a .r) (a .m) (a .marks .now) (a .lengths .now) (a .words .now)) (nodes (a .codes .now) (a .lefts .now) (a .rights .now) (a .sizes .now)) (nodeOf (a .root)) (c .before .before .before .before .before .test .result) 0 (c .before .before .before .before .before .test .ensures) (c .before .before .before .before .if1 .left) (subst (Decided (brokenList (a .m) (nodes (a .codes .now) (a .lefts .now) (a .rights .now) (a .sizes .now)) (nodeOf (a .root)) ∷ [])) (c .before .before .if2 .left) (c .before .before .before .refusal .ensures));
-      refused = λ n. absurd (n refl);
-      passed = λ e. accepts-formula (recording (a .r) (a .m) (a .marks .now) (a .lengths .now) (a .words .now)) (nodes (a .codes .now) (a .lefts .now) (a .rights .now) (a .sizes .now)) (nodeOf (a .root)) (checkable (recording (a .r) (a .m) (a .marks .now) (a .lengths .now) (a .words .now)) (nodes (a .codes .now) (a .lefts .now) (a .rights .now) (a .sizes .now)) (nodeOf (a .root)) (c .before .before .before .before .before .test .result) (c .before .before .before .refusal .result) (c .before .before .before .before .before .test .ensures) (c .before .before .before .before .if1 .left) (c .before .before .before .refusal .ensures) (c .before .before .if2 .left) .0) (c .before .first-disagreeing .ensures) (c .if3 .left);
-    }
+returns-3 c =
+    let found = c .before in
+    let listed = found .before .before in
+    let tested = listed .before .before in
+    let a = tested .before .before .before .before .before .before .before .before .args in
+    let i = recording (a .r) (a .m) (a .marks .now) (a .lengths .now) (a .words .now) in
+    let k = nodes (a .codes .now) (a .lefts .now) (a .rights .now) (a .sizes .now) in
+    let root = nodeOf (a .root) in
+    let good = checkable i k root (tested .test .result) (listed .refusal .result) (tested .test .ensures) (listed .before .if1 .left) (listed .refusal .ensures) (found .before .if2 .left) .0 in
+    let none = subst (Decided (brokenList (a .m) k root ∷ [])) (found .before .if2 .left) (listed .refusal .ensures) in
+    verdict-answers i k root good (found .first-disagreeing .ensures) (decided-list i k root (tested .test .result) 0 (tested .test .ensures) (listed .before .if1 .left) none) (c .verdict-on .result) (c .verdict-on .ensures)
 
 pub check-spec : {M : Type 1} → statement M
 check-spec =
@@ -66,6 +68,5 @@ check-spec =
     refusal-requires
     returns-2
     first-disagreeing-requires
-    cast-t15
-    returns-3
-    returns-4)
+    verdict-on-requires
+    returns-3)

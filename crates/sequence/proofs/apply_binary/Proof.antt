@@ -1,17 +1,16 @@
 -- `apply_binary` meets its contract: the tests decide the rows, and what passes them is cut to its length.
 -- Assumes nothing.
-use mathlib.Core.Path.{refl, sym, subst}
+use mathlib.Core.Path.{sym, subst}
 use Prim.Native.Nat.{ℕ}
 use native.Mathlib.Omega.{arith}
 use borrow.Author.Needs.{needs}
 use Rattle.words.specs.Word.{Wf}
-use Rattle.words.proofs.Lengths.{Mask}
 use Rattle.sequence.specs.declared.CharSeq.{CharSeq}
 use Rattle.rules.specs.Refusals.{Decided}
-use Rattle.sequence.specs.Masked.{BinaryWord}
-use Rattle.sequence.specs.Masked.BinaryWord.{word, nothing}
+use Rattle.sequence.specs.Masked.{BinaryBy}
+use Rattle.sequence.specs.Masked.BinaryBy.{operator, nothing}
 use Rattle.sequence.specs.Sequence.{binaryRows, BinaryRead}
-use Rattle.sequence.proofs.Masked.{binary-cut}
+use Rattle.sequence.proofs.Masked.{binary-reads}
 use Rattle.sequence.proofs.Answers.{binary-decided, binary-passed}
 use Rattle.sequence.proofs.apply_binary.Statement.{statement}
 use Rattle.sequence.proofs.apply_binary.Tie as tie
@@ -52,26 +51,22 @@ decided c =
 returns : tie.Need-returns
 returns c = (decided (c .before), omega arith)
 
-mask-requires : tie.Need-mask-requires
-mask-requires c κs = search needs
+binary-requires : tie.Need-binary-requires
+binary-requires c κs = search needs
 
-binary-word-requires : tie.Need-binary-word-requires
-binary-word-requires c κs = search needs
-
--- the word by code, on a session's mask
-read : (code : ℕ) (s t : CharSeq) (m r : ℕ) → Decided (binaryRows code s t) 0 → Mask (s .length) m → BinaryWord code (s .values) (t .values) m r
-    → BinaryRead code s t (record { length = s .length; values = r })
-read code s t m r d k (word op e p) =
+-- the operator by code, on sequences that passed
+read : (code : ℕ) (s t r : CharSeq) → Decided (binaryRows code s t) 0 → BinaryBy code s t r → BinaryRead code s t r
+read code s t r d (operator op e p) =
     let q = binary-passed code s t d in
-    (op, e, record { length = refl; means = binary-cut op k (q .1) (subst (λ (n : ℕ). Wf n (t .values)) (sym (q .3)) (q .2)) p })
-read code s t m r d k (nothing n e) = absurd (binary-passed code s t d .0 n)
+    (op, e, binary-reads op s t r (q .1) (subst (λ (n : ℕ). Wf n (t .values)) (sym (q .3)) (q .2)) p)
+read code s t r d (nothing n e) = absurd (binary-passed code s t d .0 n)
 
 returns-2 : tie.Need-returns-2
 returns-2 c =
-    let t = c .before .before .before in
+    let t = c .before .before in
     let s = t .before .before .before .before .before .before .before .args in
-    let d = subst (Decided (binaryRows (s .code) (s .left) (s .right))) (c .before .before .if1 .left) (decided t) in
-    (d, read (s .code) (s .left) (s .right) (c .before .mask .result) (c .binary-word .result) d (c .before .mask .ensures) (c .binary-word .ensures))
+    let d = subst (Decided (binaryRows (s .code) (s .left) (s .right))) (c .before .if1 .left) (decided t) in
+    (d, read (s .code) (s .left) (s .right) (c .binary .result) d (c .binary .ensures))
 
 pub apply-binary-spec : {M : Type 1} → statement M
 apply-binary-spec =
@@ -85,6 +80,5 @@ apply-binary-spec =
     first-requires-2
     first-requires-3
     returns
-    mask-requires
-    binary-word-requires
+    binary-requires
     returns-2)

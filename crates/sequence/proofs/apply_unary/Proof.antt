@@ -1,16 +1,15 @@
 -- `apply_unary` meets its contract: the tests decide the rows, and what passes them is cut to its length.
 -- Assumes nothing.
-use mathlib.Core.Path.{refl, subst}
+use mathlib.Core.Path.{subst}
 use Prim.Native.Nat.{ℕ}
 use native.Mathlib.Omega.{arith}
 use borrow.Author.Needs.{needs}
-use Rattle.words.proofs.Lengths.{Mask}
 use Rattle.sequence.specs.declared.CharSeq.{CharSeq}
 use Rattle.rules.specs.Refusals.{Decided}
-use Rattle.sequence.specs.Masked.{UnaryWord}
-use Rattle.sequence.specs.Masked.UnaryWord.{word, nothing}
+use Rattle.sequence.specs.Masked.{UnaryBy}
+use Rattle.sequence.specs.Masked.UnaryBy.{operator, nothing}
 use Rattle.sequence.specs.Sequence.{unaryRows, UnaryRead}
-use Rattle.sequence.proofs.Masked.{unary-cut}
+use Rattle.sequence.proofs.Masked.{unary-reads}
 use Rattle.sequence.proofs.Answers.{unary-decided, unary-passed}
 use Rattle.sequence.proofs.apply_unary.Statement.{statement}
 use Rattle.sequence.proofs.apply_unary.Tie as tie
@@ -33,24 +32,20 @@ decided c =
 returns : tie.Need-returns
 returns c = (decided (c .before), omega arith)
 
-mask-requires : tie.Need-mask-requires
-mask-requires c κs = search needs
+unary-requires : tie.Need-unary-requires
+unary-requires c κs = search needs
 
-unary-word-requires : tie.Need-unary-word-requires
-unary-word-requires c κs = search needs
-
--- the word by code, on a session's mask
-read : (code : ℕ) (s : CharSeq) (m r : ℕ) → Decided (unaryRows code s) 0 → Mask (s .length) m → UnaryWord code (s .values) m r
-    → UnaryRead code s (record { length = s .length; values = r })
-read code s m r d k (word op e p) = (op, e, record { length = refl; means = unary-cut op k (unary-passed code s d .1) p })
-read code s m r d k (nothing n e) = absurd (unary-passed code s d .0 n)
+-- the operator by code, on a sequence that passed
+read : (code : ℕ) (s r : CharSeq) → Decided (unaryRows code s) 0 → UnaryBy code s r → UnaryRead code s r
+read code s r d (operator op e p) = (op, e, unary-reads op s r (unary-passed code s d .1) p)
+read code s r d (nothing n e) = absurd (unary-passed code s d .0 n)
 
 returns-2 : tie.Need-returns-2
 returns-2 c =
-    let t = c .before .before .before in
+    let t = c .before .before in
     let s = t .before .before .before .args in
-    let d = subst (Decided (unaryRows (s .code) (s .seq))) (c .before .before .if1 .left) (decided t) in
-    (d, read (s .code) (s .seq) (c .before .mask .result) (c .unary-word .result) d (c .before .mask .ensures) (c .unary-word .ensures))
+    let d = subst (Decided (unaryRows (s .code) (s .seq))) (c .before .if1 .left) (decided t) in
+    (d, read (s .code) (s .seq) (c .unary .result) d (c .unary .ensures))
 
 pub apply-unary-spec : {M : Type 1} → statement M
 apply-unary-spec =
@@ -60,6 +55,5 @@ apply-unary-spec =
     refusal-requires
     first-requires
     returns
-    mask-requires
-    unary-word-requires
+    unary-requires
     returns-2)

@@ -1,15 +1,33 @@
--- `is_clear` meets its contract: a well-formed word of length n is one below 2 ^ n.
+-- `is_clear` meets its contract: the constructor takes a word of length n just where it is below 2 ^ n.
 -- Assumes nothing.
+use mathlib.Core.Path.{refl, sym}
+use mathlib.Core.Bool.{true, false, true≢false}
+use Rattle.sequence.proofs.Answers.{new-passed, new-refused}
 use Rattle.file.proofs.Numbers.{clear-is}
 use borrow.Author.Needs.{needs}
 use Rattle.file.proofs.sessions.is_clear.Statement.{statement}
 use Rattle.file.proofs.sessions.is_clear.Tie as tie
 
-is-well-formed-requires : tie.Need-is-well-formed-requires
-is-well-formed-requires c κs = search needs
+new-requires : tie.Need-new-requires
+new-requires c κs = search needs
+
+enum-told : tie.Need-enum-told
+enum-told c = search needs
+
+enum-told-2 : tie.Need-enum-told-2
+enum-told-2 c = search needs
 
 returns : tie.Need-returns
-returns c = clear-is (c .before .args .n) (c .before .args .w) (c .before .pre) (c .is-well-formed .result) (c .is-well-formed .ensures)
+returns c =
+    let at-new = c .before .before in
+    let s = at-new .before in
+    clear-is (s .args .n) (s .args .w) (s .pre) false (λ h. absurd (true≢false (sym h)), λ w. absurd (new-refused (at-new .new .ensures) (c .enum-told2 .given .1) w))
+
+returns-2 : tie.Need-returns-2
+returns-2 c =
+    let at-new = c .before .before in
+    let s = at-new .before in
+    clear-is (s .args .n) (s .args .w) (s .pre) true (λ h. new-passed (at-new .new .ensures) (c .enum-told .given .1), λ w. refl)
 
 pub is-clear-spec : {M : Type 1} → statement M
-is-clear-spec = tie.close (tie.spec is-well-formed-requires returns)
+is-clear-spec = tie.close (tie.spec new-requires enum-told enum-told-2 returns returns-2)

@@ -8,7 +8,7 @@ use native.Mathlib.Omega.{arith}
 use Rattle.formula.specs.Kinds.{nodeOf, nodes}
 use Rattle.session.specs.Recording.{recording}
 use Rattle.formula.proofs.Listed.{length-nodes}
-use Rattle.formula.proofs.Checking.{Before, one-more, agrees-word, words-room, ready-for, next-from}
+use Rattle.formula.proofs.Checking.{Before, one-more, agrees-seq, words-room, ready-for, next-from}
 use borrow.Author.Needs.{needs}
 use Rattle.formula.proofs.agree.first_disagreeing.Statement.{statement}
 use Rattle.formula.proofs.agree.first_disagreeing.Tie as tie
@@ -57,7 +57,7 @@ loop-again c = let a = c .before .before .before .before .before .before .before
     let l = c .before .before .before .before .before .before in (
       omega arith,
       next-from (l .loop .j) (a .m) (l .loop .inv .1),
-      one-more (recording (a .r) (a .m) (a .marks .now) (a .lengths .now) (a .words .now)) (nodes (a .codes .now) (a .lefts .now) (a .rights .now) (a .sizes .now)) (nodeOf (a .root)) (l .loop .j) (l .loop .inv .2) (λ t s. agrees-word (recording (a .r) (a .m) (a .marks .now) (a .lengths .now) (a .words .now)) (nodes (a .codes .now) (a .lefts .now) (a .rights .now) (a .sizes .now)) (nodeOf (a .root)) (l .loop .j) (l .loop .from) (c .before .before .before .eval .result) (c .before .agrees .result) (l .loop .inv .1) (c .before .before .before .eval .ensures) (c .before .agrees .ensures) t s .0 (c .if1 .taken)),
+      one-more (recording (a .r) (a .m) (a .marks .now) (a .lengths .now) (a .words .now)) (nodes (a .codes .now) (a .lefts .now) (a .rights .now) (a .sizes .now)) (nodeOf (a .root)) (l .loop .j) (l .loop .inv .2) (λ t s. agrees-seq (recording (a .r) (a .m) (a .marks .now) (a .lengths .now) (a .words .now)) (nodes (a .codes .now) (a .lefts .now) (a .rights .now) (a .sizes .now)) (nodeOf (a .root)) (l .loop .j) (l .loop .from) (c .before .before .before .eval .result) (c .before .agrees .result) (l .loop .inv .1) (c .before .before .before .eval .ensures) (c .before .agrees .ensures) t s .0 (c .if1 .taken)),
     )
 
 returns : tie.Need-returns Inv-loop μ-loop
@@ -66,7 +66,7 @@ returns c = let a = c .before .before .before .before .before .before .before .b
     record {
       upto = l .loop .inv .0;
       before = l .loop .inv .2;
-      here = λ t s h g. true≢false (sym (agrees-word (recording (a .r) (a .m) (a .marks .now) (a .lengths .now) (a .words .now)) (nodes (a .codes .now) (a .lefts .now) (a .rights .now) (a .sizes .now)) (nodeOf (a .root)) (l .loop .j) (l .loop .from) (c .before .before .before .eval .result) (c .before .agrees .result) (l .loop .inv .1) (c .before .before .before .eval .ensures) (c .before .agrees .ensures) t s .1 g) ∙ c .if1 .left);
+      here = λ t s h g. true≢false (sym (agrees-seq (recording (a .r) (a .m) (a .marks .now) (a .lengths .now) (a .words .now)) (nodes (a .codes .now) (a .lefts .now) (a .rights .now) (a .sizes .now)) (nodeOf (a .root)) (l .loop .j) (l .loop .from) (c .before .before .before .eval .result) (c .before .agrees .result) (l .loop .inv .1) (c .before .before .before .eval .ensures) (c .before .agrees .ensures) t s .1 g) ∙ c .if1 .left);
     }
 
 returns-2 : tie.Need-returns-2 Inv-loop μ-loop

@@ -14,12 +14,11 @@ use borrow.Fn.PlainCycle.{Measures, is, falls, and}
 use Rattle.formula.proofs.evaluate.eval.Reads as eval
 use Rattle.formula.proofs.evaluate.eval.Kinds as eval-kinds
 use Rattle.formula.proofs.evaluate.+eval.Lts-eval as eval-lts
-use Rattle.formula.proofs.evaluate.leaf_word.Reads as leaf-word-reads
+use Rattle.formula.proofs.evaluate.leaf.Reads as leaf-reads
 use Rattle.formula.proofs.nodes.node_at.Reads as node-at-reads
-use Rattle.sequence.proofs.CharSeq.mask.Reads as mask-reads
-use Rattle.sequence.proofs.operators.binary_word.Reads as binary-word-reads
+use Rattle.sequence.proofs.CharSeq.binary.Reads as binary-reads
+use Rattle.sequence.proofs.CharSeq.unary.Reads as unary-reads
 use Rattle.sequence.proofs.operators.operator_of.Reads as operator-of-reads
-use Rattle.sequence.proofs.operators.unary_word.Reads as unary-word-reads
 use Rattle.formula.proofs.evaluate.+eval.{statement}
 use Rattle.formula.proofs.evaluate.+eval.Tie.{close}
 
@@ -39,14 +38,12 @@ eval-operator-of-requires : (t : ℕ) → eval-lts.Need-operator-of-requires (
   node-at-reads.Learnt,
   eval-below t,
   eval.Post,
-  mask-reads.Asked,
-  mask-reads.Learnt,
-  unary-word-reads.Asked,
-  unary-word-reads.Learnt,
-  binary-word-reads.Asked,
-  binary-word-reads.Learnt,
-  leaf-word-reads.Asked,
-  leaf-word-reads.Learnt,
+  unary-reads.Asked,
+  unary-reads.Learnt,
+  binary-reads.Asked,
+  binary-reads.Learnt,
+  leaf-reads.Asked,
+  leaf-reads.Learnt,
 ) (eval-at t) eval.Post
 eval-operator-of-requires t c κs = search needs
 
@@ -57,14 +54,12 @@ eval-enum-told : (t : ℕ) → eval-lts.Need-enum-told (
   node-at-reads.Learnt,
   eval-below t,
   eval.Post,
-  mask-reads.Asked,
-  mask-reads.Learnt,
-  unary-word-reads.Asked,
-  unary-word-reads.Learnt,
-  binary-word-reads.Asked,
-  binary-word-reads.Learnt,
-  leaf-word-reads.Asked,
-  leaf-word-reads.Learnt,
+  unary-reads.Asked,
+  unary-reads.Learnt,
+  binary-reads.Asked,
+  binary-reads.Learnt,
+  leaf-reads.Asked,
+  leaf-reads.Learnt,
 ) (eval-at t) eval.Post
 eval-enum-told t c = search needs
 
@@ -75,14 +70,12 @@ eval-cast-left : (t : ℕ) → eval-lts.Need-cast-left (
   node-at-reads.Learnt,
   eval-below t,
   eval.Post,
-  mask-reads.Asked,
-  mask-reads.Learnt,
-  unary-word-reads.Asked,
-  unary-word-reads.Learnt,
-  binary-word-reads.Asked,
-  binary-word-reads.Learnt,
-  leaf-word-reads.Asked,
-  leaf-word-reads.Learnt,
+  unary-reads.Asked,
+  unary-reads.Learnt,
+  binary-reads.Asked,
+  binary-reads.Learnt,
+  leaf-reads.Asked,
+  leaf-reads.Learnt,
 ) (eval-at t) eval.Post
 eval-cast-left t c = search needs
 
@@ -93,14 +86,12 @@ eval-node-at-requires : (t : ℕ) → eval-lts.Need-node-at-requires (
   node-at-reads.Learnt,
   eval-below t,
   eval.Post,
-  mask-reads.Asked,
-  mask-reads.Learnt,
-  unary-word-reads.Asked,
-  unary-word-reads.Learnt,
-  binary-word-reads.Asked,
-  binary-word-reads.Learnt,
-  leaf-word-reads.Asked,
-  leaf-word-reads.Learnt,
+  unary-reads.Asked,
+  unary-reads.Learnt,
+  binary-reads.Asked,
+  binary-reads.Learnt,
+  leaf-reads.Asked,
+  leaf-reads.Learnt,
 ) (eval-at t) eval.Post
 eval-node-at-requires t c κs = search needs
 
@@ -111,14 +102,12 @@ eval-eval-requires : (t : ℕ) → eval-lts.Need-eval-requires (
   node-at-reads.Learnt,
   eval-below t,
   eval.Post,
-  mask-reads.Asked,
-  mask-reads.Learnt,
-  unary-word-reads.Asked,
-  unary-word-reads.Learnt,
-  binary-word-reads.Asked,
-  binary-word-reads.Learnt,
-  leaf-word-reads.Asked,
-  leaf-word-reads.Learnt,
+  unary-reads.Asked,
+  unary-reads.Learnt,
+  binary-reads.Asked,
+  binary-reads.Learnt,
+  leaf-reads.Asked,
+  leaf-reads.Learnt,
 ) (eval-at t) eval.Post
 eval-eval-requires t c κs = let s = c .before .before .before .before .before .before .before .before .before .before in
     let a = s .args in
@@ -127,41 +116,21 @@ eval-eval-requires t c κs = let s = c .before .before .before .before .before .
     let h = left-under _ _ _ (nodeOf (a .node)) (s .pre .1 .fits) (inl u) in
     (omega arith, ready-at (a .length) (a .words .now) (a .from) (nodes (a .codes .now) (a .lefts .now) (a .rights .now) (a .sizes .now)) (nodeOf (a .node)) (s .pre .1) (a .node .left .0) h (c .node-at .ensures))
 
-eval-mask-requires : (t : ℕ) → eval-lts.Need-mask-requires (
+eval-unary-requires : (t : ℕ) → eval-lts.Need-unary-requires (
   operator-of-reads.Asked,
   operator-of-reads.Learnt,
   node-at-reads.Asked,
   node-at-reads.Learnt,
   eval-below t,
   eval.Post,
-  mask-reads.Asked,
-  mask-reads.Learnt,
-  unary-word-reads.Asked,
-  unary-word-reads.Learnt,
-  binary-word-reads.Asked,
-  binary-word-reads.Learnt,
-  leaf-word-reads.Asked,
-  leaf-word-reads.Learnt,
+  unary-reads.Asked,
+  unary-reads.Learnt,
+  binary-reads.Asked,
+  binary-reads.Learnt,
+  leaf-reads.Asked,
+  leaf-reads.Learnt,
 ) (eval-at t) eval.Post
-eval-mask-requires t c κs = search needs
-
-eval-unary-word-requires : (t : ℕ) → eval-lts.Need-unary-word-requires (
-  operator-of-reads.Asked,
-  operator-of-reads.Learnt,
-  node-at-reads.Asked,
-  node-at-reads.Learnt,
-  eval-below t,
-  eval.Post,
-  mask-reads.Asked,
-  mask-reads.Learnt,
-  unary-word-reads.Asked,
-  unary-word-reads.Learnt,
-  binary-word-reads.Asked,
-  binary-word-reads.Learnt,
-  leaf-word-reads.Asked,
-  leaf-word-reads.Learnt,
-) (eval-at t) eval.Post
-eval-unary-word-requires t c κs = search needs
+eval-unary-requires t c κs = search needs
 
 eval-enum-told-2 : (t : ℕ) → eval-lts.Need-enum-told-2 (
   operator-of-reads.Asked,
@@ -170,14 +139,12 @@ eval-enum-told-2 : (t : ℕ) → eval-lts.Need-enum-told-2 (
   node-at-reads.Learnt,
   eval-below t,
   eval.Post,
-  mask-reads.Asked,
-  mask-reads.Learnt,
-  unary-word-reads.Asked,
-  unary-word-reads.Learnt,
-  binary-word-reads.Asked,
-  binary-word-reads.Learnt,
-  leaf-word-reads.Asked,
-  leaf-word-reads.Learnt,
+  unary-reads.Asked,
+  unary-reads.Learnt,
+  binary-reads.Asked,
+  binary-reads.Learnt,
+  leaf-reads.Asked,
+  leaf-reads.Learnt,
 ) (eval-at t) eval.Post
 eval-enum-told-2 t c = search needs
 
@@ -188,14 +155,12 @@ eval-cast-left-2 : (t : ℕ) → eval-lts.Need-cast-left-2 (
   node-at-reads.Learnt,
   eval-below t,
   eval.Post,
-  mask-reads.Asked,
-  mask-reads.Learnt,
-  unary-word-reads.Asked,
-  unary-word-reads.Learnt,
-  binary-word-reads.Asked,
-  binary-word-reads.Learnt,
-  leaf-word-reads.Asked,
-  leaf-word-reads.Learnt,
+  unary-reads.Asked,
+  unary-reads.Learnt,
+  binary-reads.Asked,
+  binary-reads.Learnt,
+  leaf-reads.Asked,
+  leaf-reads.Learnt,
 ) (eval-at t) eval.Post
 eval-cast-left-2 t c = search needs
 
@@ -206,14 +171,12 @@ eval-node-at-requires-2 : (t : ℕ) → eval-lts.Need-node-at-requires-2 (
   node-at-reads.Learnt,
   eval-below t,
   eval.Post,
-  mask-reads.Asked,
-  mask-reads.Learnt,
-  unary-word-reads.Asked,
-  unary-word-reads.Learnt,
-  binary-word-reads.Asked,
-  binary-word-reads.Learnt,
-  leaf-word-reads.Asked,
-  leaf-word-reads.Learnt,
+  unary-reads.Asked,
+  unary-reads.Learnt,
+  binary-reads.Asked,
+  binary-reads.Learnt,
+  leaf-reads.Asked,
+  leaf-reads.Learnt,
 ) (eval-at t) eval.Post
 eval-node-at-requires-2 t c κs = search needs
 
@@ -224,14 +187,12 @@ eval-eval-requires-2 : (t : ℕ) → eval-lts.Need-eval-requires-2 (
   node-at-reads.Learnt,
   eval-below t,
   eval.Post,
-  mask-reads.Asked,
-  mask-reads.Learnt,
-  unary-word-reads.Asked,
-  unary-word-reads.Learnt,
-  binary-word-reads.Asked,
-  binary-word-reads.Learnt,
-  leaf-word-reads.Asked,
-  leaf-word-reads.Learnt,
+  unary-reads.Asked,
+  unary-reads.Learnt,
+  binary-reads.Asked,
+  binary-reads.Learnt,
+  leaf-reads.Asked,
+  leaf-reads.Learnt,
 ) (eval-at t) eval.Post
 eval-eval-requires-2 t c κs = let s = c .before .before .before .before .before .before .before .before .before .before in
     let a = s .args in
@@ -247,14 +208,12 @@ eval-cast-right : (t : ℕ) → eval-lts.Need-cast-right (
   node-at-reads.Learnt,
   eval-below t,
   eval.Post,
-  mask-reads.Asked,
-  mask-reads.Learnt,
-  unary-word-reads.Asked,
-  unary-word-reads.Learnt,
-  binary-word-reads.Asked,
-  binary-word-reads.Learnt,
-  leaf-word-reads.Asked,
-  leaf-word-reads.Learnt,
+  unary-reads.Asked,
+  unary-reads.Learnt,
+  binary-reads.Asked,
+  binary-reads.Learnt,
+  leaf-reads.Asked,
+  leaf-reads.Learnt,
 ) (eval-at t) eval.Post
 eval-cast-right t c = search needs
 
@@ -265,14 +224,12 @@ eval-node-at-requires-3 : (t : ℕ) → eval-lts.Need-node-at-requires-3 (
   node-at-reads.Learnt,
   eval-below t,
   eval.Post,
-  mask-reads.Asked,
-  mask-reads.Learnt,
-  unary-word-reads.Asked,
-  unary-word-reads.Learnt,
-  binary-word-reads.Asked,
-  binary-word-reads.Learnt,
-  leaf-word-reads.Asked,
-  leaf-word-reads.Learnt,
+  unary-reads.Asked,
+  unary-reads.Learnt,
+  binary-reads.Asked,
+  binary-reads.Learnt,
+  leaf-reads.Asked,
+  leaf-reads.Learnt,
 ) (eval-at t) eval.Post
 eval-node-at-requires-3 t c κs = search needs
 
@@ -283,14 +240,12 @@ eval-eval-requires-3 : (t : ℕ) → eval-lts.Need-eval-requires-3 (
   node-at-reads.Learnt,
   eval-below t,
   eval.Post,
-  mask-reads.Asked,
-  mask-reads.Learnt,
-  unary-word-reads.Asked,
-  unary-word-reads.Learnt,
-  binary-word-reads.Asked,
-  binary-word-reads.Learnt,
-  leaf-word-reads.Asked,
-  leaf-word-reads.Learnt,
+  unary-reads.Asked,
+  unary-reads.Learnt,
+  binary-reads.Asked,
+  binary-reads.Learnt,
+  leaf-reads.Asked,
+  leaf-reads.Learnt,
 ) (eval-at t) eval.Post
 eval-eval-requires-3 t c κs = let s = c .before .before .before .before .before .before .before .before .before .before .before .before .before in
     let a = s .args in
@@ -299,41 +254,21 @@ eval-eval-requires-3 t c κs = let s = c .before .before .before .before .before
     let h = right-under _ _ _ (nodeOf (a .node)) (s .pre .1 .fits) u in
     (omega arith, ready-at (a .length) (a .words .now) (a .from) (nodes (a .codes .now) (a .lefts .now) (a .rights .now) (a .sizes .now)) (nodeOf (a .node)) (s .pre .1) (a .node .right .0) h (c .node-at3 .ensures))
 
-eval-mask-requires-2 : (t : ℕ) → eval-lts.Need-mask-requires-2 (
+eval-binary-requires : (t : ℕ) → eval-lts.Need-binary-requires (
   operator-of-reads.Asked,
   operator-of-reads.Learnt,
   node-at-reads.Asked,
   node-at-reads.Learnt,
   eval-below t,
   eval.Post,
-  mask-reads.Asked,
-  mask-reads.Learnt,
-  unary-word-reads.Asked,
-  unary-word-reads.Learnt,
-  binary-word-reads.Asked,
-  binary-word-reads.Learnt,
-  leaf-word-reads.Asked,
-  leaf-word-reads.Learnt,
+  unary-reads.Asked,
+  unary-reads.Learnt,
+  binary-reads.Asked,
+  binary-reads.Learnt,
+  leaf-reads.Asked,
+  leaf-reads.Learnt,
 ) (eval-at t) eval.Post
-eval-mask-requires-2 t c κs = search needs
-
-eval-binary-word-requires : (t : ℕ) → eval-lts.Need-binary-word-requires (
-  operator-of-reads.Asked,
-  operator-of-reads.Learnt,
-  node-at-reads.Asked,
-  node-at-reads.Learnt,
-  eval-below t,
-  eval.Post,
-  mask-reads.Asked,
-  mask-reads.Learnt,
-  unary-word-reads.Asked,
-  unary-word-reads.Learnt,
-  binary-word-reads.Asked,
-  binary-word-reads.Learnt,
-  leaf-word-reads.Asked,
-  leaf-word-reads.Learnt,
-) (eval-at t) eval.Post
-eval-binary-word-requires t c κs = search needs
+eval-binary-requires t c κs = search needs
 
 eval-enum-told-3 : (t : ℕ) → eval-lts.Need-enum-told-3 (
   operator-of-reads.Asked,
@@ -342,34 +277,30 @@ eval-enum-told-3 : (t : ℕ) → eval-lts.Need-enum-told-3 (
   node-at-reads.Learnt,
   eval-below t,
   eval.Post,
-  mask-reads.Asked,
-  mask-reads.Learnt,
-  unary-word-reads.Asked,
-  unary-word-reads.Learnt,
-  binary-word-reads.Asked,
-  binary-word-reads.Learnt,
-  leaf-word-reads.Asked,
-  leaf-word-reads.Learnt,
+  unary-reads.Asked,
+  unary-reads.Learnt,
+  binary-reads.Asked,
+  binary-reads.Learnt,
+  leaf-reads.Asked,
+  leaf-reads.Learnt,
 ) (eval-at t) eval.Post
 eval-enum-told-3 t c = search needs
 
-eval-leaf-word-requires : (t : ℕ) → eval-lts.Need-leaf-word-requires (
+eval-leaf-requires : (t : ℕ) → eval-lts.Need-leaf-requires (
   operator-of-reads.Asked,
   operator-of-reads.Learnt,
   node-at-reads.Asked,
   node-at-reads.Learnt,
   eval-below t,
   eval.Post,
-  mask-reads.Asked,
-  mask-reads.Learnt,
-  unary-word-reads.Asked,
-  unary-word-reads.Learnt,
-  binary-word-reads.Asked,
-  binary-word-reads.Learnt,
-  leaf-word-reads.Asked,
-  leaf-word-reads.Learnt,
+  unary-reads.Asked,
+  unary-reads.Learnt,
+  binary-reads.Asked,
+  binary-reads.Learnt,
+  leaf-reads.Asked,
+  leaf-reads.Learnt,
 ) (eval-at t) eval.Post
-eval-leaf-word-requires t c κs = let f = c .before .before .operator-of in (
+eval-leaf-requires t c κs = let f = c .before .before .operator-of in (
   c .before .before .before .before .before .before .before .before .pre .1,
   λ u. off-unary _ (f .result) (f .ensures) (λ g. let z : _≡_ {A = ℕ} 0 1 = cc (c .enum-told3 .given .1) in omega arith) (u .0) (u .1),
   λ u. off-binary _ (f .result) (f .ensures) (λ g. let z : _≡_ {A = ℕ} 0 1 = cc (c .enum-told3 .given .1) in omega arith) (u .0) (u .1),
@@ -382,20 +313,18 @@ eval-returns : (t : ℕ) → eval-lts.Need-returns (
   node-at-reads.Learnt,
   eval-below t,
   eval.Post,
-  mask-reads.Asked,
-  mask-reads.Learnt,
-  unary-word-reads.Asked,
-  unary-word-reads.Learnt,
-  binary-word-reads.Asked,
-  binary-word-reads.Learnt,
-  leaf-word-reads.Asked,
-  leaf-word-reads.Learnt,
+  unary-reads.Asked,
+  unary-reads.Learnt,
+  binary-reads.Asked,
+  binary-reads.Learnt,
+  leaf-reads.Asked,
+  leaf-reads.Learnt,
 ) (eval-at t) eval.Post
-eval-returns t c = let s = c .before .before .before .before .before .before .before .before .before .before .before .before .before in
+eval-returns t c = let s = c .before .before .before .before .before .before .before .before .before .before .before .before in
     let a = s .args in
-    let f = c .before .before .before .before .before .before .before .operator-of in
-    let u = in-unary _ (f .result) (f .ensures) (c .before .before .before .before .before .enum-told .given .1) in
-    word-of-unary (a .length) (a .words .now) (a .from) (nodes (a .codes .now) (a .lefts .now) (a .rights .now) (a .sizes .now)) (nodeOf (a .node)) (s .pre .1 .short) u (c .before .mask .ensures) (c .before .before .before .node-at .ensures) (c .before .before .eval .ensures) (c .unary-word .ensures)
+    let f = c .before .before .before .before .before .before .operator-of in
+    let u = in-unary _ (f .result) (f .ensures) (c .before .before .before .before .enum-told .given .1) in
+    word-of-unary (a .length) (a .words .now) (a .from) (nodes (a .codes .now) (a .lefts .now) (a .rights .now) (a .sizes .now)) (nodeOf (a .node)) u (c .before .before .node-at .ensures) (c .before .eval .ensures) (c .unary .ensures)
 
 eval-returns-2 : (t : ℕ) → eval-lts.Need-returns-2 (
   operator-of-reads.Asked,
@@ -404,20 +333,18 @@ eval-returns-2 : (t : ℕ) → eval-lts.Need-returns-2 (
   node-at-reads.Learnt,
   eval-below t,
   eval.Post,
-  mask-reads.Asked,
-  mask-reads.Learnt,
-  unary-word-reads.Asked,
-  unary-word-reads.Learnt,
-  binary-word-reads.Asked,
-  binary-word-reads.Learnt,
-  leaf-word-reads.Asked,
-  leaf-word-reads.Learnt,
+  unary-reads.Asked,
+  unary-reads.Learnt,
+  binary-reads.Asked,
+  binary-reads.Learnt,
+  leaf-reads.Asked,
+  leaf-reads.Learnt,
 ) (eval-at t) eval.Post
-eval-returns-2 t c = let s = c .before .before .before .before .before .before .before .before .before .before .before .before .before .before .before .before in
+eval-returns-2 t c = let s = c .before .before .before .before .before .before .before .before .before .before .before .before .before .before .before in
     let a = s .args in
-    let f = c .before .before .before .before .before .before .before .before .before .before .operator-of in
-    let u = in-binary _ (f .result) (f .ensures) (c .before .before .before .before .before .before .before .before .enum-told2 .given .1) in
-    word-of-binary (a .length) (a .words .now) (a .from) (nodes (a .codes .now) (a .lefts .now) (a .rights .now) (a .sizes .now)) (nodeOf (a .node)) (s .pre .1 .short) u (c .before .mask2 .ensures) (c .before .before .before .before .before .before .node-at2 .ensures) (c .before .before .before .before .before .eval2 .ensures) (c .before .before .before .node-at3 .ensures) (c .before .before .eval3 .ensures) (c .binary-word .ensures)
+    let f = c .before .before .before .before .before .before .before .before .before .operator-of in
+    let u = in-binary _ (f .result) (f .ensures) (c .before .before .before .before .before .before .before .enum-told2 .given .1) in
+    word-of-binary (a .length) (a .words .now) (a .from) (nodes (a .codes .now) (a .lefts .now) (a .rights .now) (a .sizes .now)) (nodeOf (a .node)) u (c .before .before .before .before .before .node-at2 .ensures) (c .before .before .before .before .eval2 .ensures) (c .before .before .node-at3 .ensures) (c .before .eval3 .ensures) (c .binary .ensures)
 
 eval-returns-3 : (t : ℕ) → eval-lts.Need-returns-3 (
   operator-of-reads.Asked,
@@ -426,16 +353,14 @@ eval-returns-3 : (t : ℕ) → eval-lts.Need-returns-3 (
   node-at-reads.Learnt,
   eval-below t,
   eval.Post,
-  mask-reads.Asked,
-  mask-reads.Learnt,
-  unary-word-reads.Asked,
-  unary-word-reads.Learnt,
-  binary-word-reads.Asked,
-  binary-word-reads.Learnt,
-  leaf-word-reads.Asked,
-  leaf-word-reads.Learnt,
+  unary-reads.Asked,
+  unary-reads.Learnt,
+  binary-reads.Asked,
+  binary-reads.Learnt,
+  leaf-reads.Asked,
+  leaf-reads.Learnt,
 ) (eval-at t) eval.Post
-eval-returns-3 t c = c .leaf-word .ensures
+eval-returns-3 t c = c .leaf .ensures
 
 pub +eval-spec : {M : Type 1} → statement M
 +eval-spec = close μ-eval λ t. eval-lts.spec (
@@ -445,14 +370,12 @@ pub +eval-spec : {M : Type 1} → statement M
   node-at-reads.Learnt,
   eval-below t,
   eval.Post,
-  mask-reads.Asked,
-  mask-reads.Learnt,
-  unary-word-reads.Asked,
-  unary-word-reads.Learnt,
-  binary-word-reads.Asked,
-  binary-word-reads.Learnt,
-  leaf-word-reads.Asked,
-  leaf-word-reads.Learnt,
+  unary-reads.Asked,
+  unary-reads.Learnt,
+  binary-reads.Asked,
+  binary-reads.Learnt,
+  leaf-reads.Asked,
+  leaf-reads.Learnt,
 )
     (eval-at t)
     eval.Post
@@ -461,8 +384,7 @@ pub +eval-spec : {M : Type 1} → statement M
     (eval-cast-left t)
     (eval-node-at-requires t)
     (eval-eval-requires t)
-    (eval-mask-requires t)
-    (eval-unary-word-requires t)
+    (eval-unary-requires t)
     (eval-enum-told-2 t)
     (eval-cast-left-2 t)
     (eval-node-at-requires-2 t)
@@ -470,10 +392,9 @@ pub +eval-spec : {M : Type 1} → statement M
     (eval-cast-right t)
     (eval-node-at-requires-3 t)
     (eval-eval-requires-3 t)
-    (eval-mask-requires-2 t)
-    (eval-binary-word-requires t)
+    (eval-binary-requires t)
     (eval-enum-told-3 t)
-    (eval-leaf-word-requires t)
+    (eval-leaf-requires t)
     (eval-returns t)
     (eval-returns-2 t)
     (eval-returns-3 t)

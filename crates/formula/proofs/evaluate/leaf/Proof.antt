@@ -1,16 +1,17 @@
--- `leaf_word` meets its contract: by the code, the recorded word, none, or the mask.
+-- `leaf` meets its contract: by the code, the recorded word, no snapshot, or the mask.
 -- Assumes nothing.
 use mathlib.Core.Path.{_≡_, sym, subst}
 use Prim.Native.Nat.{ℕ, _+_}
 use lib.ListN.{getD}
 use native.Mathlib.Omega.{arith}
+use Rattle.sequence.specs.Sequence.{seq}
 use Rattle.formula.specs.Kinds.{nodeOf, nodes}
 use Rattle.formula.specs.Inner.{Evaluated}
 use Rattle.formula.proofs.Faults.{proposition-under, true-code}
 use Rattle.formula.proofs.Evaluation.{word-of-proposition, word-of-false, word-of-true}
 use borrow.Author.Needs.{needs}
-use Rattle.formula.proofs.evaluate.leaf_word.Statement.{statement}
-use Rattle.formula.proofs.evaluate.leaf_word.Tie as tie
+use Rattle.formula.proofs.evaluate.leaf.Statement.{statement}
+use Rattle.formula.proofs.evaluate.leaf.Tie as tie
 
 from-left-requires : tie.Need-from-left-requires
 from-left-requires c κs = search needs
@@ -18,14 +19,14 @@ from-left-requires c κs = search needs
 cast-p : tie.Need-cast-p
 cast-p c = search needs
 
-add-result : tie.Need-add-result
-add-result c = search needs
+add-word : tie.Need-add-word
+add-word c = search needs
 
-mul-result : tie.Need-mul-result
-mul-result c = search needs
+mul-word : tie.Need-mul-word
+mul-word c = search needs
 
-shared-slice-read-result : tie.Need-shared-slice-read-result
-shared-slice-read-result c = let s = c .before .before .before .before .before .before .before .before .before .before in
+shared-slice-read-word : tie.Need-shared-slice-read-word
+shared-slice-read-word c = let s = c .before .before .before .before .before .before .before .before .before .before in
     let a = s .args in
     let r = s .pre .0 in
     omega (arith, r .there, r .few, proposition-under (r .propositions) _ (a .below) (nodeOf (a .node)) (r .fits) (c .before .before .before .if1 .taken))
@@ -36,7 +37,7 @@ returns c = let s = c .before .before .before .before .before .before .before .b
     let r = s .pre .0 in
     let h = proposition-under (r .propositions) _ (a .below) (nodeOf (a .node)) (r .fits) (c .before .before .before .if1 .taken) in
     let e : c .before .before .from-left .result .0 ≡ a .node .left .0 = omega (arith, r .few) in
-    subst (λ (p : ℕ). Evaluated (a .length) (a .words .now) (a .from) (nodes (a .codes .now) (a .lefts .now) (a .rights .now) (a .sizes .now)) (nodeOf (a .node)) (getD (a .words .now) (a .from + p) 0)) (sym e)
+    subst (λ (p : ℕ). Evaluated (a .length) (a .words .now) (a .from) (nodes (a .codes .now) (a .lefts .now) (a .rights .now) (a .sizes .now)) (nodeOf (a .node)) (seq (a .length) (getD (a .words .now) (a .from + p) 0))) (sym e)
     (word-of-proposition (a .length) (a .words .now) (a .from) (nodes (a .codes .now) (a .lefts .now) (a .rights .now) (a .sizes .now)) (nodeOf (a .node)) (a .below) r (c .before .before .before .if1 .taken))
 
 returns-2 : tie.Need-returns-2
@@ -50,15 +51,15 @@ returns-3 c = let s = c .before .before .before .before .before .before .before 
     let a = s .args in
     word-of-true (a .length) (a .words .now) (a .from) (nodes (a .codes .now) (a .lefts .now) (a .rights .now) (a .sizes .now)) (nodeOf (a .node)) (s .pre .0 .short) (true-code _ _ (a .below) (nodeOf (a .node)) (s .pre .0 .fits) (s .pre .1) (s .pre .2) (c .before .before .before .if1 .left) (c .before .if2 .left)) (c .mask .ensures)
 
-pub leaf-word-spec : {M : Type 1} → statement M
-leaf-word-spec =
+pub leaf-spec : {M : Type 1} → statement M
+leaf-spec =
     tie.close
     (tie.spec
     from-left-requires
     cast-p
-    add-result
-    mul-result
-    shared-slice-read-result
+    add-word
+    mul-word
+    shared-slice-read-word
     returns
     returns-2
     mask-requires

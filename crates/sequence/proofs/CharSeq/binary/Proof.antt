@@ -1,13 +1,13 @@
--- `binary_word` meets its contract: each arm's word is that of the operator with the code, and no other code has one.
+-- `CharSeq::binary` meets its contract: each arm calls the method of the operator with the code, and no other code has one.
 -- Assumes nothing.
-use mathlib.Core.Path.{refl, sym}
+use mathlib.Core.Path.{sym}
 use native.Mathlib.Omega.{arith}
 use borrow.Author.Needs.{needs}
 use Rattle.sequence.specs.Operators.{or, and, until, release, implies, equiv}
-use Rattle.sequence.specs.Masked.BinaryWord.{word, nothing}
+use Rattle.sequence.specs.Masked.BinaryBy.{operator, nothing}
 use Rattle.sequence.proofs.Groups.{not-binary}
-use Rattle.sequence.proofs.operators.binary_word.Statement.{statement}
-use Rattle.sequence.proofs.operators.binary_word.Tie as tie
+use Rattle.sequence.proofs.CharSeq.binary.Statement.{statement}
+use Rattle.sequence.proofs.CharSeq.binary.Tie as tie
 
 or-requires : tie.Need-or-requires
 or-requires c κs = search needs
@@ -27,29 +27,32 @@ implies-requires c κs = search needs
 equiv-requires : tie.Need-equiv-requires
 equiv-requires c κs = search needs
 
+nowhere-requires : tie.Need-nowhere-requires
+nowhere-requires c κs = search needs
+
 returns : tie.Need-returns
-returns c = word or (sym (c .before .match .keys1)) (c .or .ensures)
+returns c = operator or (sym (c .before .match .keys1)) (c .or .ensures)
 
 returns-2 : tie.Need-returns-2
-returns-2 c = word and (sym (c .before .match .keys2)) (c .and .ensures)
+returns-2 c = operator and (sym (c .before .match .keys2)) (c .and .ensures)
 
 returns-3 : tie.Need-returns-3
-returns-3 c = word until (sym (c .before .match .keys3)) (c .until .ensures)
+returns-3 c = operator until (sym (c .before .match .keys3)) (c .until .ensures)
 
 returns-4 : tie.Need-returns-4
-returns-4 c = word release (sym (c .before .match .keys4)) (c .release .ensures)
+returns-4 c = operator release (sym (c .before .match .keys4)) (c .release .ensures)
 
 returns-5 : tie.Need-returns-5
-returns-5 c = word implies (sym (c .before .match .keys5)) (c .implies .ensures)
+returns-5 c = operator implies (sym (c .before .match .keys5)) (c .implies .ensures)
 
 returns-6 : tie.Need-returns-6
-returns-6 c = word equiv (sym (c .before .match .keys6)) (c .equiv .ensures)
+returns-6 c = operator equiv (sym (c .before .match .keys6)) (c .equiv .ensures)
 
 returns-7 : tie.Need-returns-7
-returns-7 c = nothing (not-binary _ (λ h. omega arith)) refl
+returns-7 c = nothing (not-binary _ (λ h. omega arith)) (c .nowhere .ensures)
 
-pub binary-word-spec : {M : Type 1} → statement M
-binary-word-spec =
+pub binary-spec : {M : Type 1} → statement M
+binary-spec =
     tie.close
     (tie.spec
     or-requires
@@ -58,6 +61,7 @@ binary-word-spec =
     release-requires
     implies-requires
     equiv-requires
+    nowhere-requires
     returns
     returns-2
     returns-3
