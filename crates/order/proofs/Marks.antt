@@ -13,7 +13,7 @@ use Rattle.order.specs.Size.{commuting}
 use Rattle.order.specs.Ahead.{twice}
 
 unary-unmarked : (op : ops.Unary) → commuting (ops.unaryCode op) ≡ false
-unfolding commuting
+unfolding commuting ops.decode
 unary-unmarked ops.Unary.not = refl
 unary-unmarked ops.Unary.weakNext = refl
 unary-unmarked ops.Unary.strongNext = refl
@@ -21,7 +21,7 @@ unary-unmarked ops.Unary.finally = refl
 unary-unmarked ops.Unary.globally = refl
 
 binary-marked : (op : ops.Binary) → commuting (ops.binaryCode op) ≡ ops.commutes op
-unfolding commuting
+unfolding commuting ops.decode
 binary-marked ops.Binary.or = refl
 binary-marked ops.Binary.and = refl
 binary-marked ops.Binary.until = refl

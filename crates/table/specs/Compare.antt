@@ -6,7 +6,7 @@ use mathlib.Core.List.{List}
 use Prim.Native.Nat.{ℕ, _+_, _*_, _≤_, _<_}
 use lib.ListN.{length, getD}
 use lib.Dec.{eqb, leb}
-use Rattle.rules.specs.Limits.{mostSessions, mostRoom, Outside}
+use Rattle.rules.specs.Limits.{mostSessions, mostRoom}
 use Rattle.rules.specs.Lists.{count}
 use Rattle.walk.specs.Rows.{acceptsRow}
 use Rattle.walk.specs.Input.{every}
