@@ -13,3 +13,4 @@ pub mod Largest
 pub mod Cuts
 pub mod Offsets
 pub mod Prefix
+pub mod Alike

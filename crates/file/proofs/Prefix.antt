@@ -1,7 +1,7 @@
 -- A byte string's first 4,451 bytes decide, one more than the largest good file has: of a longer one the rule answers what it answers of these, and a
 -- refusal has the same offset. No item looks at offset 4,450 or beyond, and both have more bytes than the items take.
 -- Assumes nothing.
-use mathlib.Core.Path.{_≡_, refl, ap, _∙_}
+use mathlib.Core.Path.{_≡_, refl, sym, ap, _∙_}
 use mathlib.Core.Bool.{Bool}
 use mathlib.Core.List.{List, [], _∷_, _++_}
 use Prim.Native.Nat.{ℕ, zero, suc, _+_, _-_, _*_, _≤_, _<_}
@@ -9,7 +9,7 @@ use native.Mathlib.Decide.{decLe}
 use native.Mathlib.Nat.{suc-mul, mul-le-mul-right}
 use native.Mathlib.Omega.{arith}
 use borrow.Author.Tests.{lt-ltb, le-leb, ne-eqb}
-use lib.ListN.{length, take, drop, length-take, length-append}
+use lib.ListN.{length, getD, take, drop, length-take, length-append}
 use lib.Seq.{getD-take, take-all, take-take}
 use Rattle.words.specs.Word.{width}
 use Rattle.file.specs.Numbers.{sessions, propositions, bound}
@@ -30,20 +30,15 @@ same-then : {A B : Type 0} (g h : Got A) (p q : A → ℕ → Got B) {s : ℕ} �
 same-then g (got a n) p q e u f = rw e (f a n refl u)
 same-then g (bad o) p q e u f = rw e
 
--- what is read of a file's first k bytes and of the file, as long as nothing that is looked at passes k
-module _ (file : List ℕ) (k : ℕ) (short : k ≤ length file) where
-  abbrev front : List ℕ
-  front = take k file
-
-  front-length : length front ≡ k
-  front-length = omega (arith, length-take k file)
-
-  same-byte : (test : ℕ → Bool) (at : ℕ) → at < k → byte test front at ≡ byte test file at
+-- what is read of two files whose first k bytes are the same, as long as nothing that is looked at passes k
+module _ (front file : List ℕ) (k : ℕ) (short : k ≤ length front) (long : k ≤ length file) (agree : take k front ≡ take k file) where
+  pub same-byte : (test : ℕ → Bool) (at : ℕ) → at < k → byte test front at ≡ byte test file at
   unfolding byte
   same-byte test at h =
-      let i : at < length front = omega (arith, front-length) in
+      let i : at < length front = omega arith in
       let j : at < length file = omega arith in
-      rw (lt-ltb at (length front) i, lt-ltb at (length file) j, getD-take k file at 0 h)
+      let s : getD front at 0 ≡ getD file at 0 = sym (getD-take k front at 0 h) ∙ ap (λ (l : List ℕ). getD l at 0) agree ∙ getD-take k file at 0 h in
+      rw (lt-ltb at (length front) i, lt-ltb at (length file) j, s)
 
   module _ {A : Type 0} (item : List A → Reader A) (w : ℕ) (ends : (before : List A) (at : ℕ) → Upto (at + w) (item before file at)) (same : (before : List A) (at : ℕ) → at + w ≤ k → item before front at ≡ item before file at) where
     same-row : (n : ℕ) (before : List A) (at : ℕ) → at + n * w ≤ k → each item n before front at ≡ each item n before file at
@@ -62,20 +57,23 @@ module _ (file : List ℕ) (k : ℕ) (short : k ≤ length file) where
 
   -- ---- names
 
-  same-name : (before : List (List ℕ)) (at : ℕ) → at + 17 ≤ k → name before front at ≡ name before file at
+  pub same-name : (before : List (List ℕ)) (at : ℕ) → at + 17 ≤ k → name before front at ≡ name before file at
   unfolding name
   same-name before at h =
       rw (same-counted letter 1 (letter-upto file) (λ seen a l. same-byte _ a (omega arith)) 1 nameLength at (omega arith))
 
   -- ---- sessions
 
-  same-word : (n at : ℕ) → at + 8 ≤ k → word n front at ≡ word n file at
+  pub same-word : (n at : ℕ) → at + 8 ≤ k → word n front at ≡ word n file at
   unfolding word
   same-word n at h =
-      let i : at + 8 ≤ length front = omega (arith, front-length) in
+      let i : at + 8 ≤ length front = omega arith in
       let j : at + 8 ≤ length file = omega arith in
-      let s : take 8 (drop at front) ≡ take 8 (drop at file) = ap (take 8) (drop-take at k file) ∙ take-take 8 (k - at) (drop at file) (omega arith) in
+      let s : take 8 (drop at front) ≡ take 8 (drop at file) = sym (within-first front) ∙ ap (λ (l : List ℕ). take 8 (drop at l)) agree ∙ within-first file in
       rw (le-leb (at + 8) (length front) i, le-leb (at + 8) (length file) j, s)
+    where
+      within-first : (l : List ℕ) → take 8 (drop at (take k l)) ≡ take 8 (drop at l)
+      within-first l = ap (take 8) (drop-take at k l) ∙ take-take 8 (k - at) (drop at l) (omega arith)
 
   same-session : (m at : ℕ) → at + (2 + m * 8) ≤ k → session m front at ≡ session m file at
   unfolding session
@@ -118,7 +116,7 @@ module _ (file : List ℕ) (k : ℕ) (short : k ≤ length file) where
   same-sessions : (m : ℕ) → m ≤ propositions → (at : ℕ) → at + 4161 ≤ k → allSessions m front at ≡ allSessions m file at
   same-sessions m l at h = same-counted (λ _. session m) (2 + m * 8) (λ _. session-upto file m) (λ _. same-session m) 1 sessions at (omega arith)
 
-  module _ (long : 4450 < k) where
+  module _ (beyond : 4450 < k) where
     same-parts : parts front 0 ≡ parts file 0
     unfolding parts
     same-parts =
@@ -134,7 +132,7 @@ module _ (file : List ℕ) (k : ℕ) (short : k ≤ length file) where
     unfolding atEnd
     same-end (bad o) u = refl
     same-end (got a next) u =
-        let i : next ≡ length front → ⊥ = λ e. omega (arith, front-length) in
+        let i : next ≡ length front → ⊥ = λ e. omega arith in
         let j : next ≡ length file → ⊥ = λ e. omega arith in
         rw (ne-eqb next (length front) i, ne-eqb next (length file) j)
 
@@ -146,5 +144,5 @@ pub first-bytes-decide : (file : List ℕ) → wholeFile (take 4451 file) ≡ wh
 first-bytes-decide file =
     elim (decLe (length file) 4451) [
       | yes h ↦ ap wholeFile (take-all 4451 file h)
-      | no h ↦ same-file file 4451 (omega arith) (omega arith)
+      | no h ↦ same-file (take 4451 file) file 4451 (omega (arith, length-take 4451 file)) (omega arith) (take-take 4451 4451 file (omega arith)) (omega arith)
     ]

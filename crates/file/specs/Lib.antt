@@ -4,4 +4,5 @@ pub mod Numbers
 pub mod Format
 pub mod Offence
 pub mod Reading
+pub mod Promises
 pub mod Inner
