@@ -62,35 +62,35 @@ true-row n m h k = means-unique (means h (λ i a. (k .holds i (at-below (k .wf) 
 
 module _ {i : Input} (ok : Passes i) {k : Table} {masks matrices : List ℕ} (ms : Masks i masks) (st : Stored i k matrices) where
   abbrev r : ℕ
-  r = i .sessions
+  r = i .recording .sessions
 
   -- a child's word is well formed
-  child : (p j : ℕ) → p < length k → j < r → Wf (lengthOf i j) (getD matrices (p * r + j) 0)
-  child p j h l = subst (Wf (lengthOf i j)) (sym (st .words p j h l)) (st .fine p h .formed j l)
+  child : (p j : ℕ) → p < length k → j < r → Wf (lengthOf (i .recording) j) (getD matrices (p * r + j) 0)
+  child p j h l = subst (Wf (lengthOf (i .recording) j)) (sym (st .words p j h l)) (st .fine p h .formed j l)
 
   abbrev Is : ℕ → ℕ → ℕ → ℕ → ℕ → Type 0
-  Is code left right j w = RowIs r (i .propositions) masks (i .words) matrices code left right j w
+  Is code left right j w = RowIs r (i .recording .propositions) masks (i .recording .words) matrices code left right j w
 
   module _ {code left right j w : ℕ} (l : j < r) where
-    unary-word : (op : Unary) → unaryCode op ≡ code → left < length k → Is code left right j w → w ≡ unaryRow op (lengthOf i j) (row (matrixAt k left) j)
+    unary-word : (op : Unary) → unaryCode op ≡ code → left < length k → Is code left right j w → w ≡ unaryRow op (lengthOf (i .recording) j) (row (matrixAt k left) j)
     unary-word op e h x =
-        unary-row-only op _ _ _ (unary-cut op (ms .are j l) (child left j h l) (unary-is op e x)) ∙ ap (unaryRow op (lengthOf i j)) (st .words left j h l)
+        unary-row-only op _ _ _ (unary-cut op (ms .are j l) (child left j h l) (unary-is op e x)) ∙ ap (unaryRow op (lengthOf (i .recording) j)) (st .words left j h l)
 
     binary-word : (op : Binary) → binaryCode op ≡ code → left < length k → right < length k → Is code left right j w
-        → w ≡ binaryRow op (lengthOf i j) (row (matrixAt k left) j) (row (matrixAt k right) j)
+        → w ≡ binaryRow op (lengthOf (i .recording) j) (row (matrixAt k left) j) (row (matrixAt k right) j)
     binary-word op e h h′ x =
         binary-row-only op _ _ _ _ (binary-cut op (ms .are j l) (child left j h l) (child right j h′ l) (binary-is op e x))
-        ∙ ap₂ (binaryRow op (lengthOf i j)) (st .words left j h l) (st .words right j h′ l)
+        ∙ ap₂ (binaryRow op (lengthOf (i .recording) j)) (st .words left j h l) (st .words right j h′ l)
 
     leaf-word : (c : Leaf) → leafCode c ≡ code → leafNumber c ≡ left → Is code left right j w → w ≡ leafRow i c j
-    leaf-word (proposition q) e n x = leaf-is (proposition q) e x ∙ ap (wordOf i j) (sym n)
-    leaf-word (constant false) e n x = leaf-is (constant false) e x ∙ false-row (lengthOf i j) (ok .short j l)
-    leaf-word (constant true) e n x = leaf-is (constant true) e x ∙ true-row (lengthOf i j) _ (ok .short j l) (ms .are j l)
+    leaf-word (proposition q) e n x = leaf-is (proposition q) e x ∙ ap (wordOf (i .recording) j) (sym n)
+    leaf-word (constant false) e n x = leaf-is (constant false) e x ∙ false-row (lengthOf (i .recording) j) (ok .short j l)
+    leaf-word (constant true) e n x = leaf-is (constant true) e x ∙ true-row (lengthOf (i .recording) j) _ (ok .short j l) (ms .are j l)
 
   -- ---- the matrix
 
-  module _ {code left right : ℕ} (c : Makes (i .propositions) (length k) code left right) where
-    reads : Makes (i .propositions) (length k) code left right → Reads r (i .propositions) masks (i .words) matrices code left right
+  module _ {code left right : ℕ} (c : Makes (i .recording .propositions) (length k) code left right) where
+    reads : Makes (i .recording .propositions) (length k) code left right → Reads r (i .recording .propositions) masks (i .recording .words) matrices code left right
     reads (Makes.leaf (proposition p) e n z h) =
         Reads.proposition (ap (λ (q : ℕ). leafCode (proposition q)) (sym n) ∙ e) (ok .propositions-in .1) (omega arith) (ok .words-there)
     reads (Makes.leaf (constant b) e n z h) = Reads.constant b e
@@ -98,11 +98,11 @@ module _ {i : Input} (ok : Passes i) {k : Table} {masks matrices : List ℕ} (ms
     reads (Makes.binary op e h h′) = Reads.binary op e (omega (arith, place-end left (length k) r h, st .there)) (omega (arith, place-end right (length k) r h′, st .there))
 
     module _ {old : List ℕ} (o : r ≤ length old) where
-      asks : RowsAsk r (i .propositions) masks (i .words) matrices code left right old
+      asks : RowsAsk r (i .recording .propositions) masks (i .recording .words) matrices code left right old
       asks = record { sessions-in = ok .sessions-in .1; masks-there = ms .there; rows-there = o; reads = reads c }
 
-      module _ {new : List ℕ} (f : Filled r old (RowIs r (i .propositions) masks (i .words) matrices code left right) new) where
-        written : (c : Makes (i .propositions) (length k) code left right) → take r new ≡ made i k c
+      module _ {new : List ℕ} (f : Filled r old (RowIs r (i .recording .propositions) masks (i .recording .words) matrices code left right) new) where
+        written : (c : Makes (i .recording .propositions) (length k) code left right) → take r new ≡ made i k c
         written (Makes.leaf c e n z h) = take-rows r _ new (omega (arith, f .long)) (λ j l. leaf-word l c e n (f .words j l))
         written (Makes.unary op e h z) = take-rows r _ new (omega (arith, f .long)) (λ j l. unary-word l op e h (f .words j l))
         written (Makes.binary op e h h′) = take-rows r _ new (omega (arith, f .long)) (λ j l. binary-word l op e h h′ (f .words j l))
@@ -113,10 +113,10 @@ rows-made i ok k masks matrices old new ms st o code left right c false a = absu
 
 -- ---- it has a well-formed word for each session
 
-fine-rows : (i : Input) (f : ℕ → ℕ) → ((j : ℕ) → j < i .sessions → Wf (lengthOf i j) (f j)) → Fine i (rows (i .sessions) f)
+fine-rows : (i : Input) (f : ℕ → ℕ) → ((j : ℕ) → j < i .recording .sessions → Wf (lengthOf (i .recording) j) (f j)) → Fine i (rows (i .recording .sessions) f)
 fine-rows i f h = record {
-  long = length-rows (i .sessions) f;
-  formed = λ j l. subst (Wf (lengthOf i j)) (sym (row-rows (i .sessions) f j l)) (h j l);
+  long = length-rows (i .recording .sessions) f;
+  formed = λ j l. subst (Wf (lengthOf (i .recording) j)) (sym (row-rows (i .recording .sessions) f j l)) (h j l);
 }
 
 pub made-fine : MadeFine

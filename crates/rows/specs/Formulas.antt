@@ -41,16 +41,16 @@ made i k {left = left} {right = right} (Makes.binary op e l q) = offer i .binary
 
 -- a matrix with a well-formed word for each session
 pub record Fine (i : Input) (x : List ℕ) : Type 0 where
-  pub long : length x ≡ i .sessions
-  pub formed : (j : ℕ) → j < i .sessions → Wf (lengthOf i j) (row x j)
+  pub long : length x ≡ i .recording .sessions
+  pub formed : (j : ℕ) → j < i .recording .sessions → Wf (lengthOf (i .recording) j) (row x j)
 
 -- "The matrices lie in a lent slice of words, r per place": those of the table k are there
 pub record Stored (i : Input) (k : Table) (matrices : List ℕ) : Type 0 where
-  pub there : length k * i .sessions ≤ length matrices
-  pub words : (p j : ℕ) → p < length k → j < i .sessions → getD matrices (p * i .sessions + j) 0 ≡ row (matrixAt k p) j
+  pub there : length k * i .recording .sessions ≤ length matrices
+  pub words : (p j : ℕ) → p < length k → j < i .recording .sessions → getD matrices (p * i .recording .sessions + j) 0 ≡ row (matrixAt k p) j
   pub fine : (p : ℕ) → p < length k → Fine i (matrixAt k p)
 
 -- the masks of the sessions
 pub record Masks (i : Input) (masks : List ℕ) : Type 0 where
-  pub there : i .sessions ≤ length masks
-  pub are : (j : ℕ) → j < i .sessions → MaskOf (i .lengths) j (getD masks j 0)
+  pub there : i .recording .sessions ≤ length masks
+  pub are : (j : ℕ) → j < i .recording .sessions → MaskOf (i .recording .lengths) j (getD masks j 0)
