@@ -14,7 +14,7 @@ use Rattle.reading.specs.Reading.{section, one, Got, got, bad, Reader, andThen,
 
 -- ---- their numbers
 
--- "propositions m 1 to 16": as many names does a section have that is lent on its own. The session file's limit is its own
+-- "propositions m 1 to 16": as many names may a section have that is lent on its own. The session file has a limit of its own
 abbrev pub propositions : ℕ
 propositions = limits.propositions
 
