@@ -2,7 +2,7 @@
 -- Assumes nothing.
 use mathlib.Core.Path.{_≡_, refl, sym, ap, _∙_, subst}
 use mathlib.Core.Bool.{Bool, true, false}
-use mathlib.Core.List.{List, [], _∷_, _++_, flatMap}
+use mathlib.Core.List.{List, [], _∷_, _++_, flatMap, List·Memᴰ}
 use Prim.Native.Nat.{ℕ, _+_, _≤_, _<_}
 use native.Mathlib.Omega.{arith}
 use lib.Dec.{eqb·suc-zero}
@@ -40,7 +40,15 @@ module _ (file : List ℕ) where
       go letters n w false q g =
           let v : letters ≡ a = got-value g in
           let m : n ≡ next = got-next g in
-          let good : GoodName before letters = record { some = w .some; short = w .few; letters = w .fits; free = not-in sameBytes letters (λ y p. rw (← p) (same-refl letters)) reserved (or-first (isIn sameBytes letters reserved) (isIn sameBytes letters before) q); new = not-in sameBytes letters (λ y p. rw (← p) (same-refl letters)) before (or-second (isIn sameBytes letters reserved) (isIn sameBytes letters before) q) } in
+          let apart : (l : List (List ℕ)) → isIn sameBytes letters l ≡ false → List·Memᴰ letters l → ⊥ = not-in sameBytes letters (λ y p. rw (← p) (same-refl letters)) in
+          let good : GoodName before letters =
+          record {
+            some = w .some;
+            short = w .few;
+            letters = w .fits;
+            free = apart reserved (or-first (isIn sameBytes letters reserved) (isIn sameBytes letters before) q);
+            new = apart before (or-second (isIn sameBytes letters reserved) (isIn sameBytes letters before) q);
+          } in
           (rw (← v) good, rw (← v, ← m) (w .spans))
 
   pub name-complete : Complete name GoodName nameBytes file

@@ -40,7 +40,9 @@ known-name-requires : tie.Need-known-name-requires
 known-name-requires c κs = search needs
 
 returns-2 : tie.Need-returns-2
-returns-2 c = let a = c .before .before .before .before .before .args in c .known-name .ensures ∙ sym (or-on _ (cut (a .file .now) (a .at) (a .n) (sym (c .before .before .is-reserved .ensures) ∙ c .before .if1 .left)))
+returns-2 c =
+    let a = c .before .before .before .before .before .args in
+    c .known-name .ensures ∙ sym (or-on _ (cut (a .file .now) (a .at) (a .n) (sym (c .before .before .is-reserved .ensures) ∙ c .before .if1 .left)))
 
 pub taken-name-spec : {M : Type 1} → statement M
 taken-name-spec =
