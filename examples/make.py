@@ -26,7 +26,8 @@ How a text is written, by a small example of a whole one:
 '//' starts a comment, and a line with nothing else counts for nothing. All is ASCII text. Each line below stands at most once, in any order, but
 that the propositions come before the sessions, and that 'good' and 'bad' start a session each, 1 to 32 in all.
 
-    propositions NAME ..    1 to 16 names: letters, digits and '_', a letter first, 1 to 16 bytes, none twice
+    propositions NAME ..    1 to 16 names: letters, digits and '_', a letter first, 1 to 16 bytes, none twice; none of
+                            U  R  X  F  G  true  false, which would be taken for an operator or a constant
     good, or bad            the session's mark; then come as many rows as there are propositions, in their order, one a line and all of one
                             length: a sign for each snapshot, '#' where the proposition holds and '.' where it doesn't, at most 64; of a session
                             with no snapshots each row is '-'
@@ -46,6 +47,7 @@ MARKS = {"bad": 0, "good": 1}
 UNARY = {"!": 0, "X": 1, "X[!]": 2, "F": 3, "G": 4}
 BINARY = {"|": 5, "&": 6, "U": 7, "R": 8, "->": 9, "<->": 10}
 NAME = re.compile(r"[A-Za-z][A-Za-z0-9_]{0,15}")
+RESERVED = ("U", "R", "X", "F", "G", "true", "false")
 NUMBER = re.compile(r"0|[1-9][0-9]{0,5}")
 OTHER = re.compile(rb"[^ -~\t\r]")
 
@@ -68,6 +70,8 @@ def names(words, no):
     for word in words:
         if not NAME.fullmatch(word):
             no(f"'{word}' is no name: letters, digits and '_', a letter first, 1 to 16 of them")
+        if word in RESERVED:
+            no(f"'{word}' is no name: it would be taken for an operator or a constant")
     none_twice(words, no)
     return words
 

@@ -139,7 +139,8 @@ uint64_t scarfpylon_print(const uint8_t *names, size_t names_count,
 
 /*
  * Takes a session file apart. A file has five sections, each after a byte with its count, and nothing follows:
- *     1 to 16 names         a byte with the length, 1 to 16, then letters (A-Z, a-z), digits or `_`, a letter first; no name twice
+ *     1 to 16 names         a byte with the length, 1 to 16, then letters (A-Z, a-z), digits or `_`, a letter first; no name twice,
+ *                           and none that is `U`, `R`, `X`, `F`, `G`, `true` or `false`, byte for byte
  *     1 to 32 sessions      a byte with the mark, a byte with the length, then one word of 8 bytes per name, low byte first
  *     unary codes           one byte each, none twice; there may be none
  *     binary codes          in the same way
@@ -151,8 +152,8 @@ uint64_t scarfpylon_print(const uint8_t *names, size_t names_count,
  *     out[0]  sessions        out[1]  propositions        out[2]  bytes of the names section, which are the file's first
  *     out[3]  unary codes     out[4]  binary codes        out[5]  the constants mark        out[6]  the bound
  * 32 marks, 32 lengths, 512 words, 5 unary and 6 binary codes are room for any file.
- * Refuses with 8, then 3 (a slice or `out`). The offset of number 8 is that of the first offending byte: of a bad word its first byte, of a repeated name
- * its length byte, of a file that goes on the first byte too many, of one that ends early its length. It is at most 4,450.
+ * Refuses with 8, then 3 (a slice or `out`). The offset of number 8 is that of the first offending byte: of a bad word its first byte, of a repeated
+ * name or one of those seven its length byte, of a file that goes on the first byte too many, of one that ends early its length. It is at most 4,450.
  */
 uint64_t scarfpylon_read(const uint8_t *file, size_t file_count,
                          uint8_t *marks, size_t marks_count, uint8_t *lengths, size_t lengths_count,

@@ -7,7 +7,7 @@ use std::sync::Mutex;
 use std::thread;
 use std::time::{Duration, Instant};
 
-use crate::judge::{judge, ROOM};
+use crate::judge::{judge, RESERVED, ROOM};
 use crate::program;
 use crate::words::Random;
 
@@ -85,7 +85,7 @@ impl Files {
             let name: Vec<u8> = (0..length)
                 .map(|place| LETTERS[self.below(if place == 0 { 52 } else { LETTERS.len() })])
                 .collect();
-            if !before.contains(&name) {
+            if !before.contains(&name) && !RESERVED.iter().any(|word| word.as_bytes() == name) {
                 return name;
             }
         }
@@ -150,6 +150,21 @@ impl Files {
         for length in 0..file.len() {
             self.ask(file[..length].to_vec());
         }
+    }
+
+    /// A good file with one name put in the place of another: a reserved one, or one close to it.
+    fn worded(&mut self, file: &[u8]) -> Vec<u8> {
+        let mut at = 1;
+        for _ in 0..self.below(file[0] as usize) {
+            at += 1 + file[at] as usize;
+        }
+        let end = at + 1 + file[at] as usize;
+        let word = if self.below(3) > 0 {
+            RESERVED[self.below(RESERVED.len())]
+        } else {
+            ["u", "g", "True", "FALSE", "tru", "trueish", "fals", "X1", "Fa", "G_", "UR"][self.below(11)]
+        };
+        [&file[..at], &[word.len() as u8], word.as_bytes(), &file[end..]].concat()
     }
 
     /// One byte changed, put in, taken out or doubled; a piece moved, cut out or repeated; bytes at the end.
@@ -232,12 +247,17 @@ fn files(count: usize) -> Vec<Question> {
         }
         files.cuts(&largest);
     }
-    // Then good files as they are, damaged, cut at every byte, and bytes that are no file at all.
+    // Then good files as they are, damaged, cut at every byte, with a reserved name, and bytes that are no file at all.
     while files.list.len() < count {
         let good = files.good(false);
         match files.below(40) {
             0 => files.cuts(&good[..good.len().min(300)]),
-            1..=16 => files.ask(good),
+            1..=14 => files.ask(good),
+            15 | 16 => {
+                let file = files.worded(&good);
+                files.cuts(&file[..file.len().min(20)]);
+                files.ask(file);
+            }
             17..=20 => {
                 let length = files.below(64);
                 let bytes = (0..length).map(|_| files.random.next() as u8).collect();

@@ -5,6 +5,9 @@ use std::rc::Rc;
 /// The room that the program searches with.
 pub const ROOM: usize = 200;
 
+/// The names that document 02's E1 refuses.
+pub const RESERVED: [&str; 7] = ["U", "R", "X", "F", "G", "true", "false"];
+
 const TOKENS: [&str; 11] = ["!", "X", "X[!]", "F", "G", "|", "&", "U", "R", "->", "<->"];
 
 /// The parts of a good file.
@@ -54,7 +57,7 @@ impl Reader<'_> {
         }
     }
 
-    /// Length byte 1-16, then letters, digits or `_`, a letter first, no name twice.
+    /// Length byte 1-16, then letters, digits or `_`, a letter first, no name twice and no reserved one, both at the length byte.
     fn name(&mut self, before: &[String]) -> Result<String, usize> {
         let start = self.at;
         let length = self.good(|byte| (1..=16).contains(&byte))?;
@@ -64,7 +67,7 @@ impl Reader<'_> {
                 self.good(|byte| byte.is_ascii_alphabetic() || place > 0 && (byte.is_ascii_digit() || byte == b'_'))?;
             name.push(byte as char);
         }
-        if before.contains(&name) {
+        if before.contains(&name) || RESERVED.contains(&name.as_str()) {
             return Err(start);
         }
         Ok(name)

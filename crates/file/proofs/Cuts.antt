@@ -14,9 +14,9 @@ use lib.ListN.{length, getD, take, drop, length-take, length-append}
 use lib.Seq.{take-nil, take-take, getD-take, drop-append-seam}
 use Rattle.words.specs.Word.{width}
 use Rattle.file.specs.Numbers.{sessions, propositions, bound}
-use Rattle.names.specs.Names.{nameLength, letter, name, sameBytes, notTwice, namesUpTo}
+use Rattle.names.specs.Names.{nameLength, letter, name, isTaken, notTaken, namesUpTo}
 use Rattle.file.specs.Format.{Session, Parts, fileBytes, Good}
-use Rattle.reading.specs.Reading.{got, bad, Reader, andThen, each, byte, within, counted, isIn, atEnd}
+use Rattle.reading.specs.Reading.{got, bad, Reader, andThen, each, byte, within, counted, atEnd}
 use Rattle.file.specs.Offence.{number, word, session, allSessions, isUnary, isBinary, code, codes, Settings, settings, parts, wholeFile}
 use Rattle.reading.proofs.Readers.{got-bad, got-next, in-turn, byte-sound}
 use Rattle.reading.proofs.Steps.{byte-next}
@@ -107,12 +107,12 @@ module _ (file : List ℕ) (k : ℕ) (short : k ≤ length file) where
   cut-name : (before : List (List ℕ)) → Cut (name before)
   unfolding name
   cut-name before at a next e =
-      let t = in-turn (counted 1 nameLength letter file at) (λ letters n. notTwice (isIn sameBytes letters before) at letters n) e in
+      let t = in-turn (counted 1 nameLength letter file at) (λ letters n. notTaken (isTaken before letters) at letters n) e in
       let x = cut-counted 1 nameLength letter (λ b. cut-byte _) at (t .0) (t .1) (t .2) in
-      let n : t .1 ≡ next = same (t .0) (t .1) (isIn sameBytes (t .0) before) (t .3) in
+      let n : t .1 ≡ next = same (t .0) (t .1) (isTaken before (t .0)) (t .3) in
       (omega (arith, x .0), (λ h. rw (x .1 (omega arith)) (t .3)), λ h l. rw (x .2 h (omega arith)))
     where
-      same : (letters : List ℕ) (n : ℕ) (b : Bool) → notTwice b at letters n ≡ got a next → n ≡ next
+      same : (letters : List ℕ) (n : ℕ) (b : Bool) → notTaken b at letters n ≡ got a next → n ≡ next
       same letters n true q = absurd (got-bad (sym q))
       same letters n false q = got-next q
 

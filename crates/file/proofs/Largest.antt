@@ -11,6 +11,7 @@ use Rattle.words.specs.Word.{Wf}
 use Rattle.words.proofs.At.{lt-wf}
 use Rattle.file.specs.Format.{Session, Parts, fileBytes, GoodSession, Good}
 use Rattle.reading.specs.Reading.{one, section, got, each, byte}
+use Rattle.names.specs.Reserved.{reserved}
 use Rattle.names.specs.Names.{nameBytes, GoodName, name, namesUpTo}
 use Rattle.rules.specs.Lists.{Each}
 use Rattle.file.specs.Offence.{codes, isUnary, isBinary}
@@ -52,7 +53,7 @@ names : List (List ℕ)
 names = names-of 16
 
 names-there : namesUpTo 16 (section nameBytes names) 0 ≡ got names 273
-unfolding names names-of name-of each byte name flatMap
+unfolding names names-of name-of each byte name reserved flatMap
 names-there = refl
 
 repeated : {A : Type 0} (P : A → Type 0) (a : A) → P a → (n : ℕ) (before : List A) → Each (λ _ x. P x) before (replicate n a)

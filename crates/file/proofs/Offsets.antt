@@ -11,9 +11,9 @@ use lib.Dec.{ltb, leb, eqb}
 use lib.ListN.{length, getD, take, drop, length-append}
 use Rattle.words.specs.Word.{width}
 use Rattle.file.specs.Numbers.{sessions, propositions, bound}
-use Rattle.names.specs.Names.{nameLength, letter, name, sameBytes, notTwice, namesUpTo, wholeNames}
+use Rattle.names.specs.Names.{nameLength, letter, name, isTaken, notTaken, namesUpTo, wholeNames}
 use Rattle.rules.specs.Lists.{Each}
-use Rattle.reading.specs.Reading.{Got, got, bad, Reader, andThen, each, byte, within, counted, isIn, atEnd}
+use Rattle.reading.specs.Reading.{Got, got, bad, Reader, andThen, each, byte, within, counted, atEnd}
 use Rattle.file.specs.Offence.{number, word, session, allSessions, isUnary, isBinary, code, codes, settings, parts, wholeFile}
 use Rattle.reading.proofs.Lists.{within-high}
 use Rattle.reading.proofs.Readers.{got-bad, byte-sound}
@@ -76,10 +76,10 @@ module _ (file : List ℕ) where
   pub name-upto : (before : List (List ℕ)) (at : ℕ) → Upto (at + 17) (name before file at)
   unfolding name
   name-upto before at =
-      next-upto (counted 1 nameLength letter file at) (λ letters n. notTwice (isIn sameBytes letters before) at letters n) (counted-upto 1 nameLength letter 1 letter-upto at) (omega arith)
-      (λ letters n e h. go letters n (isIn sameBytes letters before) (omega arith))
+      next-upto (counted 1 nameLength letter file at) (λ letters n. notTaken (isTaken before letters) at letters n) (counted-upto 1 nameLength letter 1 letter-upto at) (omega arith)
+      (λ letters n e h. go letters n (isTaken before letters) (omega arith))
     where
-      go : (letters : List ℕ) (n : ℕ) (b : Bool) → n ≤ at + 17 → Upto (at + 17) (notTwice b at letters n)
+      go : (letters : List ℕ) (n : ℕ) (b : Bool) → n ≤ at + 17 → Upto (at + 17) (notTaken b at letters n)
       go letters n true h = omega arith
       go letters n false h = h
 

@@ -1,6 +1,7 @@
 pub mod Same
 pub mod NameLaws
 pub mod Walks
+pub mod Words
 pub mod Lookups
 pub mod Turns
 pub mod Sections

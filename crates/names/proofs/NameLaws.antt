@@ -2,16 +2,17 @@
 -- Assumes nothing.
 use mathlib.Core.Path.{_≡_, refl, sym, ap, _∙_, subst}
 use mathlib.Core.Bool.{Bool, true, false}
-use mathlib.Core.List.{List, [], _∷_, _++_, flatMap}
+use mathlib.Core.List.{List, [], _∷_, _++_, flatMap, List·Memᴰ}
 use Prim.Native.Nat.{ℕ, _+_, _≤_, _<_}
 use native.Mathlib.Omega.{arith}
 use lib.Dec.{eqb·suc-zero}
 use lib.ListN.{length, getD, take, drop}
 use Rattle.names.specs.Inner.{fitsAt}
-use Rattle.names.specs.Names.{nameLength, nameBytes, fitsName, GoodName, letter, sameBytes, notTwice, name, namesUpTo}
+use Rattle.names.specs.Reserved.{reserved}
+use Rattle.names.specs.Names.{nameLength, nameBytes, fitsName, GoodName, letter, sameBytes, isTaken, notTaken, name, namesUpTo}
 use Rattle.reading.specs.Reading.{one, got, bad, each, byte, within, counted, isIn}
 use Rattle.reading.proofs.Spans.{Spans, head, second, taken, inside}
-use Rattle.reading.proofs.Lists.{not-in, in-not, ones}
+use Rattle.reading.proofs.Lists.{not-in, in-not, ones, or-first, or-second}
 use Rattle.names.proofs.Same.{same-refl, same-eq}
 use Rattle.reading.proofs.Readers.{got-bad, got-value, got-next, in-turn, byte-sound, byte-complete, Sound, Complete, row-sound, Section, section-sound, section-complete}
 
@@ -31,22 +32,30 @@ module _ (file : List ℕ) where
   pub name-sound : Sound name GoodName nameBytes file
   unfolding name
   name-sound before at a next e =
-      let t = in-turn (counted 1 nameLength letter file at) (λ letters n. notTwice (isIn sameBytes letters before) at letters n) e in
-      go (t .0) (t .1) (section-sound letter Letter one file letter-sound 1 nameLength at (t .2)) (isIn sameBytes (t .0) before) refl (t .3)
+      let t = in-turn (counted 1 nameLength letter file at) (λ letters n. notTaken (isTaken before letters) at letters n) e in
+      go (t .0) (t .1) (section-sound letter Letter one file letter-sound 1 nameLength at (t .2)) (isTaken before (t .0)) refl (t .3)
     where
-      go : (letters : List ℕ) (n : ℕ) → Word at letters n → (b : Bool) → isIn sameBytes letters before ≡ b → notTwice b at letters n ≡ got a next → GoodName before a × Spans file at (nameBytes a) next
+      go : (letters : List ℕ) (n : ℕ) → Word at letters n → (b : Bool) → isTaken before letters ≡ b → notTaken b at letters n ≡ got a next → GoodName before a × Spans file at (nameBytes a) next
       go letters n w true q g = absurd (got-bad (sym g))
       go letters n w false q g =
           let v : letters ≡ a = got-value g in
           let m : n ≡ next = got-next g in
-          let good : GoodName before letters = record { some = w .some; short = w .few; letters = w .fits; new = not-in sameBytes letters (λ y p. rw (← p) (same-refl letters)) before q } in
+          let apart : (l : List (List ℕ)) → isIn sameBytes letters l ≡ false → List·Memᴰ letters l → ⊥ = not-in sameBytes letters (λ y p. rw (← p) (same-refl letters)) in
+          let good : GoodName before letters =
+          record {
+            some = w .some;
+            short = w .few;
+            letters = w .fits;
+            free = apart reserved (or-first (isIn sameBytes letters reserved) (isIn sameBytes letters before) q);
+            new = apart before (or-second (isIn sameBytes letters reserved) (isIn sameBytes letters before) q);
+          } in
           (rw (← v) good, rw (← v, ← m) (w .spans))
 
   pub name-complete : Complete name GoodName nameBytes file
   unfolding name
   name-complete before at a next g s =
       let w : Word at a next = record { some = g .some; few = g .short; fits = g .letters; spans = s } in
-      rw (section-complete letter Letter one file letter-complete 1 nameLength at a w, in-not sameBytes a (λ y p. same-eq a y p) before (g .new))
+      rw (section-complete letter Letter one file letter-complete 1 nameLength at a w, in-not sameBytes a (λ y p. same-eq a y p) reserved (g .free), in-not sameBytes a (λ y p. same-eq a y p) before (g .new))
 
   -- ---- one name, step by step
 
@@ -68,7 +77,7 @@ module _ (file : List ℕ) where
   name-odd before at e d = rw (e, d)
 
   pub name-whole : (before : List (List ℕ)) (at : ℕ) {n next : ℕ} {letters : List ℕ} {end : ℕ} → byte (within 1 nameLength) file at ≡ got n next → each letter n [] file next ≡ got letters end
-      → name before file at ≡ notTwice (isIn sameBytes (take n (drop next file)) before) at letters end
+      → name before file at ≡ notTaken (isTaken before (take n (drop next file))) at letters end
   unfolding name
   name-whole before at {n} {next} e d = rw (e, d, letters-are n next d .0)
 

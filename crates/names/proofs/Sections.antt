@@ -9,8 +9,8 @@ use lib.ListN.{length, take, drop}
 use Rattle.reading.specs.declared.Step.{Step}
 use Rattle.reading.specs.declared.Step.the-variants.{Read, Broken}
 use Rattle.names.specs.declared.NamesAnswer.the-variants.{Names, Broken as NamesBroken}
-use Rattle.names.specs.Names.{propositions, nameLength, letter, name, sameBytes, notTwice, namesUpTo}
-use Rattle.reading.specs.Reading.{got, each, byte, within, isIn, atEnd, stepOf}
+use Rattle.names.specs.Names.{propositions, nameLength, letter, name, isTaken, notTaken, namesUpTo}
+use Rattle.reading.specs.Reading.{got, each, byte, within, atEnd, stepOf}
 use Rattle.names.specs.Judged.{saidNames, namesSaid}
 use Rattle.reading.proofs.Steps.{step-read, step-broken, byte-read}
 use Rattle.names.proofs.NameLaws.{name-cut, name-odd, name-whole, name-room, letters-are}
@@ -36,13 +36,13 @@ module _ (file : List ℕ) where
         pub name-fits : next + n ≤ length file
         name-fits = name-room file at long (read .1)
 
-        pub name-twice : isIn sameBytes (take n (drop next file)) before ≡ true → Broken at ≡ stepOf length (name before file at)
-        name-twice t = ap (stepOf length) (sym (name-whole file before at long (read .1) ∙ ap (λ (b : Bool). notTwice b at (read .0) end) t))
+        pub name-twice : isTaken before (take n (drop next file)) ≡ true → Broken at ≡ stepOf length (name before file at)
+        name-twice t = ap (stepOf length) (sym (name-whole file before at long (read .1) ∙ ap (λ (b : Bool). notTaken b at (read .0) end) t))
 
-        pub name-new : isIn sameBytes (take n (drop next file)) before ≡ false → Read n end ≡ stepOf length (name before file at)
+        pub name-new : isTaken before (take n (drop next file)) ≡ false → Read n end ≡ stepOf length (name before file at)
         name-new t =
             ap (λ (k : ℕ). Read k end) (sym (letters-are file n next (read .1) .1))
-            ∙ ap (stepOf length) (sym (name-whole file before at long (read .1) ∙ ap (λ (b : Bool). notTwice b at (read .0) end) t))
+            ∙ ap (stepOf length) (sym (name-whole file before at long (read .1) ∙ ap (λ (b : Bool). notTaken b at (read .0) end) t))
 
   -- ---- a names section with nothing after it
 

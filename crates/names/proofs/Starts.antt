@@ -148,7 +148,8 @@ module _ (file : List ℕ) (g : GoodNames file) where
   walk-rest zero p e = sym (drop-of-length-le (namesIn file) {i = p} (omega arith))
   walk-rest (suc k) p e =
       let h : p < length (namesIn file) = omega arith in
-      let n : startOf (namesIn file) p + 1 + getD file (startOf (namesIn file) p) 0 ≡ startOf (namesIn file) (p + 1) = ap (λ (x : ℕ). startOf (namesIn file) p + 1 + x) (name-byte p h) ∙ sym (start-next p h) in
+      let n : startOf (namesIn file) p + 1 + getD file (startOf (namesIn file) p) 0 ≡ startOf (namesIn file) (p + 1) =
+      ap (λ (x : ℕ). startOf (namesIn file) p + 1 + x) (name-byte p h) ∙ sym (start-next p h) in
       let first : take (getD file (startOf (namesIn file) p) 0) (drop (startOf (namesIn file) p + 1) file) ≡ getD (namesIn file) p [] =
       ap (λ (x : ℕ). take x (drop (startOf (namesIn file) p + 1) file)) (name-byte p h) ∙ name-bytes p h in
       ap (λ (x : List ℕ). x ∷ walk file k (startOf (namesIn file) p + 1 + getD file (startOf (namesIn file) p) 0)) first

@@ -9,11 +9,12 @@ use lib.Dec.{eqb, leb}
 use lib.ListN.{length}
 use Rattle.rules.specs.Limits.{mostPropositions}
 use Rattle.rules.specs.Lists.{Each}
+use Rattle.names.specs.Reserved.{reserved}
 use Rattle.reading.specs.Reading.{section, one, Got, got, bad, Reader, andThen, byte, counted, isIn, atEnd}
 
 -- ---- their numbers
 
--- "propositions m 1 to 16": as many names does a section have that is lent on its own. The session file's limit is its own
+-- "propositions m 1 to 16": as many names may a section have that is lent on its own. The session file has a limit of its own
 abbrev pub propositions : ℕ
 propositions = mostPropositions
 
@@ -40,11 +41,12 @@ abbrev pub fitsName : List ℕ → ℕ → Bool
 fitsName [] b = isLetter b
 fitsName (x ∷ before) b = isNameByte b
 
--- "names (length byte 1-16, then letters, digits or `_`, a letter first, no name twice)"
+-- "names (length byte 1-16, then letters, digits or `_`, a letter first, no name twice)"; E1: no reserved word
 pub record GoodName (before : List (List ℕ)) (name : List ℕ) : Type 0 where
   pub some : 1 ≤ length name
   pub short : length name ≤ nameLength
   pub letters : Each (λ seen b. fitsName seen b ≡ true) [] name
+  pub free : List·Memᴰ name reserved → ⊥
   pub new : List·Memᴰ name before → ⊥
 
 -- ---- the first offending byte
@@ -59,14 +61,18 @@ sameBytes (x ∷ xs) (y ∷ ys) = eqb x y && sameBytes xs ys
 abbrev pub letter : List ℕ → Reader ℕ
 letter before = byte (fitsName before)
 
--- once its bytes are there, "a repeated name's length byte"
-abbrev pub notTwice : Bool → ℕ → List ℕ → ℕ → Got (List ℕ)
-notTwice true at letters next = bad at
-notTwice false at letters next = got letters next
+-- a name that can't be taken: a reserved word, or one of those before it
+abbrev pub isTaken : List (List ℕ) → List ℕ → Bool
+isTaken before letters = isIn sameBytes letters reserved || isIn sameBytes letters before
+
+-- once its bytes are there, "with number 8 at the name's length byte", "a repeated name's length byte"
+abbrev pub notTaken : Bool → ℕ → List ℕ → ℕ → Got (List ℕ)
+notTaken true at letters next = bad at
+notTaken false at letters next = got letters next
 
 unfoldable pub name : List (List ℕ) → Reader (List ℕ)
 name before file at =
-    andThen (counted 1 nameLength letter file at) (λ letters next. notTwice (isIn sameBytes letters before) at letters next)
+    andThen (counted 1 nameLength letter file at) (λ letters next. notTaken (isTaken before letters) at letters next)
 
 -- a names section of at most so many names
 abbrev pub namesUpTo : ℕ → Reader (List (List ℕ))

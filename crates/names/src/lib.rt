@@ -1,13 +1,14 @@
-// A names section (document 01, "The session file"): names of 1 to 16 letters, digits or `_`, a letter first, no name twice. Judging one, and finding a
+// A names section (document 01, "The session file"): names of 1 to 16 letters, digits or `_`, a letter first, no name twice, no reserved word. Judging one, and finding a
 // name in it.
 mod known;
 mod letter;
 pub mod lookup;
+mod reserved;
 
-use known::known_name;
 use letter::letters_from;
 use reading::Step;
 use reading::byte_within;
+use reserved::taken_name;
 ghost use mathlib.Core.Path.{_≡_};
 ghost use mathlib.Core.List.{[]};
 ghost use Prim.Native.Nat.{_≤_};
@@ -42,7 +43,7 @@ fn name_at(file: &[u8], at: usize, count: usize) -> Step
                     value: _,
                     next: end,
                 } => {
-                    if known_name(file, next, n, count) {
+                    if taken_name(file, next, n, count) {
                         return Step::Broken(at);
                     }
                     Step::Read {

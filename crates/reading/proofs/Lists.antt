@@ -38,6 +38,14 @@ or-on rest e = rw e
 pub or-stop : {b : Bool} (rest : Bool) → b ≡ true → (b || rest) ≡ true
 or-stop rest e = rw e
 
+pub or-first : (a b : Bool) → (a || b) ≡ false → a ≡ false
+or-first true b e = absurd (true-false {b = true} refl e)
+or-first false b e = refl
+
+pub or-second : (a b : Bool) → (a || b) ≡ false → b ≡ false
+or-second true b e = absurd (true-false {b = true} refl e)
+or-second false b e = e
+
 pub within-low : (lo hi b : ℕ) → within lo hi b ≡ true → lo ≤ b
 within-low lo hi b e = leb-true lo b (and-first (leb lo b) (leb b hi) e)
 

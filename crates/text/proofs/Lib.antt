@@ -1,3 +1,5 @@
+pub mod Tokens
+pub mod OneWay
 pub mod Texts
 pub mod Printing
 pub mod Answers

@@ -19,8 +19,8 @@ letters-from-requires c κs = search needs
 enum-known-s : tie.Need-enum-known-s
 enum-known-s c = search needs
 
-known-name-requires : tie.Need-known-name-requires
-known-name-requires c κs =
+taken-name-requires : tie.Need-taken-name-requires
+taken-name-requires c κs =
     let at-s = c .before in
     let at-letters-from = at-s .before .before in
     let at-c = at-letters-from .before .before in
@@ -30,12 +30,12 @@ known-name-requires c κs =
 
 returns : tie.Need-returns
 returns c =
-    let at-known-name = c .before in
-    let at-s = at-known-name .before .before in
+    let at-taken-name = c .before in
+    let at-s = at-taken-name .before .before in
     let at-letters-from = at-s .before .before in
     let at-c = at-letters-from .before .before in
     let at-byte-within = at-c .before .before in
-    name-twice _ _ _ _ (at-byte-within .byte-within .ensures) (at-c .c .given .1) _ (at-letters-from .letters-from .ensures) (at-s .s .given .1) (sym (at-known-name .known-name .ensures) ∙ c .if1 .taken)
+    name-twice _ _ _ _ (at-byte-within .byte-within .ensures) (at-c .c .given .1) _ (at-letters-from .letters-from .ensures) (at-s .s .given .1) (sym (at-taken-name .taken-name .ensures) ∙ c .if1 .taken)
 
 enum-known-s-2 : tie.Need-enum-known-s-2
 enum-known-s-2 c = search needs
@@ -45,12 +45,12 @@ enum-known-c-2 c = search needs
 
 returns-2 : tie.Need-returns-2
 returns-2 c =
-    let at-known-name = c .before in
-    let at-s = at-known-name .before .before in
+    let at-taken-name = c .before in
+    let at-s = at-taken-name .before .before in
     let at-letters-from = at-s .before .before in
     let at-c = at-letters-from .before .before in
     let at-byte-within = at-c .before .before in
-    name-new _ _ _ _ (at-byte-within .byte-within .ensures) (at-c .c .given .1) _ (at-letters-from .letters-from .ensures) (at-s .s .given .1) (sym (at-known-name .known-name .ensures) ∙ c .if1 .left)
+    name-new _ _ _ _ (at-byte-within .byte-within .ensures) (at-c .c .given .1) _ (at-letters-from .letters-from .ensures) (at-s .s .given .1) (sym (at-taken-name .taken-name .ensures) ∙ c .if1 .left)
 
 returns-3 : tie.Need-returns-3
 returns-3 c =
@@ -71,7 +71,7 @@ name-at-spec =
     enum-known-c
     letters-from-requires
     enum-known-s
-    known-name-requires
+    taken-name-requires
     returns
     enum-known-s-2
     enum-known-c-2

@@ -39,7 +39,10 @@ loop-less : tie.Need-loop-less Inv-loop μ-loop
 loop-less c = search needs
 
 loop-again : tie.Need-loop-again Inv-loop μ-loop
-loop-again c = let l = c .before .before .before in let a = l .before .args in one-written (a .text .now) (a .at) (a .bytes .now) (l .loop .inv) (c .before .before .loop-test .taken) (c .before .if1 .left)
+loop-again c =
+    let l = c .before .before .before in
+    let a = l .before .args in
+    one-written (a .text .now) (a .at) (a .bytes .now) (l .loop .inv) (c .before .before .loop-test .taken) (c .before .if1 .left)
 
 same-length-2 : tie.Need-same-length-2 Inv-loop μ-loop
 same-length-2 c = let l = c .before in let a = l .before .args in same-room (a .text .now) (a .at) (a .bytes .now) (l .loop .inv)

@@ -35,7 +35,8 @@ returns : tie.Need-returns
 returns c =
     let a = c .before .before .before .before .before .before .before .before .before .args in
     let d = c .before .before .before .before .before .before .put-digits in
-    subst (λ (u : List ℕ). Wrote (a .text .now) (a .at) u (c .before .before .put .last .0) (c .before .before .put .result)) (written-front (decimal (a .x)) (few-digits 20 (a .x)) (d .ensures) .1) (c .before .before .put .ensures)
+    subst (λ (u : List ℕ). Wrote (a .text .now) (a .at) u (c .before .before .put .last .0) (c .before .before .put .result))
+    (written-front (decimal (a .x)) (few-digits 20 (a .x)) (d .ensures) .1) (c .before .before .put .ensures)
 
 pub put-decimal-spec : {M : Type 1} → statement M
 put-decimal-spec =

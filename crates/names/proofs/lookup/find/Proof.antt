@@ -32,13 +32,22 @@ letters-requires : tie.Need-letters-requires Inv-loop μ-loop
 letters-requires c κs = search needs
 
 sub-same : tie.Need-sub-same Inv-loop μ-loop
-sub-same c = let at-loop = c .before .before in let o = span-order (at-loop .before .before .before .before .before .args .section .now) (at-loop .loop .j) (c .letters .ensures) in omega (arith, o .0, o .1)
+sub-same c =
+    let at-loop = c .before .before in
+    let o = span-order (at-loop .before .before .before .before .before .args .section .now) (at-loop .loop .j) (c .letters .ensures) in
+    omega (arith, o .0, o .1)
 
 part-same-start : tie.Need-part-same-start Inv-loop μ-loop
-part-same-start c = let at-loop = c .before .before in let o = span-order (at-loop .before .before .before .before .before .args .section .now) (at-loop .loop .j) (c .letters .ensures) in omega (arith, o .0, o .1)
+part-same-start c =
+    let at-loop = c .before .before in
+    let o = span-order (at-loop .before .before .before .before .before .args .section .now) (at-loop .loop .j) (c .letters .ensures) in
+    omega (arith, o .0, o .1)
 
 part-same-end : tie.Need-part-same-end Inv-loop μ-loop
-part-same-end c = let at-loop = c .before .before in let o = span-order (at-loop .before .before .before .before .before .args .section .now) (at-loop .loop .j) (c .letters .ensures) in omega (arith, o .0, o .1)
+part-same-end c =
+    let at-loop = c .before .before in
+    let o = span-order (at-loop .before .before .before .before .before .args .section .now) (at-loop .loop .j) (c .letters .ensures) in
+    omega (arith, o .0, o .1)
 
 same-requires : tie.Need-same-requires Inv-loop μ-loop
 same-requires c κs = search needs

@@ -1,0 +1,77 @@
+-- `is_reserved` meets its contract: the words up to the i-th are not the name.
+-- Assumes nothing.
+use Prim.Native.Nat.{_-_}
+use mathlib.Core.Path.{sym, ap, _∙_}
+use native.Mathlib.Omega.{arith}
+use lib.Seq.{length-take-le}
+use Rattle.names.specs.Reserved.{reserved}
+use Rattle.names.specs.Names.{sameBytes}
+use Rattle.names.proofs.Words.{seven, Unlike, unlike-start, unlike-turn, unlike-here, unlike-end}
+use borrow.Author.Needs.{needs}
+use Rattle.names.proofs.reserved.is_reserved.Statement.{statement}
+use Rattle.names.proofs.reserved.is_reserved.Tie as tie
+
+abbrev Inv-loop : tie.InvT-loop
+Inv-loop name i₀ i = Unlike reserved name i
+
+abbrev μ-loop : tie.MeasureT-loop
+μ-loop name i₀ i = 7 - i
+
+loop-holds : tie.Need-loop-holds Inv-loop μ-loop
+loop-holds c = unlike-start reserved _
+
+word-at-requires : tie.Need-word-at-requires Inv-loop μ-loop
+word-at-requires c κs = search needs
+
+array-share-prefix-letters : tie.Need-array-share-prefix-letters Inv-loop μ-loop
+array-share-prefix-letters c = c .before .word-at .ensures .short
+
+slice-aggregate-same : tie.Need-slice-aggregate-same Inv-loop μ-loop
+slice-aggregate-same c = let w = c .before .before .word-at in sym (length-take-le (w .result .bytes) (w .result .letters) (w .ensures .short))
+
+same-requires : tie.Need-same-requires Inv-loop μ-loop
+same-requires c κs = search needs
+
+returns : tie.Need-returns Inv-loop μ-loop
+returns c =
+    let at-word = c .before .before .before .before in
+    let at-loop = at-word .before .before in
+    let name = at-loop .before .before .args .name .now in
+    unlike-here reserved name (at-loop .loop .inv) (omega (arith, seven, at-word .before .loop-test .taken))
+    (ap (sameBytes name) (sym (at-word .word-at .ensures .is)) ∙ sym (c .before .same .ensures) ∙ c .if1 .taken)
+
+add-i : tie.Need-add-i Inv-loop μ-loop
+add-i c = search needs
+
+loop-less : tie.Need-loop-less Inv-loop μ-loop
+loop-less c = search needs
+
+loop-again : tie.Need-loop-again Inv-loop μ-loop
+loop-again c =
+    let at-word = c .before .before .before .before in
+    let at-loop = at-word .before .before in
+    let name = at-loop .before .before .args .name .now in
+    unlike-turn reserved name (at-loop .loop .inv) (omega (arith, seven, at-word .before .loop-test .taken))
+    (ap (sameBytes name) (sym (at-word .word-at .ensures .is)) ∙ sym (c .before .same .ensures) ∙ c .if1 .left)
+
+returns-2 : tie.Need-returns-2 Inv-loop μ-loop
+returns-2 c =
+    let at-loop = c .before in
+    unlike-end reserved (at-loop .before .before .args .name .now) (at-loop .loop .inv) (omega (arith, seven, c .loop-test .left))
+
+pub is-reserved-spec : {M : Type 1} → statement M
+is-reserved-spec =
+    tie.close
+    (tie.spec
+    Inv-loop
+    μ-loop
+    loop-holds
+    word-at-requires
+    array-share-prefix-letters
+    slice-aggregate-same
+    same-requires
+    returns
+    add-i
+    loop-less
+    loop-again
+    returns-2)
