@@ -18,3 +18,4 @@ pub use compare::{run, Extent};
 pub use input::Input;
 pub use outside::findings;
 pub use speed::run as speed;
+pub use speed::run_beside as speed_beside;
