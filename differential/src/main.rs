@@ -21,6 +21,7 @@ mod refusals;
 mod sample;
 mod search;
 mod settled;
+mod until;
 mod words;
 
 use boundary::Way;
@@ -35,6 +36,8 @@ const USAGE: &str = "differential: one of
   searches --archive ..    the same through the archive that ships, in a program of its own (default: 2000 random ones)
   calls [ROUNDS]           operators, check, print and read of the C boundary (default: 20 rounds); with --archive before it, as above
   speed                    how fast our search runs beside the Rust's; only with --profile speed --features published-hash
+  speed --beside FILE      how fast it runs beside an earlier library of ours (an absolute path); with the same profile
+  until                    how fast `U` is in each form that was tried; only with --profile speed
   collision                an input on which the Rust's published hash loses a formula (with --features published-hash; without, exact keys)
   sample                   writes the stored answers anew: crates/run_replay/stdin and stdout, crates/run_settled/stdout, crates/run_searches/src/sample.rt and stdout
   findings                 what the Rust does outside document 01's domain";
@@ -63,6 +66,8 @@ fn main() {
         ["calls", rest @ ..] => calls(rest),
         ["collision"] => search::collision(),
         ["speed"] => search::speed(),
+        ["speed", "--beside", file] => search::speed_beside(file),
+        ["until"] => until::run(),
         ["sample"] => sample::run(),
         ["findings"] => findings::run(),
         _ => usage(),

@@ -8,7 +8,7 @@ use native.Mathlib.Omega.{arith}
 use lib.Bits.{bitAnd, bitOr}
 use Rattle.words.specs.Ltlf.{Reading}
 use Rattle.words.specs.Word.{At}
-use Rattle.words.proofs.Bits.{bit-shr}
+use Rattle.words.proofs.Bits.{bit-shr, bit-zero}
 use Rattle.words.proofs.At.{at-or, or-left, or-right, at-and, and-at}
 
 -- ---- `finally`: f holds at some place of the d from i on
@@ -73,3 +73,14 @@ reach-double {f} {g} d v w a e i = (λ h. up (at-or w (bitAnd v (w / 2 ^ d)) i h
         or-right w (bitAnd v (w / 2 ^ d)) i
         (and-at v (w / 2 ^ d) i (a i .1 (λ k l m. t .4 k l (omega arith)))
         (bit-shr w d i ∙ e (d + i) .1 (t .0, omega arith, omega arith, t .3, λ k l m. t .4 k (omega arith) m)))
+
+-- where v has no run of d places, further doublings change nothing: what w reaches within d is all that is reached within any e from d on
+pub reach-stop : {f g : Reading} (d e v w : ℕ) → v ≡ 0 → ((i : ℕ) → At v i ↔ All f d i) → ((i : ℕ) → At w i ↔ Reach f g d i) → d ≤ e
+    → (i : ℕ) → At w i ↔ Reach f g e i
+reach-stop {f} {g} d e v w z a r l i = (λ h. let t = r i .0 h in (t .0, t .1, omega arith, t .3, t .4), λ t. down t (decLt (t .0) (i + d)))
+  where
+    down : (t : Reach f g e i) → Dec (t .0 < i + d) → At w i
+    down t (yes p) = r i .1 (t .0, t .1, p, t .3, t .4)
+    down t (no p) =
+        let h = subst (λ (v : ℕ). At v i) z (a i .1 (λ k b m. t .4 k b (omega arith))) in
+        absurd (omega (arith, bit-zero i))

@@ -11,7 +11,7 @@ use Rattle.words.specs.Masked.{NotOn, ImpliesOn, EquivOn, WeakNextOn, Gl
 use Rattle.words.specs.Word.{width, bit, At, Wf, Means}
 use Rattle.words.proofs.Bits.{bit-lt, bit-shr, bit-xor}
 use Rattle.words.proofs.At.{at-or-not, find, at-or, or-left, or-right, at-and, and-at, at-not, at-below, wf-lt, lt-wf, means}
-use Rattle.words.proofs.Doubling.{some-first, some-double, all-first, all-double, reach-first, reach-double}
+use Rattle.words.proofs.Doubling.{some-first, some-double, All, Reach, all-first, all-double, reach-first, reach-double, reach-stop}
 
 -- a word has its 64 places
 pub wide : {x : ℕ} → x < 2 ^ width → Wf width x
@@ -130,22 +130,35 @@ untilWord x y =
     let w₅ = reach 16 v₄ w₄ in
     reach 32 v₅ w₅
 
-pub until-means : {x y : ℕ} → Wf width x → Wf width y → Means width (untilWord x y) (Until width (At x) (At y))
-until-means {x} {y} w u =
-    let a₁ = all-double 1 _ (all-first x) in
-    let r₁ = reach-double 1 _ _ (all-first x) (reach-first y) in
-    let a₂ = all-double 2 _ a₁ in
-    let r₂ = reach-double 2 _ _ a₁ r₁ in
-    let a₃ = all-double 4 _ a₂ in
-    let r₃ = reach-double 4 _ _ a₂ r₂ in
-    let a₄ = all-double 8 _ a₃ in
-    let r₄ = reach-double 8 _ _ a₃ r₃ in
-    let a₅ = all-double 16 _ a₄ in
-    let r₅ = reach-double 16 _ _ a₄ r₄ in
-    let r₆ = reach-double 32 _ _ a₅ r₅ in
+-- the two words of `until` once the distance is d: v has the runs of x that are d long, and w what reaches y within d
+pub record Doubled (x y d v w : ℕ) : Type 0 where
+  pub run : (i : ℕ) → At v i ↔ All (At x) d i
+  pub reached : (i : ℕ) → At w i ↔ Reach (At x) (At y) d i
+
+pub doubled-first : {x y : ℕ} → Doubled x y 1 x y
+doubled-first {x} {y} = record { run = all-first x; reached = reach-first y }
+
+pub doubled-next : {x y : ℕ} (d : ℕ) {v w : ℕ} → Doubled x y d v w → Doubled x y (d + d) (meet d v) (reach d v w)
+doubled-next d s = record { run = all-double d _ (s .run); reached = reach-double d _ _ (s .run) (s .reached) }
+
+-- within 64 places all is reached
+reached-means : (x y d w : ℕ) → Wf width y → width ≤ d → ((i : ℕ) → At w i ↔ Reach (At x) (At y) d i) → Means width w (Until width (At x) (At y))
+reached-means x y d w u l e =
     means (u .short)
-    (λ i h. let t = r₆ i .0 h in let l = at-below u (t .0) (t .3) in (omega arith, (t .0, t .1, l, t .3, t .4)))
-    (λ i h t. r₆ i .1 (t .0, t .1, omega arith, t .3, t .4))
+    (λ i h. let t = e i .0 h in let b = at-below u (t .0) (t .3) in (omega arith, (t .0, t .1, b, t .3, t .4)))
+    (λ i h t. e i .1 (t .0, t .1, omega arith, t .3, t .4))
+
+pub until-whole : {x y d v w : ℕ} → Wf width y → width ≤ d → Doubled x y d v w → Means width w (Until width (At x) (At y))
+until-whole {x} {y} {d} {v} {w} u l s = reached-means x y d w u l (s .reached)
+
+-- and so it is where no run is left
+pub until-stopped : {x y d v w : ℕ} → Wf width y → d ≤ width → v ≡ 0 → Doubled x y d v w → Means width w (Until width (At x) (At y))
+until-stopped {x} {y} {d} {v} {w} u l e s = reached-means x y width w u (omega arith) (reach-stop d width v w e (s .run) (s .reached) l)
+
+pub until-means : {x y : ℕ} → Wf width x → Wf width y → Means width (untilWord x y) (Until width (At x) (At y))
+until-means w u =
+    until-whole u (omega arith)
+    (doubled-next 32 (doubled-next 16 (doubled-next 8 (doubled-next 4 (doubled-next 2 (doubled-next 1 doubled-first))))))
 
 -- ---- the duals: `!F!` and `!(!x U !y)` on the places of a mask
 

@@ -66,22 +66,21 @@ pub fn globally(x: u64, mask: u64) -> u64
     not(finally(not(x, mask)), mask)
 }
 
+// y has what is reached within d places, and x the runs that are d long. Where no run is left, further doublings would change nothing.
 pub fn until(x: u64, y: u64) -> u64
     ensures { λ r. ⌜ Means width r (Until width (At x) (At y)) ⌝ }
 {
     let mut x = x;
     let mut y = y;
-    y |= x & (y >> 1);
-    x &= x >> 1;
-    y |= x & (y >> 2);
-    x &= x >> 2;
-    y |= x & (y >> 4);
-    x &= x >> 4;
-    y |= x & (y >> 8);
-    x &= x >> 8;
-    y |= x & (y >> 16);
-    x &= x >> 16;
-    y |= x & (y >> 32);
+    let mut d: u64 = 1;
+    while d < 64 {
+        if x == 0 {
+            return y;
+        }
+        y |= x & (y >> d);
+        x &= x >> d;
+        d += d;
+    }
     y
 }
 

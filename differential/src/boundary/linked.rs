@@ -1,18 +1,11 @@
 //! The library as differential/native links it, target/native/libscarfpylon.so, in this very process.
-use std::ffi::{c_char, c_int, c_void, CString};
+use std::ffi::c_void;
 use std::mem::transmute;
-use std::os::unix::ffi::OsStrExt;
+use std::path::Path;
 
+use super::library::Library;
 use super::{Boundary, Function, Slice, FUNCTIONS};
 use crate::program::root;
-
-extern "C" {
-    fn dlopen(file: *const c_char, how: c_int) -> *mut c_void;
-    fn dlsym(library: *mut c_void, name: *const c_char) -> *mut c_void;
-}
-
-/// All names are looked up at once.
-const RTLD_NOW: c_int = 2;
 
 /// The functions that the library has, each at its place in `FUNCTIONS`.
 pub struct Linked {
@@ -41,18 +34,14 @@ impl Linked {
         if !file.is_file() {
             return Err("our library is not at hand: sh differential/native scarfpylon makes it".to_string());
         }
-        let path = CString::new(file.as_os_str().as_bytes()).unwrap();
-        // SAFETY: the library runs nothing when it is loaded, and it is never unloaded.
-        let library = unsafe { dlopen(path.as_ptr(), RTLD_NOW) };
-        if library.is_null() {
-            return Err(format!("{} can't be loaded", file.display()));
-        }
+        Self::of(&file)
+    }
+
+    /// One that stands elsewhere, with the same boundary.
+    pub fn of(file: &Path) -> Result<Self, String> {
+        let library = Library::load(file)?;
         Ok(Linked {
-            functions: FUNCTIONS.map(|(_, name)| {
-                let name = CString::new(name).unwrap();
-                // SAFETY: the library is loaded and the name ends in a zero.
-                unsafe { dlsym(library, name.as_ptr()) }
-            }),
+            functions: FUNCTIONS.map(|(_, name)| library.symbol(name)),
         })
     }
 }

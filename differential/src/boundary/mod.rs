@@ -1,9 +1,11 @@
 //! Our compiled library by its C boundary: linked for the machine at hand (`linked`), or the archive that ships, in a program of its own (`served`).
+mod library;
 mod linked;
 mod served;
 
 use std::ffi::c_void;
 
+pub use library::Library;
 pub use linked::Linked;
 pub use served::Served;
 

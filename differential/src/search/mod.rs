@@ -19,3 +19,4 @@ pub use compare::{run, Extent};
 pub use input::Input;
 pub use outside::{beyond, findings};
 pub use speed::run as speed;
+pub use speed::run_beside as speed_beside;

@@ -1,5 +1,6 @@
-//! How fast our search runs beside the Rust's, on the same inputs in the same process. Only for a build with the published hash and no checks:
-//! differential/README.md has the command.
+//! How fast our search runs beside the Rust's, or beside that of an earlier library of ours, on the same inputs in the same process. Only for a build
+//! with the published hash and no checks: differential/README.md has the commands.
+use std::path::Path;
 use std::time::{Duration, Instant};
 
 use super::counted::Start;
@@ -137,6 +138,61 @@ fn measure(library: &mut Linked, set: &Set) -> bool {
         ours.least.as_secs_f64() / rust.least.as_secs_f64()
     );
     alike
+}
+
+/// Only this thread's own time, so that other work on the machine counts little.
+fn processor_time() -> Duration {
+    extern "C" {
+        fn clock_gettime(clock: i32, time: *mut [i64; 2]) -> i32;
+    }
+    const CLOCK_THREAD_CPUTIME_ID: i32 = 3;
+    let mut time = [0; 2];
+    // SAFETY: seconds and nanoseconds are written, as two words.
+    assert_eq!(unsafe { clock_gettime(CLOCK_THREAD_CPUTIME_ID, &mut time) }, 0);
+    Duration::new(time[0] as u64, time[1] as u32)
+}
+
+/// Each input's least time counts. The inputs come in turn, since a processor soon knows one by heart, and so do the libraries, since the second to
+/// search an input finds it at hand. The earlier library is the first in the list.
+fn measure_both(libraries: &mut [Linked; 2], set: &Set) {
+    let inputs = inputs(set);
+    let mut lents: Vec<Lent> = inputs.iter().map(|input| Lent::new(Lens::asked(input), 1)).collect();
+    let mut least = vec![[Duration::MAX; 2]; inputs.len()];
+    for round in 0..4 * ROUNDS {
+        for ((input, lent), least) in inputs.iter().zip(&mut lents).zip(&mut least) {
+            for which in [round % 2, 1 - round % 2] {
+                let began = processor_time();
+                search(&mut libraries[which], input, lent);
+                least[which] = least[which].min(processor_time() - began);
+            }
+        }
+    }
+    let tried: u64 = lents.iter().map(|lent| lent.out[2]).sum();
+    let times = [0, 1].map(|which| least.iter().map(|times| times[which]).sum::<Duration>());
+    let [before, now] = times.map(|time| time.as_nanos() as f64 / tried as f64);
+    println!(
+        "{}: before {before:.1} ns a candidate, now {now:.1}, ratio {:.3}",
+        set.name,
+        now / before
+    );
+}
+
+/// The library as it is now beside an earlier one that differential/native linked.
+pub fn run_beside(file: &str) -> i32 {
+    match (Linked::of(Path::new(file)), Linked::load()) {
+        (Ok(before), Ok(now)) => {
+            let mut libraries = [before, now];
+            SETS.iter().for_each(|set| measure_both(&mut libraries, set));
+            0
+        }
+        (before, now) => {
+            [before, now]
+                .into_iter()
+                .filter_map(Result::err)
+                .for_each(|error| println!("speed not measured: {error}"));
+            1
+        }
+    }
 }
 
 pub fn run() -> i32 {

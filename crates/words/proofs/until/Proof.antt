@@ -1,12 +1,43 @@
--- `words::until` meets its contract.
+-- `words::until` meets its contract. The loop's invariant: its words are those of the distance d, which is doubled until no run is left or it is 64.
 -- Assumes nothing.
+use Prim.Native.Nat.{_-_, _<_}
 use native.Mathlib.Omega.{arith}
-use Rattle.words.proofs.Operators.{wide, until-means}
+use Rattle.words.specs.Word.{width}
+use Rattle.words.proofs.Operators.{wide, Doubled, doubled-first, doubled-next, until-whole, until-stopped}
 use Rattle.words.proofs.until.Statement.{statement}
 use Rattle.words.proofs.until.Tie as tie
 
-returns : tie.Need-returns
-returns c = until-means (wide (omega arith)) (wide (omega arith))
+abbrev Inv-loop : tie.InvT-loop
+Inv-loop x y x₀ y₀ d₀ x' y' d = Doubled x y d x' y' × (0 < d)
+
+abbrev μ-loop : tie.MeasureT-loop
+μ-loop x y x₀ y₀ d₀ x' y' d = width - d
+
+loop-holds : tie.Need-loop-holds Inv-loop μ-loop
+loop-holds c = (doubled-first, omega arith)
+
+returns : tie.Need-returns Inv-loop μ-loop
+returns c = until-stopped (wide (omega arith)) (omega arith) (omega arith) (c .before .before .loop .inv .0)
+
+shr-y : tie.Need-shr-y Inv-loop μ-loop
+shr-y c = omega arith
+
+shr-x : tie.Need-shr-x Inv-loop μ-loop
+shr-x c = omega arith
+
+add-d : tie.Need-add-d Inv-loop μ-loop
+add-d c = omega arith
+
+loop-less : tie.Need-loop-less Inv-loop μ-loop
+loop-less c = omega arith
+
+loop-again : tie.Need-loop-again Inv-loop μ-loop
+loop-again c = (doubled-next _ (c .before .before .loop .inv .0), omega arith)
+
+returns-2 : tie.Need-returns-2 Inv-loop μ-loop
+returns-2 c = until-whole (wide (omega arith)) (omega arith) (c .before .loop .inv .0)
 
 pub until-spec : {M : Type 1} → statement M
-until-spec = tie.close (tie.spec returns)
+until-spec =
+    tie.close
+    (tie.spec Inv-loop μ-loop loop-holds returns shr-y shr-x add-d loop-less loop-again returns-2)
