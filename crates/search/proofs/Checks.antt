@@ -12,6 +12,7 @@ use Rattle.sequence.proofs.Groups.{unary-below, binary-between}
 use Rattle.rules.specs.Lists.{Each}
 use Rattle.session.proofs.Few.{few}
 use Rattle.walk.specs.Input.{Input, Passes}
+use Rattle.checks.proofs.Codes.{at-position}
 use Rattle.checks.proofs.Passing.{at-in, once-at}
 use Rattle.search.specs.Costs.{operators}
 

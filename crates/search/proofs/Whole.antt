@@ -2,7 +2,7 @@
 -- Assumes nothing.
 use mathlib.Core.Path.{_≡_, refl, sym, ap, _∙_}
 use mathlib.Core.List.{List, [], flatMap}
-use Prim.Native.Nat.{ℕ, _+_, _-_}
+use Prim.Native.Nat.{ℕ, zero, suc, _+_, _-_, _≤_}
 use native.Mathlib.Omega.{arith}
 use Rattle.rules.specs.Refusals.{Decided}
 use Rattle.walk.specs.Walk.{none, State, kept, finish, after, walk}
@@ -23,6 +23,10 @@ use Rattle.search.specs.Turns.{Room, stateOf, answerOf, Stood, layerAt, 
 use Rattle.search.proofs.Checks.{unary-few, binary-few}
 use Rattle.search.proofs.Making.{offered}
 use Rattle.search.proofs.Left.{left-all}
+
+pub pos-of-ne : (n : ℕ) → (n ≡ 0 → ⊥) → 1 ≤ n
+pos-of-ne zero h = absurd (h refl)
+pos-of-ne (suc n) h = omega arith
 
 -- its numbers, as the program has them
 abbrev givenOf : Input → Given
