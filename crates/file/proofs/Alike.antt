@@ -13,7 +13,7 @@ use lib.Dec.{eqb, leb, ltb}
 use lib.ListN.{length, getD, take, drop, length-take}
 use lib.Seq.{take-all}
 use Rattle.words.specs.Word.{width}
-use Rattle.names.specs.Names.{nameLength, letter, name, sameBytes, notTwice, namesUpTo}
+use Rattle.names.specs.Names.{nameLength, letter, name, isTaken, notTaken, namesUpTo}
 use Rattle.reading.specs.Reading.{Got, got, bad, Reader, andThen, each, byte, within, counted, isIn, atEnd}
 use Rattle.reading.proofs.Readers.{got-bad}
 use Rattle.file.specs.Numbers.{propositions, sessions, bound}
@@ -85,12 +85,12 @@ module _ (f g : List ℕ) (o : ℕ) (in-f : o + longestItem ≤ length f) (in-g 
     same = λ at h. inl (same-name f g (o + longestItem) in-f in-g agree before at (omega arith));
   }
     where
-      ends : (at : ℕ) → o < at → (letters : List ℕ) (n : ℕ) → o < n → (b : Bool) → Past (notTwice b at letters n)
+      ends : (at : ℕ) → o < at → (letters : List ℕ) (n : ℕ) → o < n → (b : Bool) → Past (notTaken b at letters n)
       ends at h letters n l true = h
       ends at h letters n l false = l
 
-      go : (at : ℕ) → o < at → (r : Got (List ℕ)) → Past r → Past (andThen r (λ letters n. notTwice (isIn sameBytes letters before) at letters n))
-      go at h (got letters n) l = ends at h letters n l (isIn sameBytes letters before)
+      go : (at : ℕ) → o < at → (r : Got (List ℕ)) → Past r → Past (andThen r (λ letters n. notTaken (isTaken before letters) at letters n))
+      go at h (got letters n) l = ends at h letters n l (isTaken before letters)
       go at h (bad b) l = l
 
   word-alike : (n : ℕ) → Alike (word n f) (word n g)

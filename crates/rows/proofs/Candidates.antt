@@ -8,7 +8,8 @@ use native.Mathlib.Omega.{arith}
 use lib.ListN.{length, getD}
 use Rattle.words.specs.Word.{width, At, Means}
 use Rattle.sequence.specs.Operators.{Unary, Binary, unaryCode, binaryCode}
-use Rattle.sequence.specs.Masked.{unaryMasked, binaryMasked, UnaryWord, BinaryWord}
+use Rattle.sequence.specs.Masked.{unaryMasked, binaryMasked}
+use Rattle.rows.specs.Inner.{UnaryWord, BinaryWord}
 use Rattle.rules.specs.Limits.{mostSessions, mostPropositions}
 use Rattle.formula.specs.Formula.{Leaf}
 use Rattle.formula.specs.Nodes.{leafCode}

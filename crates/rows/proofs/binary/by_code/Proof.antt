@@ -3,7 +3,7 @@
 use mathlib.Core.Path.{sym}
 use native.Mathlib.Omega.{arith}
 use Rattle.sequence.specs.Operators.{Binary}
-use Rattle.sequence.specs.Masked.{BinaryWord}
+use Rattle.rows.specs.Inner.{BinaryWord}
 use Rattle.sequence.proofs.Groups.{not-binary}
 use Rattle.rows.proofs.Filling.{filled-as}
 use Rattle.rows.proofs.binary.by_code.Statement.{statement}

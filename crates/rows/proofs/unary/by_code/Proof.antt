@@ -3,7 +3,7 @@
 use mathlib.Core.Path.{sym}
 use native.Mathlib.Omega.{arith}
 use Rattle.sequence.specs.Operators.{Unary}
-use Rattle.sequence.specs.Masked.{UnaryWord}
+use Rattle.rows.specs.Inner.{UnaryWord}
 use Rattle.sequence.proofs.Groups.{not-unary}
 use Rattle.rows.proofs.Filling.{filled-as}
 use Rattle.rows.proofs.unary.by_code.Statement.{statement}
