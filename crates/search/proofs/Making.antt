@@ -25,25 +25,11 @@ use Rattle.order.proofs.Lists.{map-append, map-map}
 use Rattle.table.specs.Formulas.{nothing, matrixAt, LeafIn, Makes}
 use Rattle.table.specs.Formulas as table
 use Rattle.table.proofs.Groups.{unary-or-binary, unary-or-leaf, binary-or-leaf}
+use Rattle.sequence.proofs.Decoding.{unary-of, binary-of}
 use Rattle.search.specs.Turns.{leafOf, made, make, layerAt}
 use Rattle.search.proofs.Passing.{at-in}
 
 -- ---- the operator with a code
-
-pub unary-of : (op : Unary) → unaryOf (unaryCode op) ≡ op
-unary-of Unary.not = refl
-unary-of Unary.weakNext = refl
-unary-of Unary.strongNext = refl
-unary-of Unary.finally = refl
-unary-of Unary.globally = refl
-
-pub binary-of : (op : Binary) → binaryOf (binaryCode op) ≡ op
-binary-of Binary.or = refl
-binary-of Binary.and = refl
-binary-of Binary.until = refl
-binary-of Binary.release = refl
-binary-of Binary.implies = refl
-binary-of Binary.equiv = refl
 
 leaf-of : (c : Leaf) → leafOf (leafCode c) (leafNumber c) ≡ c
 leaf-of (proposition p) = refl

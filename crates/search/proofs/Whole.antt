@@ -33,7 +33,8 @@ use Rattle.checks.specs.Inner.{GoodCodes}
 use Rattle.checks.proofs.Decide.{NoneOf, none-given, numbers-in, le-of-not-lt}
 use Rattle.search.specs.Turns.{Room, stateOf, answerOf, Stood, layerAt, walkLeft, Standing, firstPoint, GoAsks, GoDoes}
 use Rattle.search.proofs.Checks.{at-position, good-once, unary-few, binary-few}
-use Rattle.search.proofs.Making.{unary-of, binary-of, offered}
+use Rattle.sequence.proofs.Decoding.{unary-of, binary-of}
+use Rattle.search.proofs.Making.{offered}
 use Rattle.search.proofs.Left.{left-all}
 
 -- ---- no row is given
