@@ -17,6 +17,7 @@ use Rattle.formula.specs.declared.kinds.Node.{Node}
 use Rattle.formula.specs.Kinds.{nodeOf, nodes}
 use Rattle.formula.specs.Rule.{Broken}
 use Rattle.text.specs.Text.{text}
+use Rattle.text.proofs.Promises.{text-in}
 use Rattle.writing.specs.Writing.{Wrote}
 use Rattle.search.specs.declared.SearchAnswer.{SearchAnswer}
 use Rattle.search.specs.declared.SearchAnswer.the-variants.{Found, None, Full, Refused}
@@ -27,7 +28,7 @@ use Rattle.lines.specs.Bench.{inputOf}
 use Rattle.lines.specs.Inner.{Showable, ShownBy, Given, Written}
 use Rattle.lines.proofs.Digits.{found-short, full-short, none-short, refused-short}
 use Rattle.lines.proofs.Kept.{columns}
-use Rattle.lines.proofs.Shown.{front, text-in}
+use Rattle.lines.proofs.Shown.{front}
 use Rattle.lines.proofs.Searching.{Roomy, FoundAt, found-at, none-says, full-says, refused-says}
 
 -- a part of a lent list that begins with new contents

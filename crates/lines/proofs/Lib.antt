@@ -7,3 +7,4 @@ pub mod Answered
 pub mod Handed
 pub mod Unique
 pub mod Prefix
+pub mod Promises

@@ -50,8 +50,7 @@ module _ (p : Parts) (g : Good p) (room : ℕ) (t : Cols) (roomy : Roomy t) wher
   data-pass : Decided (dataRows (length (p .sessions)) (length (p .names)) (marksOf p) (lengthsOf p) (wordsOf p)) 0
   data-pass = simp append-nil at (handed-out-passes p g [] [] [])
 
-  in-room : 1 ≤ room → room ≤ mostRoom → Decided (searchRows i t) 0
-  unfolding i
+  pub in-room : 1 ≤ room → room ≤ mostRoom → Decided (searchRows (inputOf p room) t) 0
   in-room a b =
       is-zero (inputOf p room) t 0 data-pass (λ q. omega arith)
       (settings-fine (inputOf p room) (g .someBound, g .lowBound, a, b, g .constants)) (λ q. omega arith)

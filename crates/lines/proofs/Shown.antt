@@ -2,26 +2,23 @@
 -- Assumes nothing.
 use mathlib.Core.Path.{_≡_, refl, sym, ap, _∙_, subst}
 use mathlib.Core.Logic.{inl, inr}
-use mathlib.Core.List.{List, [], _++_, head-eq-of-cons-eq, nil≢cons}
+use mathlib.Core.List.{List, _++_, head-eq-of-cons-eq, nil≢cons}
 use Prim.Native.Nat.{ℕ, _+_, _≤_}
 use native.Mathlib.Omega.{arith}
-use lib.ListN.{length, getD, take, drop, length-append}
+use lib.ListN.{length, take, drop, length-append}
 use lib.Seq.{take-append-seam}
 use Rattle.rules.specs.Refusals.{Decided}
-use Rattle.names.specs.Names.{nameLength, wholeNames, listed, namesIn}
+use Rattle.names.specs.Names.{wholeNames}
 use Rattle.reading.specs.Reading.{Got, got}
 use Rattle.rules.specs.Answers.{over}
-use Rattle.formula.specs.Formula.{size, Formula}
+use Rattle.formula.specs.Formula.{Formula}
 use Rattle.formula.specs.Nodes.{Node, Spells, codes}
-use Rattle.rules.specs.Limits.{mostSize}
 use Rattle.text.specs.declared.Printed.{Printed}
 use Rattle.text.specs.declared.Printed.the-variants.{Text, Broken as NamesBroken, Refused}
 use Rattle.formula.specs.Rule.{Broken}
 use Rattle.text.specs.Text.{text, mostText}
 use Rattle.text.specs.Print.{saidPrinted, printRows, PrintAnswer, PrintsBy, Prints}
-use Rattle.names.proofs.Starts.{short-names}
-use Rattle.text.proofs.Texts.{text-fits}
-use Rattle.formula.proofs.Spelled.{list-spells}
+use Rattle.text.proofs.Promises.{text-in}
 use Rattle.writing.specs.Writing.{Wrote}
 use Rattle.writing.proofs.Writing.{wrote-both}
 use Rattle.reading.proofs.Readers.{got-value}
@@ -29,18 +26,6 @@ use Rattle.lines.specs.Line.{newline, foundLine}
 use Rattle.lines.specs.Inner.{Showable}
 
 module _ (file : List ℕ) (k : List Node) (root : Node) (names : List (List ℕ)) (next : ℕ) (e : wholeNames file ≡ got names next) (whole : Broken (length names) k root → ⊥) where
-  same-names : names ≡ namesIn file
-  same-names = sym (ap listed e)
-
-  short : (p : ℕ) → length (getD names p []) ≤ nameLength
-  short p = subst (λ (ns : List (List ℕ)). length (getD ns p []) ≤ nameLength) (sym same-names) (short-names file (next, e ∙ ap (λ (ns : List (List ℕ)). got ns next) same-names) p)
-
-  small : (t : Formula) → Spells codes k root t → size t ≤ mostSize
-  small t s = let w = list-spells (length names) k root whole .0 in subst (λ (u : Formula). size u ≤ mostSize) (sym (w .only t s)) (w .small)
-
-  pub text-in : (t : Formula) → Spells codes k root t → length (text names t) ≤ mostText
-  text-in t s = text-fits names short t (small t s)
-
   -- what is printed
   pub record Shown (old : List ℕ) (p : Printed) (new : List ℕ) : Type 0 where
     pub formula : Formula
@@ -54,7 +39,7 @@ module _ (file : List ℕ) (k : List Node) (root : Node) (names : List (List ℕ
     unfolding Decided
     by-answer (Text n) new a =
         let q = a .passed refl in
-        record { formula = q .0; spelled = q .1; is = ap Text (head-eq-of-cons-eq (q .2)); holds = q .3; fits = text-in (q .0) (q .1) }
+        record { formula = q .0; spelled = q .1; is = ap Text (head-eq-of-cons-eq (q .2)); holds = q .3; fits = text-in file k root names next e whole (q .0) (q .1) }
     by-answer (NamesBroken o) new a = absurd (no-eight (a .number))
       where
         no-eight : Decided (printRows names k root old) 8 → ⊥
@@ -65,7 +50,7 @@ module _ (file : List ℕ) (k : List Node) (root : Node) (names : List (List ℕ
       where
         none-given : Decided (printRows names k root old) n → ⊥
         none-given (inl d) = whole (d .0)
-        none-given (inr (b, inl ((t, s, l), d))) = let h = text-in t s in omega arith
+        none-given (inr (b, inl ((t, s, l), d))) = let h = text-in file k root names next e whole t s in omega arith
         none-given (inr (b, inr d)) = nil≢cons (a .passed (d .1) .2)
 
     pub shown : (p : Printed) (new : List ℕ) → Prints file k root old (saidPrinted p) new → Shown old p new

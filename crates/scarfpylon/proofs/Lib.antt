@@ -5,3 +5,4 @@ pub mod Checking
 pub mod Printing
 pub mod Reading
 pub mod Unique
+pub mod Promises

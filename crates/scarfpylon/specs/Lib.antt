@@ -1,4 +1,4 @@
--- What a reader must believe of the C boundary: what its functions have in common, and what each one does. The sentences in quotes are those of
+-- What a reader must believe of the C boundary: what its functions have in common, what each one does, and what the words of a search mean (Promises). The sentences in quotes are those of
 -- docs/DECISIONS.md, "The C boundary", and of document 01.
 -- `Inner` is only for private functions: no exported contract cites it.
 pub mod Out
@@ -7,4 +7,5 @@ pub mod Search
 pub mod Check
 pub mod Print
 pub mod Read
+pub mod Promises
 pub mod Inner

@@ -15,6 +15,7 @@ use Rattle.walk.specs.Promises.{Table}
 use Rattle.walk.proofs.Promises as walk
 use Rattle.walk.proofs.Same.{same-where-read as walk-same}
 use Rattle.walk.proofs.Steady.{found-stays}
+use Rattle.walk.proofs.Position.{tried-is-position as walk-tried}
 use Rattle.formula.specs.declared.kinds.Node.{Node}
 use Rattle.formula.specs.Kinds.{nodeOf}
 use Rattle.search.specs.declared.SearchAnswer.{SearchAnswer}
@@ -22,7 +23,7 @@ use Rattle.search.specs.declared.SearchAnswer.the-variants.{Found, None,
 use Rattle.search.specs.Table.{Cols, tableOver}
 use Rattle.checks.specs.Refusals.{searchRows}
 use Rattle.search.specs.Search.{said, walkSaid, endSaid, foundSaid, noneSaid, fullSaid, Searched}
-use Rattle.search.specs.Promises.{Unique, SameWhereRead, Holding, FoundSmallest, NoneMeansNone, FullNeedsRoom, LargerSame}
+use Rattle.search.specs.Promises.{Unique, SameWhereRead, Holding, FoundSmallest, NoneMeansNone, FullNeedsRoom, LargerSame, TriedIsPosition}
 use Rattle.checks.proofs.Passing.{search-passes, decided-same}
 
 -- ---- any two results for the same input are equal
@@ -206,3 +207,20 @@ larger-same i j wide t u root x y w t′ a v z e =
         holding j t′ v y (found (nodeOf root)) k x passes later l h,
       ),
     )
+
+-- ---- the counts
+
+pub tried-is-position : TriedIsPosition
+tried-is-position i t u (Found root x y) w =
+    let (e, k, m, q) = walk.walk-ends i in
+    let (p, l) = found-end i root x y e k m q (w .outcome .0 ∙ ap walkSaid q) in
+    (k, holding i t u y (found (nodeOf root)) k x (search-passes i t (w .decided)) p l (w .outcome .1), walk-tried i (found (nodeOf root)) k x p)
+tried-is-position i t u (None x y) w =
+    let (e, k, m, q) = walk.walk-ends i in
+    let (p, l) = none-end i x y e k m q (w .outcome .0 ∙ ap walkSaid q) in
+    (k, holding i t u y none k x (search-passes i t (w .decided)) p l (w .outcome .1), walk-tried i none k x p)
+tried-is-position i t u (Full s x y) w =
+    let (e, k, m, q) = walk.walk-ends i in
+    let (p, l) = full-end i s x y e k m q (w .outcome .0 ∙ ap walkSaid q) in
+    (k, holding i t u y (full s) k x (search-passes i t (w .decided)) p l (w .outcome .1), walk-tried i (full s) k x p)
+tried-is-position i t u (Refused n) w = tt

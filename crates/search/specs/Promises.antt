@@ -7,11 +7,12 @@ use Prim.Native.Nat.{ℕ, _+_}
 use lib.ListN.{length}
 use Rattle.formula.specs.declared.kinds.Node.{Node}
 use Rattle.formula.specs.Kinds.{nodeOf}
-use Rattle.walk.specs.Input.{Input}
-use Rattle.walk.specs.Promises.{Table, NoneBelow, Kept, AgreeWhereRead, Wider}
+use Rattle.walk.specs.Walk.{Ending, found, none, full, trail}
+use Rattle.walk.specs.Input.{Input, separating, offer}
+use Rattle.walk.specs.Promises.{Table, NoneBelow, Kept, DecidedAt, AgreeWhereRead, Wider}
 use Rattle.walk.specs.Promises as walk
 use Rattle.search.specs.declared.SearchAnswer.{SearchAnswer}
-use Rattle.search.specs.declared.SearchAnswer.the-variants.{Found, None, Full}
+use Rattle.search.specs.declared.SearchAnswer.the-variants.{Found, None, Full, Refused}
 use Rattle.search.specs.Table.{Cols, tableOver}
 use Rattle.checks.specs.Promises.{DataThere}
 use Rattle.search.specs.Search.{said, Searched}
@@ -56,3 +57,19 @@ abbrev pub LargerSame : Type 0
 LargerSame = (i j : Input) → Wider i j → (t u : Cols) (root : Node) (tried kept : ℕ) → Searched i t (Found root tried kept) u
     → (t′ : Cols) (a : SearchAnswer) (v : Cols) → Searched j t′ a v → said a .number ≡ 0
     → (a ≡ Found root tried kept) × ((k : Table) × Holding i t u kept k × Holding j t′ v kept k)
+
+-- ---- the counts
+
+-- the table that the slices hold, and of the candidates in 01's order the deciding one at the position told, counted from 1; at NONE they were as many
+abbrev pub CountedTo : Input → Cols → Cols → ℕ → Ending → ℕ → Type 0
+CountedTo i t u kept e tried = (k : Table) × Holding i t u kept k × DecidedAt (separating i) (trail (offer i) (i .room) (i .bound)) e k tried
+
+abbrev pub Counted : Input → Cols → Cols → SearchAnswer → Type 0
+Counted i t u (Found root tried kept) = CountedTo i t u kept (found (nodeOf root)) tried
+Counted i t u (None tried kept) = CountedTo i t u kept none tried
+Counted i t u (Full size tried kept) = CountedTo i t u kept (full size) tried
+Counted i t u (Refused k) = Unit {0}
+
+-- "the number of candidates tried, up to and including the deciding one, and the number kept"
+abbrev pub TriedIsPosition : Type 0
+TriedIsPosition = (i : Input) (t u : Cols) (a : SearchAnswer) → Searched i t a u → Counted i t u a

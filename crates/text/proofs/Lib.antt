@@ -4,3 +4,4 @@ pub mod Texts
 pub mod Printing
 pub mod Answers
 pub mod Unique
+pub mod Promises
