@@ -1,0 +1,105 @@
+-- What the functions of the descent answer, in the terms of `Passing`.
+-- Assumes nothing.
+use mathlib.Core.Path.{_≡_}
+use mathlib.Core.Bool.{false, cond}
+use mathlib.Core.List.{List, [], _∷_, _++_}
+use Prim.Native.Nat.{ℕ, suc, _+_, _≤_, _<_}
+use lib.ListN.{length, drop, getD}
+use Rattle.sequence.specs.Operators.{Unary, Binary}
+use Rattle.walk.specs.Formula.{size}
+use Rattle.grammar.specs.Token.{Typed, Atom, Token, pre, atom, opens, closes}
+use Rattle.file.specs.Format.{isNameByte}
+use Rattle.grammar.specs.Grammar.{operand, level, rightLevel, Derives, Reads, Refused11}
+use Rattle.sequence.specs.Operators.Unary.{strongNext}
+use Rattle.grammar.specs.Scan.{ready, after, rest, word as inWord}
+use Rattle.grammar.specs.Passing.{Peek, op, nothing, cut, expect, peek, QuietAt, Passes, Stops, Expression, Refuses, Continues}
+use Rattle.reader.specs.declared.operator.Op.{Op}
+use Rattle.reader.specs.declared.operator.Op.the-variants.{Is, Nothing, Cut}
+use Rattle.reader.specs.declared.front.First.{First}
+use Rattle.reader.specs.declared.front.First.the-variants.{Operator as PrefixOperator, Open, Word as LeafWord, Bad as NoOperand}
+use Rattle.reader.specs.declared.operator.End.{End}
+use Rattle.reader.specs.declared.operator.End.the-variants.{At, Bad as NoEnd}
+use Rattle.reader.specs.declared.Got.{Got}
+use Rattle.reader.specs.declared.Got.the-variants.{Val, Bad}
+
+-- the next operator, with offsets of the whole text
+abbrev pub Said : ℕ → Peek → Op → Type 0
+Said at (op o n) (Is l r next) = (l ≡ level o) × (r ≡ rightLevel o) × (next ≡ at + n)
+Said at (op o n) (Nothing i) = ⊥
+Said at (op o n) (Cut i) = ⊥
+Said at (nothing n) (Is l r next) = ⊥
+Said at (nothing n) (Nothing i) = i ≡ at + n
+Said at (nothing n) (Cut i) = ⊥
+Said at (cut n) (Is l r next) = ⊥
+Said at (cut n) (Nothing i) = ⊥
+Said at (cut n) (Cut i) = i ≡ at + n
+
+abbrev pub Operator : List ℕ → ℕ → Op → Type 0
+Operator text at r = Said at (peek (drop at text)) r
+
+-- the last byte of `->` or `<->`
+abbrev pub Arrow : List ℕ → ℕ → Op → Type 0
+Arrow text at r = (o : Binary) → level o ≡ 0 → rightLevel o ≡ 0 → Said at (expect (62 ∷ []) o (drop at text)) r
+
+-- behind `U` or `R`
+abbrev pub word : List ℕ → ℕ → Op
+word text at = cond (isNameByte (getD text at 0)) (Cut at) (Is 3 3 at)
+
+-- a closing bracket, after an expression with which nothing goes on
+abbrev pub Closing : List ℕ → ℕ → End → Type 0
+Closing text at (At next) = QuietAt text 0 at → (d : ℕ) → Passes text (after (suc d)) at (closes ∷ []) (after d) next
+Closing text at (NoEnd k) = QuietAt text 0 at → (d : ℕ) → Stops text (after (suc d)) at k
+
+-- the end of the text, after one
+abbrev pub Ending : List ℕ → ℕ → End → Type 0
+Ending text at (At next) = (next ≡ length text) × (QuietAt text 0 at → Passes text (after 0) at [] (after 0) (length text))
+Ending text at (NoEnd k) = QuietAt text 0 at → Stops text (after 0) at k
+
+-- a word so far goes on from i to r; from there no word's byte comes, or the word has all its 16
+pub record Ran (text : List ℕ) (start i r : ℕ) : Type 0 where
+  pub forward : i ≤ r
+  pub within : r ≤ length text
+  pub short : r ≤ start + 16
+  pub stops : r < start + 16 → isNameByte (getD text r 0) ≡ false
+  pub grows : (v : List ℕ) → start + length v ≡ i → (x : List ℕ) × (start + length (v ++ x) ≡ r) × ((d : ℕ) → Passes text (inWord v d) i [] (inWord (v ++ x) d) r)
+
+-- behind `X[`
+abbrev pub Strong : List ℕ → ℕ → First → Type 0
+Strong text at (PrefixOperator next) = (at < next) × ((d : ℕ) → Passes text (rest 33 (93 ∷ []) (pre strongNext) d) at (pre strongNext ∷ []) (ready d) next)
+Strong text at (Open next) = ⊥
+Strong text at (LeafWord next) = ⊥
+Strong text at (NoOperand k) = (d : ℕ) → Stops text (rest 33 (93 ∷ []) (pre strongNext) d) at k
+
+-- what stands where an operand is awaited
+abbrev pub Fronts : List ℕ → ℕ → First → Type 0
+Fronts text at (PrefixOperator next) = (at < next) × (u : Unary) × ((d : ℕ) → Passes text (ready d) at (pre u ∷ []) (ready d) next)
+Fronts text at (Open next) = (at < next) × ((d : ℕ) → Passes text (ready d) at (opens ∷ []) (ready (suc d)) next)
+Fronts text at (LeafWord next) = (at < next) × (l : Atom) × ((d : ℕ) → Passes text (ready d) at (atom l ∷ []) (after d) next)
+Fronts text at (NoOperand k) = Refuses text at k
+
+-- what was read is no larger than its bytes are many
+abbrev pub Fits : List ℕ → ℕ → ℕ → ℕ → Type 0
+Fits text at next m = (1 ≤ m) × (at + m ≤ next) × (next ≤ length text)
+
+abbrev pub Infix : List ℕ → ℕ → ℕ → Got → Type 0
+Infix text n at (Val next m) = Fits text at next m × (t : Typed) × Expression text n at next t × (size t ≡ m) × QuietAt text n next
+Infix text n at (Bad k) = Refuses text at k
+
+-- after an expression of this size
+abbrev pub More : List ℕ → ℕ → ℕ → ℕ → Got → Type 0
+More text n at before (Val next m) = (at ≤ next) × (before ≤ m) × (at + m ≤ next + before) × (next ≤ length text) × Continues text n at next before m × QuietAt text n next
+More text n at before (Bad k) = (d : ℕ) → Stops text (after d) at k
+
+abbrev pub Prefix : List ℕ → ℕ → Got → Type 0
+Prefix text at (Val next m) = Fits text at next m × (t : Typed) × Expression text operand at next t × (size t ≡ m)
+Prefix text at (Bad k) = Refuses text at k
+
+-- behind an opening bracket
+abbrev pub Bracket : List ℕ → ℕ → Got → Type 0
+Bracket text at (Val next m) = Fits text at next m × (t : Typed) × (ts : List Token) × ((d : ℕ) → Passes text (ready (suc d)) at (ts ++ (closes ∷ [])) (after d) next) × Derives 0 ts t × (size t ≡ m)
+Bracket text at (Bad k) = (d : ℕ) → Stops text (ready (suc d)) at k
+
+-- the whole text: a formula's length and size, or the offset of 11
+abbrev pub Whole : List ℕ → Got → Type 0
+Whole text (Val next m) = (next ≡ length text) × (t : Typed) × Reads text t × (size t ≡ m)
+Whole text (Bad k) = Refused11 text k
