@@ -9,6 +9,8 @@ use lib.ListN.{length, drop, getD, length-drop}
 use lib.Seq.{drop-cons, drop-drop, drop-length}
 use Rattle.sequence.specs.Operators.{Unary, Binary, unaryToken}
 use Rattle.walk.specs.Formula.{leaf, unary, binary, size}
+use Rattle.walk.specs.Nodes.{Node, Codes}
+use Rattle.grammar.specs.Nodes.{node, nodesOf}
 use Rattle.grammar.specs.Token.{Typed, Atom, Token, pre, mid, atom, Apart}
 use Rattle.sequence.specs.Operators.Unary.{weakNext}
 use Rattle.grammar.specs.Grammar.{level, leftLevel, rightLevel, operand, prefix, between, Reads, Refused11}
@@ -131,38 +133,50 @@ module _ (text : List ℕ) where
 
   -- ---- the returns of `infix`: an operand, and what goes on
 
-  pub is-infix : {n at mid next before m : ℕ} {t : Typed} → n ≤ operand → Expression text operand at mid t → size t ≡ before → Continues text n mid next before m → (u : Typed) × Expression text n at next u × (size u ≡ m)
-  is-infix {n} {at} {mid} {next} {t = t} h x z c =
-      let k = c operand (x .tokens) t h (x .derived) z (any-calm (peek (drop mid text))) in
-      (k .tree, record { tokens = x .tokens ++ k .tokens; passes = λ d. pass-then (x .passes d) (k .passes d); derived = k .derived }, k .sized)
-    where
-      any-calm : (k : Peek) → IfOp (λ o. leftLevel o ≤ operand) Unit k
-      any-calm (op o n) = let s = sides o in omega arith
-      any-calm (nothing n) = tt
-      any-calm (cut n) = tt
+  module _ (C : Codes Atom Unary Binary) (place : ℕ) where
+    pub is-infix : {n at mid next before m : ℕ} {t : Typed} {more : List Node} → n ≤ operand → Expression text operand at mid t → size t ≡ before → Continues C place text n mid next before m more
+        → (u : Typed) × Expression text n at next u × (size u ≡ m) × (nodesOf C place u ≡ nodesOf C place t ++ more)
+    is-infix {n} {at} {mid} {next} {t = t} h x z c =
+        let k = c operand (x .tokens) t h (x .derived) z (any-calm (peek (drop mid text))) in
+        (k .tree, record { tokens = x .tokens ++ k .tokens; passes = λ d. pass-then (x .passes d) (k .passes d); derived = k .derived }, k .sized, k .grows)
+      where
+        any-calm : (k : Peek) → IfOp (λ o. leftLevel o ≤ operand) Unit k
+        any-calm (op o n) = let s = sides o in omega arith
+        any-calm (nothing n) = tt
+        any-calm (cut n) = tt
 
-  -- ---- the returns of `more`
+    -- ---- the returns of `more`
 
-  pub no-more : {n at m : ℕ} → at ≤ length text → Continues text n at at m m
-  no-more h p xs t l e z c = record { tree = t; sized = z; tokens = []; passes = λ d. pass-none h; derived = rw append-nil (lower l e) }
+    pub no-more : {n at m : ℕ} → at ≤ length text → Continues C place text n at at m m []
+    no-more h p xs t l e z c =
+        record { tree = t; sized = z; tokens = []; passes = λ d. pass-none h; derived = rw append-nil (lower l e); grows = sym (append-nil (nodesOf C place t)) }
 
-  pub one-more : {n at mid next w before m : ℕ} {r : Typed} (o : Binary) → peek (drop at text) ≡ op o w → at ≤ length text → n ≤ level o
-      → Expression text (rightLevel o) (at + w) mid r → QuietAt text (rightLevel o) mid → Continues text n mid next (1 + (before + size r)) m → Continues text n at next before m
-  one-more {n} {at} {mid = m′} {next} {w} {r = r} o e h l x q c p xs t g y z calm =
-      let left : leftLevel o ≤ p = rw e at calm in
-      let k = c (level o) (xs ++ (mid o ∷ x .tokens)) (binary o t r) l (between o (lower left y) (x .derived)) (omega arith) (now-calm (peek (drop m′ text)) q) in
-      record {
-        tree = k .tree;
-        sized = k .sized;
-        tokens = mid o ∷ (x .tokens ++ k .tokens);
-        passes = λ d. pass-then (pass-op at h e d) (pass-then (x .passes d) (k .passes d));
-        derived = rw (append-assoc xs (mid o ∷ x .tokens) (k .tokens)) at (k .derived);
-      }
-    where
-      now-calm : (k : Peek) → IfOp (λ v. level v < rightLevel o) ⊥ k → IfOp (λ v. leftLevel v ≤ level o) Unit k
-      now-calm (op v n) w = takes-over o v w
-      now-calm (nothing n) w = tt
-      now-calm (cut n) w = tt
+    -- the right side's nodes, and the operator's
+    abbrev pub behindLeft : ℕ → Binary → Typed → List Node
+    behindLeft before o r =
+        nodesOf C (place + before) r ++ (node (C .ofBinary o) (place + before - 1) (place + before + size r - 1) (1 + before + size r) ∷ [])
+
+    pub one-more : {n at mid next w before m : ℕ} {r : Typed} {more : List Node} (o : Binary) → peek (drop at text) ≡ op o w → at ≤ length text → n ≤ level o
+        → Expression text (rightLevel o) (at + w) mid r → QuietAt text (rightLevel o) mid → Continues C place text n mid next (1 + (before + size r)) m more
+        → Continues C place text n at next before m (behindLeft before o r ++ more)
+    unfolding nodesOf
+    one-more {n} {at} {mid = m′} {next} {w} {before} {r = r} {more} o e h l x q c p xs t g y z calm =
+        let left : leftLevel o ≤ p = rw e at calm in
+        let k = c (level o) (xs ++ (mid o ∷ x .tokens)) (binary o t r) l (between o (lower left y) (x .derived)) (omega arith) (now-calm (peek (drop m′ text)) q) in
+        let same : nodesOf C place (binary o t r) ≡ nodesOf C place t ++ behindLeft before o r = ap (λ (v : ℕ). nodesOf C place t ++ behindLeft v o r) z in
+        record {
+          tree = k .tree;
+          sized = k .sized;
+          tokens = mid o ∷ (x .tokens ++ k .tokens);
+          passes = λ d. pass-then (pass-op at h e d) (pass-then (x .passes d) (k .passes d));
+          derived = rw (append-assoc xs (mid o ∷ x .tokens) (k .tokens)) at (k .derived);
+          grows = k .grows ∙ ap (λ (v : List Node). v ++ more) same ∙ append-assoc (nodesOf C place t) (behindLeft before o r) more;
+        }
+      where
+        now-calm : (k : Peek) → IfOp (λ v. level v < rightLevel o) ⊥ k → IfOp (λ v. leftLevel v ≤ level o) Unit k
+        now-calm (op v n) w = takes-over o v w
+        now-calm (nothing n) w = tt
+        now-calm (cut n) w = tt
 
   -- ---- the whole text
 

@@ -6,9 +6,11 @@ use mathlib.Core.List.{List, [], _∷_, _++_}
 use Prim.Native.Nat.{ℕ, suc, _+_, _-_, _≤_, _<_}
 use lib.Dec.{eqb}
 use lib.ListN.{length, drop}
-use Rattle.sequence.specs.Operators.{Binary}
+use Rattle.sequence.specs.Operators.{Unary, Binary}
 use Rattle.walk.specs.Formula.{size}
-use Rattle.grammar.specs.Token.{Typed, Token}
+use Rattle.walk.specs.Nodes.{Node, Codes}
+use Rattle.grammar.specs.Nodes.{nodesOf}
+use Rattle.grammar.specs.Token.{Atom, Typed, Token}
 use Rattle.sequence.specs.Operators.Binary.{or, and, until, release, implies, equiv}
 use Rattle.file.specs.Format.{isNameByte}
 use Rattle.grammar.specs.Grammar.{level, leftLevel, Derives}
@@ -103,14 +105,17 @@ pub record Expression (text : List ℕ) (n at next : ℕ) (tree : Typed) : Type 
 abbrev pub Refuses : List ℕ → ℕ → ℕ → Type 0
 Refuses text at k = (d : ℕ) → Stops text (ready d) at k
 
--- after an expression: what goes on between the offsets makes it one of this level and size
-pub record Continued (text : List ℕ) (n at next : ℕ) (xs : List Token) (m : ℕ) : Type 0 where
+-- after an expression: what goes on between the offsets makes it one of this level and size, and these nodes go behind the expression's, which
+-- stand from a place on
+pub record Continued (C : Codes Atom Unary Binary) (place : ℕ) (text : List ℕ) (n at next : ℕ) (xs : List Token) (t : Typed) (m : ℕ) (more : List Node) : Type 0 where
   pub tree : Typed
   pub sized : size tree ≡ m
   pub tokens : List Token
   pub passes : (d : ℕ) → Passes text (after d) at tokens (after d) next
   pub derived : Derives n (xs ++ tokens) tree
+  pub grows : nodesOf C place tree ≡ nodesOf C place t ++ more
 
 -- .. whatever expression of its size it was
-abbrev pub Continues : List ℕ → ℕ → ℕ → ℕ → ℕ → ℕ → Type 0
-Continues text n at next before m = (p : ℕ) (xs : List Token) (t : Typed) → n ≤ p → Derives p xs t → size t ≡ before → CalmAt text p at → Continued text n at next xs m
+abbrev pub Continues : Codes Atom Unary Binary → ℕ → List ℕ → ℕ → ℕ → ℕ → ℕ → ℕ → List Node → Type 0
+Continues C place text n at next before m more =
+    (p : ℕ) (xs : List Token) (t : Typed) → n ≤ p → Derives p xs t → size t ≡ before → CalmAt text p at → Continued C place text n at next xs t m more

@@ -4,13 +4,13 @@ use mathlib.Core.Path.{_≡_, refl, sym, ap, _∙_}
 use mathlib.Core.Logic.{inl, inr}
 use mathlib.Core.Bool.{Bool, true, false}
 use mathlib.Core.List.{List, [], _∷_, _++_, append-nil, append-assoc}
-use Prim.Native.Nat.{ℕ, _+_, _-_, _≤_, _<_}
+use Prim.Native.Nat.{ℕ, suc, _+_, _-_, _≤_, _<_}
 use native.Mathlib.Omega.{arith}
 use native.Mathlib.Decide.{decLt}
 use borrow.Author.Tests.{lt-ltb, le-ltb, ne-eqb, eq-eqb}
 use lib.Dec.{eqb}
-use lib.ListN.{length, drop, getD, length-append, List·getD-eq-default}
-use Rattle.sequence.specs.Operators.{Unary}
+use lib.ListN.{length, take, drop, getD, length-append, List·getD-eq-default}
+use Rattle.sequence.specs.Operators.{Unary, unaryCode}
 use Rattle.grammar.specs.Token.{Atom, pre, Apart}
 use Rattle.sequence.specs.Operators.Unary.{not, weakNext, strongNext, finally, globally}
 use Rattle.file.specs.Format.{isLetter, isNameByte}
@@ -36,14 +36,21 @@ module _ (text : List ℕ) where
     | no h ↦ absurd (let z : getD text i 0 ≡ 0 = List·getD-eq-default text 0 (omega arith) in true-false (rw z at e) refl)
   ]
 
+  -- a byte, and those behind it
+  one-taken : (i r : ℕ) {x : List ℕ} → i < length text → i + 1 ≤ r → take (r - (i + 1)) (drop (i + 1) text) ≡ x → take (r - i) (drop i text) ≡ getD text i 0 ∷ x
+  one-taken i r h g e = let z : r - i ≡ suc (r - (i + 1)) = omega arith in rw (head text h refl, z) (ap (λ (l : List ℕ). getD text i 0 ∷ l) e)
+
   -- ---- run
 
   module _ (start i : ℕ) (h : start < i) (g : i ≤ length text) where
+    none-taken : take (i - i) (drop i text) ≡ []
+    none-taken = let z : i - i ≡ 0 = omega arith in rw z
+
     pub run-full : i ≤ start + 16 → 16 ≤ i - start → Ran text start i i
-    run-full f e = record { forward = omega arith; within = g; short = f; stops = λ l. absurd (omega arith); grows = λ v n. ([], rw append-nil n, λ d. rw append-nil (passage.pass-none text g)) }
+    run-full f e = record { forward = omega arith; within = g; short = f; stops = λ l. absurd (omega arith); grows = λ v n. ([], rw append-nil n, (λ d. rw append-nil (passage.pass-none text g)), none-taken) }
 
     pub run-stops : i ≤ start + 16 → isNameByte (getD text i 0) ≡ false → Ran text start i i
-    run-stops f e = record { forward = omega arith; within = g; short = f; stops = λ l. e; grows = λ v n. ([], rw append-nil n, λ d. rw append-nil (passage.pass-none text g)) }
+    run-stops f e = record { forward = omega arith; within = g; short = f; stops = λ l. e; grows = λ v n. ([], rw append-nil n, (λ d. rw append-nil (passage.pass-none text g)), none-taken) }
 
     pub run-on : {r : ℕ} → i - start < 16 → isNameByte (getD text i 0) ≡ true → Ran text start (i + 1) r → Ran text start i r
     unfolding step
@@ -58,9 +65,10 @@ module _ (text : List ℕ) where
           let k = s .grows (v ++ (b ∷ [])) (omega arith) in (
             b ∷ k .0,
             rw (append-assoc v (b ∷ []) (k .0)) at (k .1),
-            λ d.
+            (λ d.
                 let p : Passes text (word v d) i [] (word (v ++ (b ∷ [])) d) (i + 1) = passage.pass-byte text (word-inside i e) (rw (kind-word b e, lt-ltb (length v) 16 (omega arith))) in
-                rw (append-assoc v (b ∷ []) (k .0)) at (passage.pass-then text p (k .2 d)),
+                rw (append-assoc v (b ∷ []) (k .0)) at (passage.pass-then text p (k .2 d))),
+            one-taken i r (word-inside i e) (s .forward) (k .3),
           );
     }
 
@@ -80,11 +88,11 @@ module _ (text : List ℕ) where
       unfolding step
       bang-passes d = passage.pass-byte text (inside text at 32 e) (rw e)
 
-      pub strong-is : getD text (at + 1) 0 ≡ 93 → Strong text at (Operator (at + 2))
+      pub strong-is : getD text (at + 1) 0 ≡ 93 → Strong text at (Operator (at + 2) 2)
       unfolding step
       strong-is f =
           let n : at + 2 ≡ (at + 1) + 1 = omega arith in
-          (omega arith, λ d. rw n (passage.pass-then text (bang-passes d) (passage.pass-byte text (inside text (at + 1) 92 f) (rw f))))
+          (omega arith, (λ d. rw n (passage.pass-then text (bang-passes d) (passage.pass-byte text (inside text (at + 1) 92 f) (rw f)))), refl)
 
       pub strong-cut : (getD text (at + 1) 0 ≡ 93 → ⊥) → Strong text at (Bad (at + 1))
       strong-cut n d = passage.pass-stop text (bang-passes d) (rest-stops (at + 1) 93 [] d (let h = inside text at 32 e in omega arith) n)
@@ -118,8 +126,10 @@ module _ (text : List ℕ) where
     letter-passes d = passage.pass-byte text h (rw (e, kind-word b (letter-word b l), l))
 
     -- the whole word
-    ran : (x : List ℕ) × (at + length (b ∷ x) ≡ end) × ((d : ℕ) → Passes text (ready d) at [] (word (b ∷ x) d) end)
-    ran = let g = r .grows (b ∷ []) (omega arith) in (g .0, g .1, λ d. passage.pass-then text (letter-passes d) (g .2 d))
+    ran : (x : List ℕ) × (at + length (b ∷ x) ≡ end) × ((d : ℕ) → Passes text (ready d) at [] (word (b ∷ x) d) end) × (take (end - at) (drop at text) ≡ b ∷ x)
+    ran =
+        let g = r .grows (b ∷ []) (omega arith) in
+        (g .0, g .1, (λ d. passage.pass-then text (letter-passes d) (g .2 d)), one-taken at end h (r .forward) (g .3) ∙ ap (λ (v : ℕ). v ∷ g .0) e)
 
     pub word-long : isNameByte (getD text end 0) ≡ true → Fronts text at (Bad end)
     unfolding step
@@ -133,11 +143,15 @@ module _ (text : List ℕ) where
       apart : Apart (drop end text)
       apart = elim (decLt end (length text)) [ yes s ↦ rw (head text s refl) w | no s ↦ rw (past text (r .within) (omega arith)) tt ]
 
-      pub word-leaf : ((end ≡ at + 1) → (b ≡ 88 → ⊥) × (b ≡ 70 → ⊥) × (b ≡ 71 → ⊥) × (b ≡ 85 → ⊥) × (b ≡ 82 → ⊥)) → Fronts text at (LeafWord end)
+      pub word-leaf : ((end ≡ at + 1) → (b ≡ 88 → ⊥) × (b ≡ 70 → ⊥) × (b ≡ 71 → ⊥) × (b ≡ 85 → ⊥) × (b ≡ 82 → ⊥)) → Fronts text at (LeafWord end at)
       word-leaf n =
           let g = ran in
-          let c = leaf-class b (g .0) (λ q. n (let z : length (g .0) ≡ 0 = ap length q in omega (arith, g .1))) in
-          (omega (arith, r .forward), c .0, λ d. passage.pass-then text (g .2 d) (passage.word-leaf text (b ∷ g .0) d (r .within) apart (c .1)))
+          let c = leaf-class b (g .0) (λ q. n (let z : length (g .0) ≡ 0 = ap length q in omega (arith, g .1))) in (
+            omega (arith, r .forward),
+            c .0,
+            (λ d. passage.pass-then text (g .2 d) (passage.word-leaf text (b ∷ g .0) d (r .within) apart (c .1))),
+            record { some = omega (arith, r .forward); within = r .within; leaf = ap classify (g .3) ∙ c .1 },
+          )
 
       module _ (one : end ≡ at + 1) where
         short : (x : List ℕ) → at + length (b ∷ x) ≡ end → x ≡ []
@@ -150,22 +164,22 @@ module _ (text : List ℕ) where
         clear : (getD text end 0 ≡ 91 → ⊥) → NoSquare (drop end text)
         clear n = elim (decLt end (length text)) [ yes s ↦ rw (head text s refl) (ne-eqb (getD text end 0) 91 n) | no s ↦ rw (past text (r .within) (omega arith)) tt ]
 
-        word-prefix : (u : Unary) → classify (b ∷ []) ≡ prefixed u → (eqb b 88 ≡ true → getD text end 0 ≡ 91 → ⊥) → Fronts text at (Operator end)
-        word-prefix u c n = (omega (arith, r .forward), u, λ d. passage.pass-then text (single d) (passage.word-prefix text (b ∷ []) d (r .within) apart c (λ x. clear (n (only x)))))
+        word-prefix : (u : Unary) → classify (b ∷ []) ≡ prefixed u → (eqb b 88 ≡ true → getD text end 0 ≡ 91 → ⊥) → Fronts text at (Operator end (unaryCode u))
+        word-prefix u c n = (omega (arith, r .forward), u, (λ d. passage.pass-then text (single d) (passage.word-prefix text (b ∷ []) d (r .within) apart c (λ x. clear (n (only x))))), refl)
           where
             only : same (b ∷ []) (88 ∷ []) ≡ true → eqb b 88 ≡ true
             only x = let q = same-is (b ∷ []) (88 ∷ []) x in eq-eqb b 88 (cc)
 
         -- `X`, where no `[` follows; `F` and `G`
-        pub word-next : b ≡ 88 → (getD text end 0 ≡ 91 → ⊥) → Fronts text at (Operator end)
+        pub word-next : b ≡ 88 → (getD text end 0 ≡ 91 → ⊥) → Fronts text at (Operator end 1)
         unfolding classify
         word-next q n = word-prefix weakNext (rw q) (λ _. n)
 
-        pub word-finally : b ≡ 70 → Fronts text at (Operator end)
+        pub word-finally : b ≡ 70 → Fronts text at (Operator end 3)
         unfolding classify
         word-finally q = word-prefix finally (rw q) (λ x. absurd (true-false x (rw q)))
 
-        pub word-globally : b ≡ 71 → Fronts text at (Operator end)
+        pub word-globally : b ≡ 71 → Fronts text at (Operator end 4)
         unfolding classify
         word-globally q = word-prefix globally (rw q) (λ x. absurd (true-false x (rw q)))
 
@@ -188,9 +202,9 @@ module _ (text : List ℕ) where
             square-passes d = passage.pass-then text (single d) (rw x (square-byte d q))
 
             by-answer : (f : First) → Strong text (end + 1) f → Fronts text at f
-            by-answer (Operator next) s = (omega (arith, s .0, r .forward), strongNext, λ d. passage.pass-then text (square-passes d) (s .1 d))
+            by-answer (Operator next code) s = (omega (arith, s .0, r .forward), strongNext, (λ d. passage.pass-then text (square-passes d) (s .1 d)), s .2)
             by-answer (Open next) s = absurd s
-            by-answer (LeafWord next) s = absurd s
+            by-answer (LeafWord next start) s = absurd s
             by-answer (Bad k) s = λ d. passage.pass-stop text (square-passes d) (s d)
 
   -- ---- front
@@ -206,14 +220,14 @@ module _ (text : List ℕ) where
       blank-passes e d = passage.pass-byte text h (rw e)
 
       pub front-blank : getD text at 0 ≡ 32 → (f : First) → Fronts text (at + 1) f → Fronts text at f
-      front-blank e (Operator next) s = (omega (arith, s .0), s .1, λ d. passage.pass-then text (blank-passes e d) (s .2 d))
+      front-blank e (Operator next code) s = (omega (arith, s .0), s .1, (λ d. passage.pass-then text (blank-passes e d) (s .2 d)), s .3)
       front-blank e (Open next) s = (omega (arith, s .0), λ d. passage.pass-then text (blank-passes e d) (s .1 d))
-      front-blank e (LeafWord next) s = (omega (arith, s .0), s .1, λ d. passage.pass-then text (blank-passes e d) (s .2 d))
+      front-blank e (LeafWord next start) s = (omega (arith, s .0), s .1, (λ d. passage.pass-then text (blank-passes e d) (s .2 d)), s .3)
       front-blank e (Bad k) s = λ d. passage.pass-stop text (blank-passes e d) (s d)
 
-      pub front-bang : getD text at 0 ≡ 33 → Fronts text at (Operator (at + 1))
+      pub front-bang : getD text at 0 ≡ 33 → Fronts text at (Operator (at + 1) 0)
       unfolding step kind
-      front-bang e = (omega arith, not, λ d. passage.pass-byte text h (rw e))
+      front-bang e = (omega arith, not, (λ d. passage.pass-byte text h (rw e)), refl)
 
       pub front-open : getD text at 0 ≡ 40 → Fronts text at (Open (at + 1))
       unfolding step kind

@@ -9,7 +9,7 @@ use native.Mathlib.Decide.{decLt, ℕ-discrete}
 use borrow.Author.Tests.{ne-eqb}
 use lib.ListN.{length, drop, getD, List·getD-eq-default}
 use lib.Seq.{drop-cons, drop-length}
-use Rattle.sequence.specs.Operators.{Binary}
+use Rattle.sequence.specs.Operators.{Binary, binaryCode}
 use Rattle.sequence.specs.Operators.Binary.{until, release, implies, equiv}
 use Rattle.file.specs.Format.{isNameByte}
 use Rattle.grammar.specs.Grammar.{level, rightLevel}
@@ -24,13 +24,13 @@ use Rattle.reader.specs.declared.operator.End.the-variants.{At, Bad as N
 use Rattle.reader.specs.Answers.{Said, Operator, Arrow, word, Closing, Ending}
 
 pub said-further : (at : ℕ) (k : Peek) (r : Op) → Said (at + 1) k r → Said at (further k) r
-said-further at (op o n) (Is l r next) s = (s .0, s .1, omega (arith, s .2))
+said-further at (op o n) (Is l r next c) s = (s .0, s .1, omega (arith, s .2), s .3)
 said-further at (op o n) (Nothing i) s = s
 said-further at (op o n) (Cut i) s = s
-said-further at (nothing n) (Is l r next) s = s
+said-further at (nothing n) (Is l r next c) s = s
 said-further at (nothing n) (Nothing i) s = omega arith
 said-further at (nothing n) (Cut i) s = s
-said-further at (cut n) (Is l r next) s = s
+said-further at (cut n) (Is l r next c) s = s
 said-further at (cut n) (Nothing i) s = s
 said-further at (cut n) (Cut i) s = omega arith
 
@@ -47,24 +47,24 @@ module _ (text : List ℕ) where
 
   -- ---- arrow
 
-  pub arrow-is : (at : ℕ) → getD text at 0 ≡ 62 → Arrow text at (Is 0 0 (at + 1))
+  pub arrow-is : (at code : ℕ) → getD text at 0 ≡ 62 → Arrow text at code (Is 0 0 (at + 1) code)
   unfolding expect
-  arrow-is at e o l r = rw (head (inside at 61 e) e) (sym l, sym r, refl)
+  arrow-is at code e o l r k = rw (head (inside at 61 e) e) (sym l, sym r, refl, sym k)
 
-  pub arrow-not : (at : ℕ) → at ≤ length text → (getD text at 0 ≡ 62 → ⊥) → Arrow text at (Cut at)
+  pub arrow-not : (at code : ℕ) → at ≤ length text → (getD text at 0 ≡ 62 → ⊥) → Arrow text at code (Cut at)
   unfolding expect
-  arrow-not at h n o l r = elim (decLt at (length text)) [
+  arrow-not at code h n o l r k = elim (decLt at (length text)) [
     | yes g ↦ rw (head g refl, ne-eqb (getD text at 0) 62 n) (omega arith)
     | no g ↦ rw (past h (omega arith)) (omega arith)
   ]
 
   -- ---- word_op
 
-  module _ (at : ℕ) {b : ℕ} {t : Bool} (w : t ≡ isNameByte b) where
-    pub word-cut : t ≡ true → b ≡ getD text at 0 → Cut at ≡ word text at
+  module _ (at code : ℕ) {b : ℕ} {t : Bool} (w : t ≡ isNameByte b) where
+    pub word-cut : t ≡ true → b ≡ getD text at 0 → Cut at ≡ word text at code
     word-cut e g = rw (← g, ← w, e)
 
-    pub word-is : t ≡ false → b ≡ getD text at 0 → Is 3 3 at ≡ word text at
+    pub word-is : t ≡ false → b ≡ getD text at 0 → Is 3 3 at code ≡ word text at code
     word-is e g = rw (← g, ← w, e)
 
   -- ---- operator
@@ -74,23 +74,23 @@ module _ (text : List ℕ) where
     unfolding peek kind
     op-blank r e s = rw (head h e) (said-further at (peek (drop (at + 1) text)) r s)
 
-    pub op-and : getD text at 0 ≡ 38 → Operator text at (Is 2 3 (at + 1))
+    pub op-and : getD text at 0 ≡ 38 → Operator text at (Is 2 3 (at + 1) 6)
     unfolding peek kind
-    op-and e = rw (head h e) (refl, refl, refl)
+    op-and e = rw (head h e) (refl, refl, refl, refl)
 
-    pub op-or : getD text at 0 ≡ 124 → Operator text at (Is 1 2 (at + 1))
+    pub op-or : getD text at 0 ≡ 124 → Operator text at (Is 1 2 (at + 1) 5)
     unfolding peek kind
-    op-or e = rw (head h e) (refl, refl, refl)
+    op-or e = rw (head h e) (refl, refl, refl, refl)
 
-    pub op-implies : (r : Op) → getD text at 0 ≡ 45 → Arrow text (at + 1) r → Operator text at r
+    pub op-implies : (r : Op) → getD text at 0 ≡ 45 → Arrow text (at + 1) 9 r → Operator text at r
     unfolding peek kind
-    op-implies r e s = rw (head h e) (said-further at (expect (62 ∷ []) implies (drop (at + 1) text)) r (s implies refl refl))
+    op-implies r e s = rw (head h e) (said-further at (expect (62 ∷ []) implies (drop (at + 1) text)) r (s implies refl refl refl))
 
-    pub op-equiv : (r : Op) → getD text at 0 ≡ 60 → getD text (at + 1) 0 ≡ 45 → Arrow text (at + 2) r → Operator text at r
+    pub op-equiv : (r : Op) → getD text at 0 ≡ 60 → getD text (at + 1) 0 ≡ 45 → Arrow text (at + 2) 10 r → Operator text at r
     unfolding peek kind expect
     op-equiv r e f s =
         let n : (at + 1) + 1 ≡ at + 2 = omega arith in
-        let t : Said ((at + 1) + 1) (expect (62 ∷ []) equiv (drop ((at + 1) + 1) text)) r = rw n (s equiv refl refl) in
+        let t : Said ((at + 1) + 1) (expect (62 ∷ []) equiv (drop ((at + 1) + 1) text)) r = rw n (s equiv refl refl refl) in
         rw (head h e, head (inside (at + 1) 44 f) f) (said-further at (further (expect (62 ∷ []) equiv (drop ((at + 1) + 1) text))) r (said-further (at + 1) (expect (62 ∷ []) equiv (drop ((at + 1) + 1) text)) r t))
 
     pub op-less-cut : getD text at 0 ≡ 60 → (getD text (at + 1) 0 ≡ 45 → ⊥) → Operator text at (Cut (at + 1))
@@ -100,21 +100,21 @@ module _ (text : List ℕ) where
       | no g ↦ rw (head h e, past {at = at + 1} (omega arith) (omega arith)) (omega arith)
     ]
 
-    said-word : (o : Binary) (r : Op) → level o ≡ 3 → rightLevel o ≡ 3 → r ≡ word text (at + 1) → Said at (alone o (drop (at + 1) text)) r
+    said-word : (o : Binary) (r : Op) → level o ≡ 3 → rightLevel o ≡ 3 → r ≡ word text (at + 1) (binaryCode o) → Said at (alone o (drop (at + 1) text)) r
     said-word o r p q w = elim (decLt (at + 1) (length text)) [
       | yes g ↦ rw (head g refl, w) (by-test (isNameByte (getD text (at + 1) 0)))
-      | no g ↦ let z : getD text (at + 1) 0 ≡ 0 = List·getD-eq-default text 0 (omega arith) in rw (past {at = at + 1} (omega arith) (omega arith), w, z) (sym p, sym q, refl)
+      | no g ↦ let z : getD text (at + 1) 0 ≡ 0 = List·getD-eq-default text 0 (omega arith) in rw (past {at = at + 1} (omega arith) (omega arith), w, z) (sym p, sym q, refl, refl)
     ]
       where
-        by-test : (t : Bool) → Said at (cond t (cut 1) (op o 1)) (cond t (Cut (at + 1)) (Is 3 3 (at + 1)))
+        by-test : (t : Bool) → Said at (cond t (cut 1) (op o 1)) (cond t (Cut (at + 1)) (Is 3 3 (at + 1) (binaryCode o)))
         by-test true = refl
-        by-test false = (sym p, sym q, refl)
+        by-test false = (sym p, sym q, refl, refl)
 
-    pub op-until : (r : Op) → getD text at 0 ≡ 85 → r ≡ word text (at + 1) → Operator text at r
+    pub op-until : (r : Op) → getD text at 0 ≡ 85 → r ≡ word text (at + 1) 7 → Operator text at r
     unfolding peek kind
     op-until r e w = rw (head h e) (said-word until r refl refl w)
 
-    pub op-release : (r : Op) → getD text at 0 ≡ 82 → r ≡ word text (at + 1) → Operator text at r
+    pub op-release : (r : Op) → getD text at 0 ≡ 82 → r ≡ word text (at + 1) 8 → Operator text at r
     unfolding peek kind
     op-release r e w = rw (head h e) (said-word release r refl refl w)
 
@@ -186,10 +186,10 @@ module _ (text : List ℕ) where
         rw (t .2) (passage.pass-stop text p s)
 
     -- nothing goes on, so no operator was there
-    no-op : {a : Op} {l r next : ℕ} → a ≡ Is l r next → Operator text at a → QuietAt text 0 at → ⊥
-    no-op {l = l} {r} {next} e f q = by-peek (peek (drop at text)) q (subst (Said at (peek (drop at text))) e f)
+    no-op : {a : Op} {l r next c : ℕ} → a ≡ Is l r next c → Operator text at a → QuietAt text 0 at → ⊥
+    no-op {l = l} {r} {next} {c} e f q = by-peek (peek (drop at text)) q (subst (Said at (peek (drop at text))) e f)
       where
-        by-peek : (k : Peek) → IfOp (λ o. level o < 0) ⊥ k → Said at k (Is l r next) → ⊥
+        by-peek : (k : Peek) → IfOp (λ o. level o < 0) ⊥ k → Said at k (Is l r next c) → ⊥
         by-peek (op o m) q s = omega arith
         by-peek (nothing m) q s = s
         by-peek (cut m) q s = s
@@ -202,7 +202,7 @@ module _ (text : List ℕ) where
         by-peek (nothing m) q s = s
         by-peek (cut m) q s = q
 
-    pub closing-op : {a : Op} {l r next : ℕ} → a ≡ Is l r next → Operator text at a → Closing text at (NoEnd next)
+    pub closing-op : {a : Op} {l r next c : ℕ} → a ≡ Is l r next c → Operator text at a → Closing text at (NoEnd next)
     closing-op e f q = absurd (no-op e f q)
 
     pub closing-cut : {a : Op} {k : ℕ} → a ≡ Cut k → Operator text at a → Closing text at (NoEnd k)
@@ -222,7 +222,7 @@ module _ (text : List ℕ) where
         let g : at + t .0 < length text = elim (decLt (at + t .0) (length text)) [ yes g ↦ g | no g ↦ absurd (m (omega arith)) ] in
         rw (t .2) (passage.pass-stop text p (passage.stop-byte text g (outside (at + t .0) g (passage.halts text at h (t .1)))))
 
-    pub ending-op : {a : Op} {l r next : ℕ} → a ≡ Is l r next → Operator text at a → Ending text at (NoEnd next)
+    pub ending-op : {a : Op} {l r next c : ℕ} → a ≡ Is l r next c → Operator text at a → Ending text at (NoEnd next)
     ending-op e f q = absurd (no-op e f q)
 
     pub ending-cut : {a : Op} {k : ℕ} → a ≡ Cut k → Operator text at a → Ending text at (NoEnd k)

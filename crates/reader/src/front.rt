@@ -9,9 +9,9 @@ ghost use Rattle.reader.specs.Answers.{Fronts, Ran, Strong};
 
 // A prefix operator, an opening bracket or a leaf, up to its end; or no operand.
 pub(crate) enum First {
-    Operator(usize),
+    Operator { next: usize, code: u8 },
     Open(usize),
-    Word(usize),
+    Word { next: usize, start: usize },
     Bad(usize),
 }
 
@@ -39,7 +39,10 @@ fn strong(text: &[u8], at: usize) -> First
     if b == b'!' {
         let c = bytes::byte(text, at + 1);
         if c == b']' {
-            return First::Operator(at + 2);
+            return First::Operator {
+                next: at + 2,
+                code: 2,
+            };
         }
         return First::Bad(at + 1);
     }
@@ -61,13 +64,13 @@ fn word(text: &[u8], at: usize, b: u8) -> First
             if c == b'[' {
                 return strong(text, end + 1);
             }
-            return First::Operator(end);
+            return First::Operator { next: end, code: 1 };
         }
         if b == b'F' {
-            return First::Operator(end);
+            return First::Operator { next: end, code: 3 };
         }
         if b == b'G' {
-            return First::Operator(end);
+            return First::Operator { next: end, code: 4 };
         }
         if b == b'U' {
             return First::Bad(end);
@@ -75,9 +78,15 @@ fn word(text: &[u8], at: usize, b: u8) -> First
         if b == b'R' {
             return First::Bad(end);
         }
-        return First::Word(end);
+        return First::Word {
+            next: end,
+            start: at,
+        };
     }
-    First::Word(end)
+    First::Word {
+        next: end,
+        start: at,
+    }
 }
 
 pub(crate) fn front(text: &[u8], at: usize) -> First
@@ -92,7 +101,10 @@ pub(crate) fn front(text: &[u8], at: usize) -> First
         return front(text, at + 1);
     }
     if b == b'!' {
-        return First::Operator(at + 1);
+        return First::Operator {
+            next: at + 1,
+            code: 0,
+        };
     }
     if b == b'(' {
         return First::Open(at + 1);

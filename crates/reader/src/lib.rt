@@ -1,26 +1,29 @@
-// A first pass over a formula's text by recursive descent: it writes nothing, and answers the end of the formula or the offset of refusal 11.
+// Formulas read from text: names looked up, the text judged, the tree's nodes written.
 mod bytes;
 mod front;
+mod leaves;
+mod nodes;
 mod operator;
 
 use front::First;
+use nodes::put;
 use operator::End;
 use operator::Op;
-ghost use Prim.Native.Nat.{_≤_};
-ghost use lib.ListN.{length};
-ghost use Rattle.reader.specs.Answers.{Infix, More, Prefix, Bracket, Whole};
+ghost use Prim.Native.Nat.{_+_, _≤_};
+ghost use Rattle.reader.specs.Answers.{Room, Infix, More, Prefix, Bracket, Whole};
 
 // Where what was read ends and its size, or the offset of a byte that can't continue a formula.
-pub enum Got {
+pub(crate) enum Got {
     Val { next: usize, size: usize },
     Bad(usize),
 }
 
 // A whole text: the length and size of a formula, or the offset of refusal 11.
-pub fn formula(text: &[u8]) -> Got
-    ensures { λ r. ⌜ Whole (now (text .entry)) r ⌝ }
+pub(crate) fn read_text(names: &[u8], text: &[u8], scratch: &mut [u64]) -> Got
+    requires { ⌜ Room (now names) (now text) (now scratch) 0 0 ⌝ }
+    ensures { λ r. ⌜ Whole (now (names .entry)) (now (scratch .entry)) (now (scratch .exit)) (now (text .entry)) r ⌝ }
 {
-    let t = read_infix(text, 0, 0);
+    let t = read_infix(names, text, 0, 0, 0, scratch);
     let Got::Val { next, size } = t else {
         return t;
     };
@@ -32,21 +35,36 @@ pub fn formula(text: &[u8]) -> Got
 }
 
 // An expression whose operators outside brackets are of this level or above.
-fn read_infix(text: &[u8], at: usize, level: u8) -> Got
-    requires { ⌜ (at ≤ length (now text)) × (level ≤ 4) ⌝ }
-    ensures { λ r. ⌜ Infix (now (text .entry)) level at r ⌝ }
+fn read_infix(
+    names: &[u8],
+    text: &[u8],
+    at: usize,
+    level: u8,
+    place: usize,
+    scratch: &mut [u64],
+) -> Got
+    requires { ⌜ Room (now names) (now text) (now scratch) place at × (level ≤ 4) ⌝ }
+    ensures { λ r. ⌜ Infix (now (names .entry)) place (now (scratch .entry)) (now (scratch .exit)) (now (text .entry)) level at r ⌝ }
 {
-    let t = read_prefix(text, at);
+    let t = read_prefix(names, text, at, place, scratch);
     let Got::Val { next, size } = t else {
         return t;
     };
-    read_more(text, next, level, size)
+    read_more(names, text, next, level, size, place, scratch)
 }
 
-// What goes on after an expression of this size.
-fn read_more(text: &[u8], at: usize, level: u8, size: usize) -> Got
-    requires { ⌜ (at ≤ length (now text)) × (size ≤ at) ⌝ }
-    ensures { λ r. ⌜ More (now (text .entry)) level at size r ⌝ }
+// What goes on after an expression of this size, whose nodes stand from a place on.
+fn read_more(
+    names: &[u8],
+    text: &[u8],
+    at: usize,
+    level: u8,
+    size: usize,
+    place: usize,
+    scratch: &mut [u64],
+) -> Got
+    requires { ⌜ Room (now names) (now text) (now scratch) (place + size) at × (1 ≤ size) ⌝ }
+    ensures { λ r. ⌜ More (now (names .entry)) place (now (scratch .entry)) (now (scratch .exit)) (now (text .entry)) level at size r ⌝ }
 {
     let o = operator::operator(text, at);
     match o {
@@ -56,48 +74,63 @@ fn read_more(text: &[u8], at: usize, level: u8, size: usize) -> Got
             level: l,
             right,
             next,
+            code,
         } => {
             if l < level {
                 return Got::Val { next: at, size };
             }
-            let t = read_infix(text, next, right);
+            let behind = place + size;
+            let t = read_infix(names, text, next, right, behind, scratch);
             let Got::Val { next: end, size: r } = t else {
                 return t;
             };
-            read_more(text, end, level, 1 + (size + r))
+            put(
+                scratch,
+                behind + r,
+                code,
+                behind - 1,
+                behind + r - 1,
+                1 + size + r,
+            );
+            read_more(names, text, end, level, 1 + (size + r), place, scratch)
         }
     }
 }
 
 // An operand.
-fn read_prefix(text: &[u8], at: usize) -> Got
-    requires { ⌜ at ≤ length (now text) ⌝ }
-    ensures { λ r. ⌜ Prefix (now (text .entry)) at r ⌝ }
+fn read_prefix(names: &[u8], text: &[u8], at: usize, place: usize, scratch: &mut [u64]) -> Got
+    requires { ⌜ Room (now names) (now text) (now scratch) place at ⌝ }
+    ensures { λ r. ⌜ Prefix (now (names .entry)) place (now (scratch .entry)) (now (scratch .exit)) (now (text .entry)) at r ⌝ }
 {
     let f = front::front(text, at);
     match f {
-        First::Operator(next) => {
-            let t = read_prefix(text, next);
+        First::Operator { next, code } => {
+            let t = read_prefix(names, text, next, place, scratch);
             let Got::Val { next: end, size } = t else {
                 return t;
             };
+            put(scratch, place + size, code, place + size - 1, 0, 1 + size);
             Got::Val {
                 next: end,
                 size: 1 + size,
             }
         }
-        First::Open(next) => read_bracket(text, next),
-        First::Word(next) => Got::Val { next, size: 1 },
+        First::Open(next) => read_bracket(names, text, next, place, scratch),
+        First::Word { next, start } => {
+            let leaf = leaves::leaf_of(names, text, start, next - start);
+            put(scratch, place, leaf.code, leaf.left, 0, 1);
+            Got::Val { next, size: 1 }
+        }
         First::Bad(k) => Got::Bad(k),
     }
 }
 
 // What stands behind an opening bracket, up to the closing one.
-fn read_bracket(text: &[u8], at: usize) -> Got
-    requires { ⌜ at ≤ length (now text) ⌝ }
-    ensures { λ r. ⌜ Bracket (now (text .entry)) at r ⌝ }
+fn read_bracket(names: &[u8], text: &[u8], at: usize, place: usize, scratch: &mut [u64]) -> Got
+    requires { ⌜ Room (now names) (now text) (now scratch) place at ⌝ }
+    ensures { λ r. ⌜ Bracket (now (names .entry)) place (now (scratch .entry)) (now (scratch .exit)) (now (text .entry)) at r ⌝ }
 {
-    let t = read_infix(text, at, 0);
+    let t = read_infix(names, text, at, 0, place, scratch);
     let Got::Val { next, size } = t else {
         return t;
     };

@@ -7,7 +7,12 @@ ghost use Rattle.reader.specs.Answers.{Operator, Closing, Ending, Arrow,
 
 // An operator has its level, the lowest level at its right, and its end.
 pub(crate) enum Op {
-    Is { level: u8, right: u8, next: usize },
+    Is {
+        level: u8,
+        right: u8,
+        next: usize,
+        code: u8,
+    },
     Nothing(usize),
     Cut(usize),
 }
@@ -19,9 +24,9 @@ pub(crate) enum End {
 }
 
 // `>`, the last byte of an operator.
-fn arrow(text: &[u8], at: usize) -> Op
+fn arrow(text: &[u8], at: usize, code: u8) -> Op
     requires { ⌜ at ≤ length (now text) ⌝ }
-    ensures { λ r. ⌜ Arrow (now (text .entry)) at r ⌝ }
+    ensures { λ r. ⌜ Arrow (now (text .entry)) at code r ⌝ }
 {
     let b = bytes::byte(text, at);
     if b == b'>' {
@@ -29,14 +34,15 @@ fn arrow(text: &[u8], at: usize) -> Op
             level: 0,
             right: 0,
             next: at + 1,
+            code,
         };
     }
     Op::Cut(at)
 }
 
 // Behind `U` and `R`, after which no word's byte may come.
-fn word_op(text: &[u8], at: usize) -> Op
-    ensures { λ r. ⌜ r ≡ word (now (text .entry)) at ⌝ }
+fn word_op(text: &[u8], at: usize, code: u8) -> Op
+    ensures { λ r. ⌜ r ≡ word (now (text .entry)) at code ⌝ }
 {
     let b = bytes::byte(text, at);
     if bytes::is_word(b) {
@@ -46,6 +52,7 @@ fn word_op(text: &[u8], at: usize) -> Op
         level: 3,
         right: 3,
         next: at,
+        code,
     }
 }
 
@@ -65,6 +72,7 @@ pub(crate) fn operator(text: &[u8], at: usize) -> Op
             level: 2,
             right: 3,
             next: at + 1,
+            code: 6,
         };
     }
     if b == b'|' {
@@ -72,23 +80,24 @@ pub(crate) fn operator(text: &[u8], at: usize) -> Op
             level: 1,
             right: 2,
             next: at + 1,
+            code: 5,
         };
     }
     if b == b'-' {
-        return arrow(text, at + 1);
+        return arrow(text, at + 1, 9);
     }
     if b == b'<' {
         let c = bytes::byte(text, at + 1);
         if c == b'-' {
-            return arrow(text, at + 2);
+            return arrow(text, at + 2, 10);
         }
         return Op::Cut(at + 1);
     }
     if b == b'U' {
-        return word_op(text, at + 1);
+        return word_op(text, at + 1, 7);
     }
     if b == b'R' {
-        return word_op(text, at + 1);
+        return word_op(text, at + 1, 8);
     }
     Op::Nothing(at)
 }
@@ -112,6 +121,7 @@ pub(crate) fn closing(text: &[u8], at: usize) -> End
             level: _,
             right: _,
             next,
+            code: _,
         } => End::Bad(next),
     }
 }
@@ -134,6 +144,7 @@ pub(crate) fn ending(text: &[u8], at: usize) -> End
             level: _,
             right: _,
             next,
+            code: _,
         } => End::Bad(next),
     }
 }
