@@ -2,11 +2,13 @@
 -- Assumes nothing.
 use mathlib.Core.Path.{_≡_}
 use mathlib.Core.Bool.{false, cond}
+use mathlib.Core.Logic.{_⊎_}
 use mathlib.Core.List.{List, [], _∷_, _++_}
 use Prim.Native.Nat.{ℕ, suc, _+_, _-_, _≤_, _<_}
 use lib.ListN.{length, take, drop, getD}
 use Rattle.sequence.specs.Operators.{Unary, Binary, unaryCode, binaryCode}
 use lib.Seq.{sets}
+use Rattle.sequence.specs.Limits as limits
 use Rattle.walk.specs.Formula.{size}
 use Rattle.walk.specs.Nodes.{Node}
 use Rattle.grammar.specs.Nodes.{nodesOf}
@@ -24,6 +26,9 @@ use Rattle.reader.specs.declared.operator.End.{End}
 use Rattle.reader.specs.declared.operator.End.the-variants.{At, Bad as NoEnd}
 use Rattle.reader.specs.declared.Got.{Got}
 use Rattle.reader.specs.declared.Got.the-variants.{Val, Bad}
+use Rattle.reader.specs.declared.judge.Judged.{Judged}
+use Rattle.reader.specs.declared.judge.Judged.the-variants.{Nodes as Sized, Long, Stops as StopsAt, Unknown as UnknownName, Large}
+use Rattle.reader.specs.Words.{mostBytes, UnknownAt, FirstUnknown, Deep}
 use Rattle.reader.specs.Inner.{namesIn, GoodNames, codesBy, packs, mostField}
 
 -- the next operator, with offsets of the whole text
@@ -131,3 +136,18 @@ module _ (file : List ℕ) (place : ℕ) (old new text : List ℕ) where
 abbrev pub Whole : List ℕ → List ℕ → List ℕ → List ℕ → Got → Type 0
 Whole file old new text (Val next m) = (next ≡ length text) × (t : Typed) × Reads text t × (size t ≡ m) × Written file 0 t old new
 Whole file old new text (Bad k) = Refused11 text k
+
+-- no name of the text is unknown
+abbrev pub AllKnown : List ℕ → List ℕ → Type 0
+AllKnown file text = (k : ℕ) → UnknownAt (namesIn file) text k → ⊥
+
+-- the text as it is judged, up to the first refusal
+module _ (file text old new : List ℕ) where
+  abbrev pub JudgedIs : Judged → Type 0
+  JudgedIs Long = mostBytes < length text
+  JudgedIs (StopsAt k) = (length text ≤ mostBytes) × Refused11 text k
+  JudgedIs (UnknownName k) = (length text ≤ mostBytes) × (t : Typed) × Reads text t × FirstUnknown (namesIn file) text k
+  JudgedIs Large = (length text ≤ mostBytes) × (t : Typed) × Reads text t × AllKnown file text × ((limits.size < size t) ⊎ Deep text)
+  JudgedIs (Sized n) =
+      (length text ≤ mostBytes) × (t : Typed) × Reads text t × AllKnown file text × (size t ≤ limits.size) × (Deep text → ⊥) × (size t ≡ n)
+      × Written file 0 t old new

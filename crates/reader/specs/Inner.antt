@@ -3,17 +3,24 @@
 -- Assumes nothing.
 use mathlib.Core.Path.{_≡_}
 use mathlib.Core.Bool.{Bool, true, false, cond}
-use mathlib.Core.List.{List, [], _∷_, flatMap, map}
+use mathlib.Core.Logic.{_⊎_}
+use mathlib.Core.List.{List, [], _∷_, flatMap, map, List·Memᴰ}
 use Prim.Native.Nat.{ℕ, suc, _+_, _-_, _*_, _<_, _≤_}
-use lib.ListN.{length, take, drop}
+use lib.ListN.{length, take, drop, getD}
 use Rattle.sequence.specs.Operators.{Unary, Binary, unaryCode, binaryCode}
 use Rattle.walk.specs.Nodes.{Node, Codes}
-use Rattle.file.specs.Format.{nameBytes}
+use Rattle.file.specs.Format.{nameBytes, isNameByte}
 use Rattle.file.specs.Offence.{Got, got, bad, wholeNames, sameBytes}
 use Rattle.grammar.specs.Token.{Atom, name, constant}
 use Rattle.grammar.specs.Scan.{leafy, classify}
 use Rattle.grammar.specs.Nodes.{leafNode}
+use Rattle.grammar.specs.Name.{WordBytes, Reserved}
 use Rattle.reader.specs.declared.leaves.Leaf.{Leaf}
+use Rattle.reader.specs.declared.unknown.Passed.{Passed}
+use Rattle.reader.specs.declared.unknown.Passed.the-variants.{Unknown, To}
+use Rattle.reader.specs.declared.unknown.Missing.{Missing}
+use Rattle.reader.specs.declared.unknown.Missing.the-variants.{Nothing, At}
+use Rattle.reader.specs.Words.{UnknownAt, FirstUnknown, Deep}
 
 -- ---- names
 
@@ -73,3 +80,38 @@ packs ns = map pack ns
 -- a field that packs
 abbrev pub mostField : ℕ
 mostField = 65536
+
+-- ---- words
+
+-- a run of a word's bytes goes from one offset to another
+pub record RunTo (text : List ℕ) (start r : ℕ) : Type 0 where
+  pub forward : start ≤ r
+  pub within : r ≤ length text
+  pub bytes : (j : ℕ) → start ≤ j → j < r → isNameByte (getD text j 0) ≡ true
+  pub ends : isNameByte (getD text r 0) ≡ false
+
+abbrev pub ReservedIs : List ℕ → ℕ → ℕ → Bool → Type 0
+ReservedIs text start n true = Reserved (wordAt text start n)
+ReservedIs text start n false = WordBytes (wordAt text start n) → Reserved (wordAt text start n) → ⊥
+
+abbrev pub KnownIs : List ℕ → List ℕ → ℕ → ℕ → Bool → Type 0
+KnownIs file text start n true = Reserved (wordAt text start n) ⊎ List·Memᴰ (wordAt text start n) (namesIn file)
+KnownIs file text start n false = WordBytes (wordAt text start n) → (Reserved (wordAt text start n) → ⊥) × (List·Memᴰ (wordAt text start n) (namesIn file) → ⊥)
+
+-- no word goes across this offset
+abbrev pub Boundary : List ℕ → ℕ → Type 0
+Boundary text i = (j : ℕ) → suc j ≡ i → isNameByte (getD text i 0) ≡ true → isNameByte (getD text j 0) ≡ false
+
+abbrev pub PassedIs : List ℕ → List ℕ → ℕ → Passed → Type 0
+PassedIs file text i Unknown = Boundary text i → UnknownAt (namesIn file) text i
+PassedIs file text i (To next) = (i < next) × (next ≤ length text) × Boundary text next × ((k : ℕ) → i ≤ k → k < next → UnknownAt (namesIn file) text k → ⊥)
+
+abbrev pub MissingIs : List ℕ → List ℕ → Missing → Type 0
+MissingIs file text Nothing = (k : ℕ) → UnknownAt (namesIn file) text k → ⊥
+MissingIs file text (At k) = FirstUnknown (namesIn file) text k
+
+-- ---- brackets
+
+abbrev pub DeepIs : List ℕ → Bool → Type 0
+DeepIs text true = Deep text
+DeepIs text false = Deep text → ⊥

@@ -27,7 +27,7 @@ fn same_run(one: &[u8], a: usize, other: &[u8], b: usize, n: usize) -> bool
 }
 
 // Whether k bytes of one slice are the n bytes of another.
-fn same(one: &[u8], a: usize, k: usize, other: &[u8], b: usize, n: usize) -> bool
+pub(crate) fn same(one: &[u8], a: usize, k: usize, other: &[u8], b: usize, n: usize) -> bool
     requires { ⌜ (a + k ≤ length (now one)) × (b + n ≤ length (now other)) ⌝ }
     ensures { λ r. ⌜ r ≡ sameBytes (take k (drop a (now (one .entry)))) (take n (drop b (now (other .entry)))) ⌝ }
 {
@@ -38,7 +38,7 @@ fn same(one: &[u8], a: usize, k: usize, other: &[u8], b: usize, n: usize) -> boo
 }
 
 // Which name a word of the text is; for none, the count of names.
-fn find(names: &[u8], text: &[u8], start: usize, n: usize) -> usize
+pub(crate) fn find(names: &[u8], text: &[u8], start: usize, n: usize) -> usize
     requires { ⌜ GoodNames (now names) × (start + n ≤ length (now text)) ⌝ }
     ensures { λ r. ⌜ r ≡ indexOf (wordAt (now (text .entry)) start n) (namesIn (now (names .entry))) ⌝ }
 {

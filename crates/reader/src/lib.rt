@@ -1,16 +1,37 @@
 // Formulas read from text: names looked up, the text judged, the tree's nodes written.
 mod bytes;
+mod depth;
+mod fill;
 mod front;
+mod judge;
 mod leaves;
 mod nodes;
 mod operator;
+mod unknown;
+mod write;
 
+use file::names::NamesAnswer;
 use front::First;
+use judge::Judged;
 use nodes::put;
 use operator::End;
 use operator::Op;
+use write::least;
 ghost use Prim.Native.Nat.{_+_, _≤_};
+ghost use Rattle.reader.specs.Parsing.{saidParsed, columns, Parses};
+ghost use Rattle.reader.specs.Inner.{GoodNames};
 ghost use Rattle.reader.specs.Answers.{Room, Infix, More, Prefix, Bracket, Whole};
+ghost use Rattle.reader.specs.Lent.{ReadsGood};
+
+// What reading answers: how many nodes were written, the root last; the offset at which the names section is broken; the offset of the byte that can't
+// continue a formula; the offset of the first unknown name; or another refusal's number.
+pub enum Parsed {
+    Nodes(usize),
+    Broken(usize),
+    Stops(usize),
+    Unknown(usize),
+    Refused(u8),
+}
 
 // Where what was read ends and its size, or the offset of a byte that can't continue a formula.
 pub(crate) enum Got {
@@ -138,5 +159,52 @@ fn read_bracket(names: &[u8], text: &[u8], at: usize, place: usize, scratch: &mu
     match e {
         End::At(i) => Got::Val { next: i, size },
         End::Bad(k) => Got::Bad(k),
+    }
+}
+
+// A text, with names that are good.
+fn read_good(
+    names: &[u8],
+    text: &[u8],
+    codes: &mut [u8],
+    lefts: &mut [u16],
+    rights: &mut [u16],
+    sizes: &mut [u8],
+) -> Parsed
+    requires { ⌜ GoodNames (now names) ⌝ }
+    ensures { λ p. ⌜ ReadsGood (now (names .entry)) (now (text .entry)) (columns (now (codes .entry)) (now (lefts .entry)) (now (rights .entry)) (now (sizes .entry))) (columns (now (codes .exit)) (now (lefts .exit)) (now (rights .exit)) (now (sizes .exit))) (saidParsed p) ⌝ }
+{
+    let mut scratch = [0u64; 4096];
+    let j = judge::judge(names, text, &mut scratch);
+    match j {
+        Judged::Long => Parsed::Refused(12),
+        Judged::Stops(k) => Parsed::Stops(k),
+        Judged::Unknown(k) => Parsed::Unknown(k),
+        Judged::Large => Parsed::Refused(12),
+        Judged::Nodes(n) => {
+            if least(codes.len(), lefts.len(), rights.len(), sizes.len()) < n {
+                return Parsed::Refused(3);
+            }
+            write::write(&scratch, n, codes, lefts, rights, sizes);
+            Parsed::Nodes(n)
+        }
+    }
+}
+
+// The nodes of a formula that is typed with names of a lent names section: left child, right child, parent, the root last.
+pub fn parse(
+    names: &[u8],
+    text: &[u8],
+    codes: &mut [u8],
+    lefts: &mut [u16],
+    rights: &mut [u16],
+    sizes: &mut [u8],
+) -> Parsed
+    ensures { λ p. ⌜ Parses (now (names .entry)) (now (text .entry)) (columns (now (codes .entry)) (now (lefts .entry)) (now (rights .entry)) (now (sizes .entry))) (columns (now (codes .exit)) (now (lefts .exit)) (now (rights .exit)) (now (sizes .exit))) (saidParsed p) ⌝ }
+{
+    let judged = file::names::judge(names);
+    match judged {
+        NamesAnswer::Broken(o) => Parsed::Broken(o),
+        NamesAnswer::Names(_) => read_good(names, text, codes, lefts, rights, sizes),
     }
 }
