@@ -1,0 +1,193 @@
+-- A machine over bytes that finds the tokens of a formula, or the offset of refusal 11. Precedence does not matter for what can go on, so it
+-- knows only whether an operand or an infix operator is awaited, how many brackets are open, and what token has begun.
+-- Assumes nothing.
+use mathlib.Core.Bool.{Bool, true, false, cond, _&&_}
+use mathlib.Core.List.{List, [], _∷_, _++_}
+use Prim.Native.Nat.{ℕ, zero, suc}
+use lib.Dec.{eqb, ltb}
+use lib.ListN.{length}
+use Rattle.sequence.specs.Operators.{Unary, unaryToken, binaryToken}
+use Rattle.grammar.specs.Token.{Atom, name, constant, Token, pre, mid, atom, opens, closes}
+use Rattle.sequence.specs.Operators.Unary.{not, weakNext, strongNext, finally, globally}
+use Rattle.sequence.specs.Operators.Binary.{or, and, until, release, implies, equiv}
+use Rattle.names.specs.Names.{nameLength, isLetter, isNameByte}
+use Rattle.grammar.specs.Name.{constantText}
+
+-- ---- bytes
+
+pub data Sign : Type 0 where
+  blank bang opener closer amp bar dash less other : Sign
+
+-- a word's byte (a letter or not), `[`, or another
+pub data Kind : Type 0 where
+  wordy : Bool → Kind
+  square : Kind
+  sign : Sign → Kind
+
+abbrev pub signOf : ℕ → Sign
+signOf b =
+    cond (eqb b 32) blank
+    (cond (eqb b 33) bang
+    (cond (eqb b 40) opener
+    (cond (eqb b 41) closer
+    (cond (eqb b 38) amp
+    (cond (eqb b 124) bar
+    (cond (eqb b 45) dash
+    (cond (eqb b 60) less other)))))))
+
+unfoldable pub kind : ℕ → Kind
+kind b = cond (isNameByte b) (wordy (isLetter b)) (cond (eqb b 91) square (sign (signOf b)))
+
+-- ---- whole words
+
+abbrev pub same : List ℕ → List ℕ → Bool
+same [] [] = true
+same [] (y ∷ ys) = false
+same (x ∷ xs) [] = false
+same (x ∷ xs) (y ∷ ys) = eqb x y && same xs ys
+
+pub data Class : Type 0 where
+  prefixed : Unary → Class
+  leafy : Atom → Class
+  neither : Class
+
+unfoldable pub classify : List ℕ → Class
+classify w =
+    cond (same w (unaryToken weakNext)) (prefixed weakNext)
+    (cond (same w (unaryToken finally)) (prefixed finally)
+    (cond (same w (unaryToken globally)) (prefixed globally)
+    (cond (same w (binaryToken until)) neither
+    (cond (same w (binaryToken release)) neither
+    (cond (same w (constantText true)) (leafy (constant true))
+    (cond (same w (constantText false)) (leafy (constant false))
+    (leafy (name w))))))))
+
+-- ---- states, each with the number of open brackets
+
+pub data State : Type 0 where
+  -- an operand is awaited
+  ready : ℕ → State
+  -- the same, right after `U` or `R`
+  apart : ℕ → State
+  -- an operand is there: an infix operator or a closing bracket is awaited
+  after : ℕ → State
+  -- inside a word, where an operand is awaited
+  word : List ℕ → ℕ → State
+  -- this byte and these must come: then the token is there
+  rest : ℕ → List ℕ → Token → ℕ → State
+
+-- no formula goes on so; or these tokens are now there
+pub data Step : Type 0 where
+  dead : Step
+  go : List Token → State → Step
+
+abbrev pub emit : Token → Step → Step
+emit t dead = dead
+emit t (go ts s) = go (t ∷ ts) s
+
+abbrev pub onReadySign : ℕ → Sign → Step
+onReadySign d blank = go [] (ready d)
+onReadySign d bang = go (pre not ∷ []) (ready d)
+onReadySign d opener = go (opens ∷ []) (ready (suc d))
+onReadySign d closer = dead
+onReadySign d amp = dead
+onReadySign d bar = dead
+onReadySign d dash = dead
+onReadySign d less = dead
+onReadySign d other = dead
+
+abbrev pub onReady : ℕ → ℕ → Kind → Step
+onReady d b (wordy true) = go [] (word (b ∷ []) d)
+onReady d b (wordy false) = dead
+onReady d b square = dead
+onReady d b (sign s) = onReadySign d s
+
+abbrev pub closing : ℕ → Step
+closing zero = dead
+closing (suc d) = go (closes ∷ []) (after d)
+
+abbrev pub onAfterSign : ℕ → Sign → Step
+onAfterSign d blank = go [] (after d)
+onAfterSign d bang = dead
+onAfterSign d opener = dead
+onAfterSign d closer = closing d
+onAfterSign d amp = go (mid and ∷ []) (ready d)
+onAfterSign d bar = go (mid or ∷ []) (ready d)
+onAfterSign d dash = go [] (rest 62 [] (mid implies) d)
+onAfterSign d less = go [] (rest 45 (62 ∷ []) (mid equiv) d)
+onAfterSign d other = dead
+
+abbrev pub onAfter : ℕ → ℕ → Kind → Step
+onAfter d b (wordy l) = cond (eqb b 85) (go (mid until ∷ []) (apart d)) (cond (eqb b 82) (go (mid release ∷ []) (apart d)) dead)
+onAfter d b square = dead
+onAfter d b (sign s) = onAfterSign d s
+
+abbrev pub onEnded : Class → ℕ → Sign → Step
+onEnded (prefixed u) d s = emit (pre u) (onReadySign d s)
+onEnded (leafy l) d s = emit (atom l) (onAfterSign d s)
+onEnded neither d s = dead
+
+abbrev pub onWord : List ℕ → ℕ → ℕ → Kind → Step
+onWord w d b (wordy l) = cond (ltb (length w) nameLength) (go [] (word (w ++ (b ∷ [])) d)) dead
+onWord w d b square = cond (same w (unaryToken weakNext)) (go [] (rest 33 (93 ∷ []) (pre strongNext) d)) dead
+onWord w d b (sign s) = onEnded (classify w) d s
+
+abbrev pub onApart : ℕ → Kind → Step
+onApart d (wordy l) = dead
+onApart d square = dead
+onApart d (sign s) = onReadySign d s
+
+abbrev pub coming : List ℕ → Token → ℕ → Step
+coming [] t d = go (t ∷ []) (ready d)
+coming (c ∷ cs) t d = go [] (rest c cs t d)
+
+unfoldable pub step : State → ℕ → Step
+step (ready d) b = onReady d b (kind b)
+step (apart d) b = onApart d (kind b)
+step (after d) b = onAfter d b (kind b)
+step (word w d) b = onWord w d b (kind b)
+step (rest c cs t d) b = cond (eqb b c) (coming cs t d) dead
+
+-- ---- whole texts
+
+-- the tokens of the text, or an offset in it
+pub data Scan : Type 0 where
+  good : List Token → Scan
+  bad : ℕ → Scan
+
+abbrev pub finishWord : Class → ℕ → Scan
+finishWord (prefixed u) d = bad 0
+finishWord (leafy l) zero = good (atom l ∷ [])
+finishWord (leafy l) (suc d) = bad 0
+finishWord neither d = bad 0
+
+unfoldable pub finish : State → Scan
+finish (ready d) = bad 0
+finish (apart d) = bad 0
+finish (after zero) = good []
+finish (after (suc d)) = bad 0
+finish (word w d) = finishWord (classify w) d
+finish (rest c cs t d) = bad 0
+
+abbrev pub behind : List Token → Scan → Scan
+behind out (good ts) = good (out ++ ts)
+behind out (bad k) = bad (suc k)
+
+abbrev pub follow : Step → (State → Scan) → Scan
+follow dead f = bad 0
+follow (go out s) f = behind out (f s)
+
+unfoldable pub scan : State → List ℕ → Scan
+scan s [] = finish s
+scan s (b ∷ text) = follow (step s b) (λ t. scan t text)
+
+abbrev pub scanText : List ℕ → Scan
+scanText text = scan (ready 0) text
+
+-- some formula begins so: nothing is wrong before the text's end
+abbrev pub goesOn : Scan → ℕ → Bool
+goesOn (good ts) n = true
+goesOn (bad k) n = eqb k n
+
+abbrev pub alive : List ℕ → Bool
+alive text = goesOn (scanText text) (length text)

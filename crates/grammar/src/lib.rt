@@ -1,0 +1,1 @@
+// The grammar of formulas read from text: specs/ and proofs/ only.

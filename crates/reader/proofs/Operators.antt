@@ -1,0 +1,229 @@
+-- Each return of the functions that read an infix operator or a closing bracket.
+-- Assumes nothing.
+use mathlib.Core.Path.{_≡_, refl, sym, ap, _∙_, subst}
+use mathlib.Core.Bool.{Bool, true, false, cond}
+use mathlib.Core.List.{List, [], _∷_}
+use Prim.Native.Nat.{ℕ, suc, _+_, _≤_, _<_}
+use native.Mathlib.Omega.{arith}
+use native.Mathlib.Decide.{decLt, ℕ-discrete}
+use borrow.Author.Tests.{ne-eqb}
+use lib.ListN.{length, drop, getD, List·getD-eq-default}
+use lib.Seq.{drop-cons, drop-length}
+use Rattle.sequence.specs.Operators.{Binary, binaryCode}
+use Rattle.sequence.specs.Operators.Binary.{until, release, implies, equiv}
+use Rattle.names.specs.Names.{isNameByte}
+use Rattle.grammar.specs.Grammar.{level, rightLevel}
+use Rattle.grammar.specs.Scan.{blank, bang, opener, closer, amp, bar, dash, less, other, Kind, wordy, square, sign, kind, after, dead, step, finish}
+use Rattle.grammar.specs.Passing.{Peek, op, nothing, cut, further, expect, alone, peek, peekKind, IfOp, QuietAt, Stops}
+use Rattle.grammar.proofs.Words.{KindIs, kind-is}
+use Rattle.grammar.proofs.Peeks.{Halts}
+use Rattle.grammar.proofs.Passage as passage
+use Rattle.reader.specs.declared.operator.Op.{Op}
+use Rattle.reader.specs.declared.operator.Op.the-variants.{Is, Nothing, Cut}
+use Rattle.reader.specs.declared.operator.End.the-variants.{At, Bad as NoEnd}
+use Rattle.reader.specs.Answers.{Said, Operator, Arrow, word, Closing, Ending}
+
+pub said-further : (at : ℕ) (k : Peek) (r : Op) → Said (at + 1) k r → Said at (further k) r
+said-further at (op o n) (Is l r next c) s = (s .0, s .1, omega (arith, s .2), s .3)
+said-further at (op o n) (Nothing i) s = s
+said-further at (op o n) (Cut i) s = s
+said-further at (nothing n) (Is l r next c) s = s
+said-further at (nothing n) (Nothing i) s = omega arith
+said-further at (nothing n) (Cut i) s = s
+said-further at (cut n) (Is l r next c) s = s
+said-further at (cut n) (Nothing i) s = s
+said-further at (cut n) (Cut i) s = omega arith
+
+module _ (text : List ℕ) where
+  -- no byte of a token is 0
+  pub inside : (i v : ℕ) → getD text i 0 ≡ suc v → i < length text
+  inside i v e = elim (decLt i (length text)) [ yes h ↦ h | no h ↦ absurd (let z : getD text i 0 ≡ 0 = List·getD-eq-default text 0 (omega arith) in omega arith) ]
+
+  pub head : {at b : ℕ} → at < length text → getD text at 0 ≡ b → drop at text ≡ b ∷ drop (at + 1) text
+  head {at} {b} h e = let n : suc at ≡ at + 1 = omega arith in drop-cons text at 0 h ∙ ap (λ (x : ℕ). x ∷ drop (suc at) text) e ∙ ap (λ (k : ℕ). b ∷ drop k text) n
+
+  pub past : {at : ℕ} → at ≤ length text → length text ≤ at → drop at text ≡ []
+  past {at} h g = let n : at ≡ length text = omega arith in ap (λ (k : ℕ). drop k text) n ∙ drop-length text
+
+  -- ---- arrow
+
+  pub arrow-is : (at code : ℕ) → getD text at 0 ≡ 62 → Arrow text at code (Is 0 0 (at + 1) code)
+  unfolding expect
+  arrow-is at code e o l r k = rw (head (inside at 61 e) e) (sym l, sym r, refl, sym k)
+
+  pub arrow-not : (at code : ℕ) → at ≤ length text → (getD text at 0 ≡ 62 → ⊥) → Arrow text at code (Cut at)
+  unfolding expect
+  arrow-not at code h n o l r k = elim (decLt at (length text)) [
+    | yes g ↦ rw (head g refl, ne-eqb (getD text at 0) 62 n) (omega arith)
+    | no g ↦ rw (past h (omega arith)) (omega arith)
+  ]
+
+  -- ---- word_op
+
+  module _ (at code : ℕ) {b : ℕ} {t : Bool} (w : t ≡ isNameByte b) where
+    pub word-cut : t ≡ true → b ≡ getD text at 0 → Cut at ≡ word text at code
+    word-cut e g = rw (← g, ← w, e)
+
+    pub word-is : t ≡ false → b ≡ getD text at 0 → Is 3 3 at code ≡ word text at code
+    word-is e g = rw (← g, ← w, e)
+
+  -- ---- operator
+
+  module _ {at : ℕ} (h : at < length text) where
+    pub op-blank : (r : Op) → getD text at 0 ≡ 32 → Operator text (at + 1) r → Operator text at r
+    unfolding peek kind
+    op-blank r e s = rw (head h e) (said-further at (peek (drop (at + 1) text)) r s)
+
+    pub op-and : getD text at 0 ≡ 38 → Operator text at (Is 2 3 (at + 1) 6)
+    unfolding peek kind
+    op-and e = rw (head h e) (refl, refl, refl, refl)
+
+    pub op-or : getD text at 0 ≡ 124 → Operator text at (Is 1 2 (at + 1) 5)
+    unfolding peek kind
+    op-or e = rw (head h e) (refl, refl, refl, refl)
+
+    pub op-implies : (r : Op) → getD text at 0 ≡ 45 → Arrow text (at + 1) 9 r → Operator text at r
+    unfolding peek kind
+    op-implies r e s = rw (head h e) (said-further at (expect (62 ∷ []) implies (drop (at + 1) text)) r (s implies refl refl refl))
+
+    pub op-equiv : (r : Op) → getD text at 0 ≡ 60 → getD text (at + 1) 0 ≡ 45 → Arrow text (at + 2) 10 r → Operator text at r
+    unfolding peek kind expect
+    op-equiv r e f s =
+        let n : (at + 1) + 1 ≡ at + 2 = omega arith in
+        let t : Said ((at + 1) + 1) (expect (62 ∷ []) equiv (drop ((at + 1) + 1) text)) r = rw n (s equiv refl refl refl) in
+        rw (head h e, head (inside (at + 1) 44 f) f) (said-further at (further (expect (62 ∷ []) equiv (drop ((at + 1) + 1) text))) r (said-further (at + 1) (expect (62 ∷ []) equiv (drop ((at + 1) + 1) text)) r t))
+
+    pub op-less-cut : getD text at 0 ≡ 60 → (getD text (at + 1) 0 ≡ 45 → ⊥) → Operator text at (Cut (at + 1))
+    unfolding peek kind expect
+    op-less-cut e n = elim (decLt (at + 1) (length text)) [
+      | yes g ↦ rw (head h e, head g refl, ne-eqb (getD text (at + 1) 0) 45 n) (omega arith)
+      | no g ↦ rw (head h e, past {at = at + 1} (omega arith) (omega arith)) (omega arith)
+    ]
+
+    said-word : (o : Binary) (r : Op) → level o ≡ 3 → rightLevel o ≡ 3 → r ≡ word text (at + 1) (binaryCode o) → Said at (alone o (drop (at + 1) text)) r
+    said-word o r p q w = elim (decLt (at + 1) (length text)) [
+      | yes g ↦ rw (head g refl, w) (by-test (isNameByte (getD text (at + 1) 0)))
+      | no g ↦ let z : getD text (at + 1) 0 ≡ 0 = List·getD-eq-default text 0 (omega arith) in rw (past {at = at + 1} (omega arith) (omega arith), w, z) (sym p, sym q, refl, refl)
+    ]
+      where
+        by-test : (t : Bool) → Said at (cond t (cut 1) (op o 1)) (cond t (Cut (at + 1)) (Is 3 3 (at + 1) (binaryCode o)))
+        by-test true = refl
+        by-test false = (sym p, sym q, refl, refl)
+
+    pub op-until : (r : Op) → getD text at 0 ≡ 85 → r ≡ word text (at + 1) 7 → Operator text at r
+    unfolding peek kind
+    op-until r e w = rw (head h e) (said-word until r refl refl w)
+
+    pub op-release : (r : Op) → getD text at 0 ≡ 82 → r ≡ word text (at + 1) 8 → Operator text at r
+    unfolding peek kind
+    op-release r e w = rw (head h e) (said-word release r refl refl w)
+
+    pub op-none : (getD text at 0 ≡ 32 → ⊥) → (getD text at 0 ≡ 38 → ⊥) → (getD text at 0 ≡ 124 → ⊥) → (getD text at 0 ≡ 45 → ⊥) → (getD text at 0 ≡ 60 → ⊥) → (getD text at 0 ≡ 85 → ⊥) → (getD text at 0 ≡ 82 → ⊥) → Operator text at (Nothing at)
+    unfolding peek
+    op-none n1 n2 n3 n4 n5 n6 n7 = rw (head h refl) (by-kind (kind b) (kind-is b))
+      where
+        b : ℕ
+        b = getD text at 0
+
+        z : at ≡ at + 0
+        z = omega arith
+
+        by-kind : (k : Kind) → KindIs b k → Said at (peekKind b k (drop (at + 1) text) (peek (drop (at + 1) text))) (Nothing at)
+        by-kind (wordy l) q = rw (ne-eqb b 85 n6, ne-eqb b 82 n7) z
+        by-kind square q = z
+        by-kind (sign blank) q = absurd (n1 (q .1))
+        by-kind (sign bang) q = z
+        by-kind (sign opener) q = z
+        by-kind (sign closer) q = z
+        by-kind (sign amp) q = absurd (n2 (q .1))
+        by-kind (sign bar) q = absurd (n3 (q .1))
+        by-kind (sign dash) q = absurd (n4 (q .1))
+        by-kind (sign less) q = absurd (n5 (q .1))
+        by-kind (sign other) q = z
+
+  pub op-end : {at : ℕ} → at ≤ length text → length text ≤ at → Operator text at (Nothing at)
+  unfolding peek
+  op-end h g = rw (past h g) (omega arith)
+
+  -- where no operator begins, outside brackets nothing goes on, and inside only a closing bracket
+  halted : (i : ℕ) → i < length text → Halts (drop i text) → (getD text i 0 ≡ 41 → ⊥) → (d : ℕ) → step (after d) (getD text i 0) ≡ dead
+  halted i g x = rw (head g refl) at x
+
+  outside : (i : ℕ) → i < length text → Halts (drop i text) → step (after 0) (getD text i 0) ≡ dead
+  unfolding step kind
+  outside i g x = elim (ℕ-discrete (getD text i 0) 41) [ yes e ↦ rw e | no n ↦ halted i g x n 0 ]
+
+  -- ---- closing
+
+  module _ (at : ℕ) (h : at ≤ length text) where
+    there : {a : Op} {i : ℕ} → a ≡ Nothing i → Operator text at a → (n : ℕ) × (peek (drop at text) ≡ nothing n) × (i ≡ at + n)
+    there {i = i} e f = by-peek (peek (drop at text)) refl (subst (Said at (peek (drop at text))) e f)
+      where
+        by-peek : (k : Peek) → peek (drop at text) ≡ k → Said at k (Nothing i) → (n : ℕ) × (peek (drop at text) ≡ nothing n) × (i ≡ at + n)
+        by-peek (op o m) q s = absurd s
+        by-peek (nothing m) q s = (m, q, s)
+        by-peek (cut m) q s = absurd s
+
+    pub closed : {a : Op} {i : ℕ} → a ≡ Nothing i → Operator text at a → getD text i 0 ≡ 41 → Closing text at (At (i + 1))
+    unfolding step kind
+    closed {i = i} e f g q d =
+        let t = there e f in
+        let s : (at + t .0) + 1 ≡ i + 1 = omega (arith, t .2) in
+        let v : getD text (at + t .0) 0 ≡ 41 = rw (t .2) at g in
+        rw (← s) (passage.pass-then text (passage.pass-nothing text at h (t .1) (suc d)) (passage.pass-byte text (inside (at + t .0) 40 v) (rw v)))
+
+    pub not-closed : {a : Op} {i : ℕ} → a ≡ Nothing i → Operator text at a → (getD text i 0 ≡ 41 → ⊥) → Closing text at (NoEnd i)
+    unfolding finish
+    not-closed {i = i} e f n q d =
+        let t = there e f in
+        let p = passage.pass-nothing text at h (t .1) (suc d) in
+        let w = p .within in
+        let m : getD text (at + t .0) 0 ≡ 41 → ⊥ = rw (t .2) at n in
+        let s : Stops text (after (suc d)) (at + t .0) (at + t .0) = elim (decLt (at + t .0) (length text)) [
+          | yes g ↦ passage.stop-byte text g (halted (at + t .0) g (passage.halts text at h (t .1)) m (suc d))
+          | no g ↦ passage.stop-end text (omega arith) refl
+        ] in
+        rw (t .2) (passage.pass-stop text p s)
+
+    -- nothing goes on, so no operator was there
+    no-op : {a : Op} {l r next c : ℕ} → a ≡ Is l r next c → Operator text at a → QuietAt text 0 at → ⊥
+    no-op {l = l} {r} {next} {c} e f q = by-peek (peek (drop at text)) q (subst (Said at (peek (drop at text))) e f)
+      where
+        by-peek : (k : Peek) → IfOp (λ o. level o < 0) ⊥ k → Said at k (Is l r next c) → ⊥
+        by-peek (op o m) q s = omega arith
+        by-peek (nothing m) q s = s
+        by-peek (cut m) q s = s
+
+    no-cut : {a : Op} {k : ℕ} → a ≡ Cut k → Operator text at a → QuietAt text 0 at → ⊥
+    no-cut {k = k} e f q = by-peek (peek (drop at text)) q (subst (Said at (peek (drop at text))) e f)
+      where
+        by-peek : (p : Peek) → IfOp (λ o. level o < 0) ⊥ p → Said at p (Cut k) → ⊥
+        by-peek (op o m) q s = s
+        by-peek (nothing m) q s = s
+        by-peek (cut m) q s = q
+
+    pub closing-op : {a : Op} {l r next c : ℕ} → a ≡ Is l r next c → Operator text at a → Closing text at (NoEnd next)
+    closing-op e f q = absurd (no-op e f q)
+
+    pub closing-cut : {a : Op} {k : ℕ} → a ≡ Cut k → Operator text at a → Closing text at (NoEnd k)
+    closing-cut e f q = absurd (no-cut e f q)
+
+    -- ---- ending
+
+    pub ended : {a : Op} {i : ℕ} → a ≡ Nothing i → Operator text at a → i ≡ length text → Ending text at (At i)
+    ended e f n = (n, λ q. let t = there e f in let m : at + t .0 ≡ length text = sym (t .2) ∙ n in rw m at (passage.pass-nothing text at h (t .1) 0))
+
+    pub not-ended : {a : Op} {i : ℕ} → a ≡ Nothing i → Operator text at a → (i ≡ length text → ⊥) → Ending text at (NoEnd i)
+    not-ended {i = i} e f n q =
+        let t = there e f in
+        let p = passage.pass-nothing text at h (t .1) 0 in
+        let w = p .within in
+        let m : at + t .0 ≡ length text → ⊥ = rw (t .2) at n in
+        let g : at + t .0 < length text = elim (decLt (at + t .0) (length text)) [ yes g ↦ g | no g ↦ absurd (m (omega arith)) ] in
+        rw (t .2) (passage.pass-stop text p (passage.stop-byte text g (outside (at + t .0) g (passage.halts text at h (t .1)))))
+
+    pub ending-op : {a : Op} {l r next c : ℕ} → a ≡ Is l r next c → Operator text at a → Ending text at (NoEnd next)
+    ending-op e f q = absurd (no-op e f q)
+
+    pub ending-cut : {a : Op} {k : ℕ} → a ≡ Cut k → Operator text at a → Ending text at (NoEnd k)
+    ending-cut e f q = absurd (no-cut e f q)

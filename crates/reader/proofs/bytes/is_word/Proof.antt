@@ -1,0 +1,30 @@
+-- `is_word` meets its contract: each of its tests decides one part of the rule.
+-- Assumes nothing.
+use borrow.Author.Tests.{le-leb, lt-leb, eq-eqb, ne-eqb}
+use mathlib.Core.Path.{sym, _∙_}
+use mathlib.Core.Bool.{or-true}
+use borrow.Author.Needs.{needs}
+use Rattle.reader.proofs.bytes.is_word.Statement.{statement}
+use Rattle.reader.proofs.bytes.is_word.Tie as tie
+
+is-letter-requires : tie.Need-is-letter-requires
+is-letter-requires c κs = search needs
+
+returns : tie.Need-returns
+returns c = simp (sym (c .before .is-letter .ensures) ∙ c .if1 .taken)
+
+returns-2 : tie.Need-returns-2
+returns-2 c = simp (eq-eqb _ _ (c .if2 .taken), or-true)
+
+returns-3 : tie.Need-returns-3
+returns-3 c = simp (sym (c .before .before .before .is-letter .ensures) ∙ c .before .before .if1 .left, ne-eqb _ _ (c .before .if2 .left), lt-leb 48 _ (c .if3 .taken))
+
+returns-4 : tie.Need-returns-4
+returns-4 c = simp (sym (c .before .before .before .before .is-letter .ensures) ∙ c .before .before .before .if1 .left, le-leb 48 _ (c .before .if3 .left), le-leb _ 57 (c .if4 .taken))
+
+returns-5 : tie.Need-returns-5
+returns-5 c = simp (sym (c .before .before .before .before .is-letter .ensures) ∙ c .before .before .before .if1 .left, ne-eqb _ _ (c .before .before .if2 .left), le-leb 48 _ (c .before .if3 .left), lt-leb _ 57 (c .if4 .left))
+
+pub is-word-spec : {M : Type 1} → statement M
+is-word-spec =
+    tie.close (tie.spec is-letter-requires returns returns-2 returns-3 returns-4 returns-5)

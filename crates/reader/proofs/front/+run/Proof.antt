@@ -1,0 +1,135 @@
+-- `run` meets its contract: each return is a law of `Fronts`. It falls by what is left of 16 bytes.
+-- Assumes nothing.
+use Rattle.names.specs.Names.{isNameByte}
+use borrow.Author.Needs.{needs}
+use native.Mathlib.Omega.{arith}
+use Rattle.reader.proofs.Fronts.{of-byte, word-inside, run-full, run-stops, run-on}
+use Prim.Native.Nat.{ℕ, _<_, _+_, _-_}
+use borrow.Fn.Kinds.{In}
+use borrow.Fn.PlainCycle.{Measures, is, falls, and}
+use Rattle.reader.proofs.front.run.Reads as run
+use Rattle.reader.proofs.front.run.Kinds as run-kinds
+use Rattle.reader.proofs.front.+run.Lts-run as run-lts
+use Rattle.reader.proofs.bytes.byte.Reads as byte-reads
+use Rattle.reader.proofs.bytes.is_word.Reads as is-word-reads
+use Rattle.reader.proofs.front.+run.{statement}
+use Rattle.reader.proofs.front.+run.Tie.{close}
+
+abbrev μ-run : Measures 1 run-kinds.ps ℕ
+μ-run κs a = (a .1 .0 + 16) - a .1 .1 .0
+
+abbrev run-at : ℕ → In 1 run-kinds.ps
+run-at t = and 1 run-kinds.ps (is 1 run-kinds.ps μ-run t) run.Pre
+
+abbrev run-below : ℕ → In 1 run-kinds.ps
+run-below t = and 1 run-kinds.ps (falls 1 run-kinds.ps _<_ μ-run t) run.Pre
+
+run-sub-if1 : (t : ℕ) → run-lts.Need-sub-if1 (
+  byte-reads.Asked,
+  byte-reads.Learnt,
+  is-word-reads.Asked,
+  is-word-reads.Learnt,
+  run-below t,
+  run.Post,
+) (run-at t) run.Post
+run-sub-if1 t c = search needs
+
+run-returns : (t : ℕ) → run-lts.Need-returns (
+  byte-reads.Asked,
+  byte-reads.Learnt,
+  is-word-reads.Asked,
+  is-word-reads.Learnt,
+  run-below t,
+  run.Post,
+) (run-at t) run.Post
+run-returns t c = let s = c .before .before in run-full _ (s .args .start) (s .args .i) (s .pre .1 .0) (s .pre .1 .2) (s .pre .1 .1) (c .if1 .taken)
+
+run-byte-requires : (t : ℕ) → run-lts.Need-byte-requires (
+  byte-reads.Asked,
+  byte-reads.Learnt,
+  is-word-reads.Asked,
+  is-word-reads.Learnt,
+  run-below t,
+  run.Post,
+) (run-at t) run.Post
+run-byte-requires t c κs = search needs
+
+run-is-word-requires : (t : ℕ) → run-lts.Need-is-word-requires (
+  byte-reads.Asked,
+  byte-reads.Learnt,
+  is-word-reads.Asked,
+  is-word-reads.Learnt,
+  run-below t,
+  run.Post,
+) (run-at t) run.Post
+run-is-word-requires t c κs = search needs
+
+run-add-run : (t : ℕ) → run-lts.Need-add-run (
+  byte-reads.Asked,
+  byte-reads.Learnt,
+  is-word-reads.Asked,
+  is-word-reads.Learnt,
+  run-below t,
+  run.Post,
+) (run-at t) run.Post
+run-add-run t c =
+    let s = c .before .before .before .before .before in
+    omega (arith, word-inside (s .args .text .now) (s .args .i) (of-byte isNameByte (c .before .is-word .ensures) (c .if2 .taken) (c .before .before .byte .ensures)))
+
+run-run-requires : (t : ℕ) → run-lts.Need-run-requires (
+  byte-reads.Asked,
+  byte-reads.Learnt,
+  is-word-reads.Asked,
+  is-word-reads.Learnt,
+  run-below t,
+  run.Post,
+) (run-at t) run.Post
+run-run-requires t c κs =
+    let s = c .before .before .before .before .before in
+    let n = word-inside (s .args .text .now) (s .args .i) (of-byte isNameByte (c .before .is-word .ensures) (c .if2 .taken) (c .before .before .byte .ensures)) in
+    (omega arith, (omega arith, omega arith, omega arith))
+
+run-returns-2 : (t : ℕ) → run-lts.Need-returns-2 (
+  byte-reads.Asked,
+  byte-reads.Learnt,
+  is-word-reads.Asked,
+  is-word-reads.Learnt,
+  run-below t,
+  run.Post,
+) (run-at t) run.Post
+run-returns-2 t c =
+    let k = c .before in
+    let s = k .before .before .before .before .before in
+    run-on _ (s .args .start) (s .args .i) (s .pre .1 .0) (s .pre .1 .2) (k .before .before .before .if1 .left) (of-byte isNameByte (k .before .is-word .ensures) (k .if2 .taken) (k .before .before .byte .ensures)) (c .run .ensures)
+
+run-returns-3 : (t : ℕ) → run-lts.Need-returns-3 (
+  byte-reads.Asked,
+  byte-reads.Learnt,
+  is-word-reads.Asked,
+  is-word-reads.Learnt,
+  run-below t,
+  run.Post,
+) (run-at t) run.Post
+run-returns-3 t c =
+    let s = c .before .before .before .before .before in
+    run-stops _ (s .args .start) (s .args .i) (s .pre .1 .0) (s .pre .1 .2) (s .pre .1 .1) (of-byte isNameByte (c .before .is-word .ensures) (c .if2 .left) (c .before .before .byte .ensures))
+
+pub +run-spec : {M : Type 1} → statement M
++run-spec = close μ-run λ t. run-lts.spec (
+  byte-reads.Asked,
+  byte-reads.Learnt,
+  is-word-reads.Asked,
+  is-word-reads.Learnt,
+  run-below t,
+  run.Post,
+)
+    (run-at t)
+    run.Post
+    (run-sub-if1 t)
+    (run-returns t)
+    (run-byte-requires t)
+    (run-is-word-requires t)
+    (run-add-run t)
+    (run-run-requires t)
+    (run-returns-2 t)
+    (run-returns-3 t)

@@ -1,0 +1,107 @@
+-- `read_good` meets its contract: each return is a law of `Answering`.
+-- Assumes nothing.
+use native.Mathlib.Omega.{arith}
+use Rattle.reader.specs.Parsing.{columns}
+use Rattle.reader.proofs.Answering.{answer-long, answer-stops, answer-unknown, answer-large, answer-short, enough, answer-taken}
+use borrow.Author.Needs.{needs}
+use Rattle.reader.proofs.read_good.Statement.{statement}
+use Rattle.reader.proofs.read_good.Tie as tie
+
+slice-aggregate-judge : tie.Need-slice-aggregate-judge
+slice-aggregate-judge c = search needs
+
+judge-requires : tie.Need-judge-requires
+judge-requires c κs = search needs
+
+enum-told : tie.Need-enum-told
+enum-told c = search needs
+
+enum-known-j : tie.Need-enum-known-j
+enum-known-j c = search needs
+
+enum-known-j-2 : tie.Need-enum-known-j-2
+enum-known-j-2 c = search needs
+
+enum-told-2 : tie.Need-enum-told-2
+enum-told-2 c = search needs
+
+enum-known-j-3 : tie.Need-enum-known-j-3
+enum-known-j-3 c = search needs
+
+least-requires : tie.Need-least-requires
+least-requires c κs = search needs
+
+returns : tie.Need-returns
+returns c =
+    let s = c .before .before .before .before .before .before .before .before .before .before .before .before .before .before in
+    answer-short (s .args .names .now) (s .args .text .now) (columns (s .args .codes .now) (s .args .lefts .now) (s .args .rights .now) (s .args .sizes .now)) _ _ (c .before .before .before .before .before .before .judge .ensures) (c .before .before .before .j3 .given .1) (omega (arith, c .before .least .ensures, c .if1 .taken))
+
+slice-aggregate-write : tie.Need-slice-aggregate-write
+slice-aggregate-write c = search needs
+
+write-requires : tie.Need-write-requires
+write-requires c κs =
+    let s = c .before .before .before .before .before .before .before .before .before .before .before .before .before .before .before .before .before .before .before in
+    enough (s .args .names .now) (s .args .text .now) (columns (s .args .codes .now) (s .args .lefts .now) (s .args .rights .now) (s .args .sizes .now)) _ _ (c .before .before .before .before .before .before .before .before .before .before .before .judge .ensures) (c .before .before .before .before .before .before .before .before .j3 .given .1) (omega arith) (omega (arith, c .before .before .before .before .before .before .least .ensures, c .before .before .before .before .before .if1 .left))
+
+returns-2 : tie.Need-returns-2
+returns-2 c =
+    let s = c .before .before .before .before .before .before .before .before .before .before .before in
+    answer-long (s .args .names .now) (s .args .text .now) (columns (s .args .codes .now) (s .args .lefts .now) (s .args .rights .now) (s .args .sizes .now)) _ _ (c .before .before .before .judge .ensures) (c .enum-told .given .1)
+
+returns-3 : tie.Need-returns-3
+returns-3 c =
+    let s = c .before .before .before .before .before .before .before .before .before .before .before .before in
+    answer-stops (s .args .names .now) (s .args .text .now) (columns (s .args .codes .now) (s .args .lefts .now) (s .args .rights .now) (s .args .sizes .now)) _ _ (c .before .before .before .before .judge .ensures) (c .before .j .given .1)
+
+returns-4 : tie.Need-returns-4
+returns-4 c =
+    let s = c .before .before .before .before .before .before .before .before .before .before .before .before in
+    answer-unknown (s .args .names .now) (s .args .text .now) (columns (s .args .codes .now) (s .args .lefts .now) (s .args .rights .now) (s .args .sizes .now)) _ _ (c .before .before .before .before .judge .ensures) (c .before .j2 .given .1)
+
+returns-5 : tie.Need-returns-5
+returns-5 c =
+    let s = c .before .before .before .before .before .before .before .before .before .before .before in
+    answer-large (s .args .names .now) (s .args .text .now) (columns (s .args .codes .now) (s .args .lefts .now) (s .args .rights .now) (s .args .sizes .now)) _ _ (c .before .before .before .judge .ensures) (c .enum-told2 .given .1)
+
+same-length : tie.Need-same-length
+same-length c = search needs
+
+same-length-2 : tie.Need-same-length-2
+same-length-2 c = search needs
+
+same-length-3 : tie.Need-same-length-3
+same-length-3 c = search needs
+
+same-length-4 : tie.Need-same-length-4
+same-length-4 c = search needs
+
+returns-6 : tie.Need-returns-6
+returns-6 c =
+    let s = c .before .before .before .before .before .before .before .before .before .before .before .before .before .before .before .before .before .before .before .before .before .before .before .before .before .before .before .before in
+    answer-taken (s .args .names .now) (s .args .text .now) (columns (s .args .codes .now) (s .args .lefts .now) (s .args .rights .now) (s .args .sizes .now)) _ _ (c .before .before .before .before .before .before .before .before .before .before .before .before .before .before .before .before .before .before .before .before .judge .ensures) (c .before .before .before .before .before .before .before .before .before .before .before .before .before .before .before .before .before .j3 .given .1) (s .pre) (omega arith) (omega (arith, c .before .before .before .before .before .before .before .before .before .before .before .before .before .before .before .least .ensures, c .before .before .before .before .before .before .before .before .before .before .before .before .before .before .if1 .left)) (c .before .before .before .before .before .before .before .before .write .ensures)
+
+pub read-good-spec : {M : Type 1} → statement M
+read-good-spec =
+    tie.close
+    (tie.spec
+    slice-aggregate-judge
+    judge-requires
+    enum-told
+    enum-known-j
+    enum-known-j-2
+    enum-told-2
+    enum-known-j-3
+    least-requires
+    returns
+    slice-aggregate-write
+    write-requires
+    returns-2
+    returns-3
+    returns-4
+    returns-5
+    same-length
+    same-length-2
+    same-length-3
+    same-length-4
+    returns-6)

@@ -1,0 +1,150 @@
+// The infix operator that comes next, and the closing bracket.
+use crate::bytes;
+ghost use mathlib.Core.Path.{_≡_};
+ghost use Prim.Native.Nat.{_≤_, _<_};
+ghost use lib.ListN.{length};
+ghost use Rattle.reader.specs.Answers.{Operator, Closing, Ending, Arrow, word};
+
+// An operator has its level, the lowest level at its right, and its end.
+pub(crate) enum Op {
+    Is {
+        level: u8,
+        right: u8,
+        next: usize,
+        code: u8,
+    },
+    Nothing(usize),
+    Cut(usize),
+}
+
+// Where what closes an expression ends, or the offset of a byte that can't continue a formula.
+pub(crate) enum End {
+    At(usize),
+    Bad(usize),
+}
+
+// `>`, the last byte of an operator.
+fn arrow(text: &[u8], at: usize, code: u8) -> Op
+    requires { ⌜ at ≤ length (now text) ⌝ }
+    ensures { λ r. ⌜ Arrow (now (text .entry)) at code r ⌝ }
+{
+    let b = bytes::byte(text, at);
+    if b == b'>' {
+        return Op::Is {
+            level: 0,
+            right: 0,
+            next: at + 1,
+            code,
+        };
+    }
+    Op::Cut(at)
+}
+
+// Behind `U` and `R`, after which no word's byte may come.
+fn word_op(text: &[u8], at: usize, code: u8) -> Op
+    ensures { λ r. ⌜ r ≡ word (now (text .entry)) at code ⌝ }
+{
+    let b = bytes::byte(text, at);
+    if bytes::is_word(b) {
+        return Op::Cut(at);
+    }
+    Op::Is {
+        level: 3,
+        right: 3,
+        next: at,
+        code,
+    }
+}
+
+pub(crate) fn operator(text: &[u8], at: usize) -> Op
+    requires { ⌜ at ≤ length (now text) ⌝ }
+    ensures { λ r. ⌜ Operator (now (text .entry)) at r ⌝ }
+{
+    if text.len() <= at {
+        return Op::Nothing(at);
+    }
+    let b = bytes::byte(text, at);
+    if b == b' ' {
+        return operator(text, at + 1);
+    }
+    if b == b'&' {
+        return Op::Is {
+            level: 2,
+            right: 3,
+            next: at + 1,
+            code: 6,
+        };
+    }
+    if b == b'|' {
+        return Op::Is {
+            level: 1,
+            right: 2,
+            next: at + 1,
+            code: 5,
+        };
+    }
+    if b == b'-' {
+        return arrow(text, at + 1, 9);
+    }
+    if b == b'<' {
+        let c = bytes::byte(text, at + 1);
+        if c == b'-' {
+            return arrow(text, at + 2, 10);
+        }
+        return Op::Cut(at + 1);
+    }
+    if b == b'U' {
+        return word_op(text, at + 1, 7);
+    }
+    if b == b'R' {
+        return word_op(text, at + 1, 8);
+    }
+    Op::Nothing(at)
+}
+
+// The closing bracket after an expression.
+pub(crate) fn closing(text: &[u8], at: usize) -> End
+    requires { ⌜ at ≤ length (now text) ⌝ }
+    ensures { λ r. ⌜ Closing (now (text .entry)) at r ⌝ }
+{
+    let o = operator(text, at);
+    match o {
+        Op::Nothing(i) => {
+            let b = bytes::byte(text, i);
+            if b == b')' {
+                return End::At(i + 1);
+            }
+            End::Bad(i)
+        }
+        Op::Cut(k) => End::Bad(k),
+        Op::Is {
+            level: _,
+            right: _,
+            next,
+            code: _,
+        } => End::Bad(next),
+    }
+}
+
+// The end of the text after an expression.
+pub(crate) fn ending(text: &[u8], at: usize) -> End
+    requires { ⌜ at ≤ length (now text) ⌝ }
+    ensures { λ r. ⌜ Ending (now (text .entry)) at r ⌝ }
+{
+    let o = operator(text, at);
+    match o {
+        Op::Nothing(i) => {
+            if i == text.len() {
+                return End::At(i);
+            }
+            End::Bad(i)
+        }
+        Op::Cut(k) => End::Bad(k),
+        Op::Is {
+            level: _,
+            right: _,
+            next,
+            code: _,
+        } => End::Bad(next),
+    }
+}
