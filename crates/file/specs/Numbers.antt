@@ -1,16 +1,16 @@
--- The numbers of document 01 that bound the session file, each under one name: those that it shares with the library have names of their own here,
--- since a later request raises the library's alone. The largest length is `width`, of `words`.
+-- The numbers of document 01 that bound the session file. They are the file's own: a later request raises the library's alone. The bound is the library's,
+-- and the largest length is `width`, of `words`.
 -- Assumes nothing.
 use Prim.Native.Nat.{ℕ}
-use Rattle.rules.specs.Limits.{mostSessions, mostPropositions, mostSize}
+use Rattle.rules.specs.Limits.{mostSize}
 
 -- "sessions r 1 to 32"
 abbrev pub sessions : ℕ
-sessions = mostSessions
+sessions = 32
 
 -- "propositions m 1 to 16"
 abbrev pub propositions : ℕ
-propositions = mostPropositions
+propositions = 16
 
 -- "size bound B 1 to 31"
 abbrev pub bound : ℕ

@@ -16,11 +16,11 @@ ghost use Prim.Native.Nat.{_+_, _<_};
 ghost use Rattle.file.specs.Reading.{said, after, lent, readOf};
 ghost use Rattle.file.specs.Inner.{tailOf, tailAt, answerOf};
 
-// Document 01's numbers for a file; for the contracts they are in specs/Numbers.antt. Those that it shares with the library have names of their own,
-// since a later request raises the library's alone.
-const SESSIONS: usize = rules::SESSIONS;
+// Document 01's numbers for a file; for the contracts they are in specs/Numbers.antt. The counts are the file's own, since a
+// later request raises the library's alone.
+const SESSIONS: usize = 32;
 
-const PROPOSITIONS: usize = rules::PROPOSITIONS;
+const PROPOSITIONS: usize = 16;
 
 const BOUND: usize = rules::BOUND;
 
