@@ -1,4 +1,4 @@
--- From words to the reading, once: row j of a formula's matrix has bit p set exactly where the formula holds at p of session (j .recording). So a matrix
+-- From words to the reading, once: row j of a formula's matrix has bit p set exactly where the formula holds at p of session j. So a matrix
 -- agrees with the marks exactly if its formula separates, and two formulas have one matrix exactly if they are alike.
 -- Assumes nothing.
 use mathlib.Core.Path.{_≡_, refl, sym, ap, ap₂, _∙_, subst, fun-ext}

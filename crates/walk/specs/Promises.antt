@@ -81,7 +81,7 @@ module _ (i : Input) where
     pub smaller : NoneBelow s
 
   -- a kept formula: its node, over those kept before it, and its matrix of r words, of which row j has bit p set exactly where the formula
-  -- holds at p of session (j .recording)
+  -- holds at p of session j
   pub record Keeps (before : Table) (c : Candidate (List ℕ)) (t : Formula) : Type 0 where
     pub spelled : Spells codes (nodes before) (c .node) t
     pub offered : Offered (language i) t
@@ -103,7 +103,7 @@ module _ (i : Input) where
     pub kept : KeepsAll [] k formulas
     pub apart : Apart formulas
 
--- ---- from words to the reading: row j of a formula's matrix has bit p set exactly where the formula holds at p of session (j .recording)
+-- ---- from words to the reading: row j of a formula's matrix has bit p set exactly where the formula holds at p of session j
 
 abbrev pub RowMeans : Type 0
 RowMeans = (i : Input) → Passes i → (t : Formula) → Offered (language i) t → (j : ℕ) → j < i .recording .sessions
