@@ -5,7 +5,7 @@ ghost use lib.ListN.{length};
 ghost use Rattle.order.specs.Starts.{startsOf};
 ghost use Rattle.order.specs.Inner.{Counted};
 
-// One more than the largest size that a search can begin: a place for each size from 0 to BOUND + 1.
+// A place for each size from 0 to BOUND + 1: the last says where the sizes end.
 pub const COUNT: usize = rules::BOUND + 2;
 
 // Of the first n sizes: how many are one below each position.

@@ -4,7 +4,7 @@ use mathlib.Core.List.{List, _++_}
 use Prim.Native.Nat.{ℕ}
 use lib.ListN.{length, drop}
 
--- an answer in document 01's terms: 0 and the values, or a refusal's number (and the offset for 8)
+-- an answer in document 01's terms: 0 and the values, or a refusal's number (and the offset, for those that have one)
 pub record Said : Type 0 where
   pub number : ℕ
   pub values : List ℕ

@@ -34,6 +34,6 @@ module _ (r m : ℕ) where
     abbrev pub markWrong : Row
     markWrong = record { number = 6; given = (i : ℕ) × (i < r) × (1 < getD marks i 0) }
 
-    -- "Order of checks: 1, 2, 3, 4, 5, 6": each over all sessions before the next number
+    -- "Order of checks: 1, 2, 3, 4, 5, 6, ..", of which these are the data's: each over all sessions before the next number
     abbrev pub dataRows : List Row
     dataRows = outsideNumbers ∷ tooShort ∷ tooLong ∷ bitAbove ∷ markWrong ∷ []
