@@ -23,6 +23,7 @@ use Rattle.walk.proofs.Reading.{lawful}
 use Rattle.formula.specs.declared.kinds.Node.{Node}
 use Rattle.formula.specs.Kinds.{nodeOf}
 use Rattle.formula.specs.Rule.{Broken}
+use Rattle.search.specs.declared.counts.Counts.{Counts}
 use Rattle.search.specs.declared.SearchAnswer.the-variants.{Found, None, Full, Refused}
 use Rattle.search.specs.Table.{Cols, tableOver}
 use Rattle.checks.specs.Refusals.{searchRows}
@@ -73,23 +74,23 @@ module _ (p : Parts) (g : Good p) (room : ℕ) (t : Cols) (roomy : Roomy t) wher
     not-outside : (n : ℕ) → Decided (searchRows i t) n → n ≡ 0 → Outside 1 mostRoom room → ⊥
     not-outside n d z o = let e = decided-unique (searchRows i t) n 2 d (out-room o) in omega arith
 
-    pub none-says : (tried n : ℕ) → Searched (inputOf p room) t (None tried n) u → GoodSays p room (noneLine tried n)
+    pub none-says : (c : Counts) → Searched (inputOf p room) t (None c) u → GoodSays p room (noneLine (c .tried) (c .kept))
     unfolding i
-    none-says tried n w = record {
+    none-says c w = record {
       searched = λ a b.
           let (e, k, m, q) = walk.walk-ends (inputOf p room) in
-          let (s, l) = none-end (inputOf p room) tried n e k m q (w .outcome .0 ∙ ap walkSaid q) in
-          (none, k, tried, s, ap (noneLine tried) (sym l));
+          let (s, l) = none-end (inputOf p room) c e k m q (w .outcome .0 ∙ ap walkSaid q) in
+          (none, k, c .tried, s, ap (noneLine (c .tried)) (sym l));
       outside = λ o. absurd (not-outside 0 (w .decided) refl o);
     }
 
-    pub full-says : (size tried n : ℕ) → Searched (inputOf p room) t (Full size tried n) u → GoodSays p room (fullLine size tried n)
+    pub full-says : (size : ℕ) (c : Counts) → Searched (inputOf p room) t (Full size c) u → GoodSays p room (fullLine size (c .tried) (c .kept))
     unfolding i
-    full-says size tried n w = record {
+    full-says size c w = record {
       searched = λ a b.
           let (e, k, m, q) = walk.walk-ends (inputOf p room) in
-          let (s, l) = full-end (inputOf p room) size tried n e k m q (w .outcome .0 ∙ ap walkSaid q) in
-          (full size, k, tried, s, ap (fullLine size tried) (sym l));
+          let (s, l) = full-end (inputOf p room) size c e k m q (w .outcome .0 ∙ ap walkSaid q) in
+          (full size, k, c .tried, s, ap (fullLine size (c .tried)) (sym l));
       outside = λ o. absurd (not-outside 0 (w .decided) refl o);
     }
 
@@ -101,23 +102,23 @@ module _ (p : Parts) (g : Good p) (room : ℕ) (t : Cols) (roomy : Roomy t) wher
     }
 
     -- what is known where a formula is found
-    pub record FoundAt (root : Node) (tried n : ℕ) : Type 0 where
+    pub record FoundAt (root : Node) (c : Counts) : Type 0 where
       pub table : Table
-      pub is : search (inputOf p room) ≡ ended (found (nodeOf root)) table tried
-      pub as-many : length table ≡ n
+      pub is : search (inputOf p room) ≡ ended (found (nodeOf root)) table (c .tried)
+      pub as-many : length table ≡ c .kept
       pub holds : u ≡ tableOver table t
-      pub few : n ≤ 4096
+      pub few : c .kept ≤ 4096
       pub whole : Broken (length (p .names)) (nodes table) (nodeOf root) → ⊥
       pub inside : Outside 1 mostRoom room → ⊥
 
-    pub found-at : (root : Node) (tried n : ℕ) → Searched (inputOf p room) t (Found root tried n) u → FoundAt root tried n
+    pub found-at : (root : Node) (c : Counts) → Searched (inputOf p room) t (Found root c) u → FoundAt root c
     unfolding i
-    found-at root tried n w =
+    found-at root c w =
         let ok = passes-whole (inputOf p room) t .0 (w .decided) .0 in
         let (e, k, m, q) = walk.walk-ends (inputOf p room) in
-        let (s, l) = found-end (inputOf p room) root tried n e k m q (w .outcome .0 ∙ ap walkSaid q) in
-        let a = walk.kept-distinct (inputOf p room) ok (found (nodeOf root)) k tried s in
-        let f = walk.found-smallest (inputOf p room) ok (nodeOf root) k tried s in
+        let (s, l) = found-end (inputOf p room) root c e k m q (w .outcome .0 ∙ ap walkSaid q) in
+        let a = walk.kept-distinct (inputOf p room) ok (found (nodeOf root)) k (c .tried) s in
+        let f = walk.found-smallest (inputOf p room) ok (nodeOf root) k (c .tried) s in
         record {
           table = k;
           is = s;
@@ -125,7 +126,7 @@ module _ (p : Parts) (g : Good p) (room : ℕ) (t : Cols) (roomy : Roomy t) wher
           holds = w .outcome .1 ∙ ap (λ (st : State (List ℕ)). tableOver (kept st) t) s;
           few = omega (arith, a .room, ok .room-in);
           whole = kept-whole (inputOf p room) (nodeOf root) k a f
-              (λ c h. let z = walk-small (offer (inputOf p room)) (lawful (inputOf p room)) room (p .bound) c (subst (λ (st : State (List ℕ)). c ∈ kept st) (sym s) h) in omega (arith, g .lowBound))
+              (λ d h. let z = walk-small (offer (inputOf p room)) (lawful (inputOf p room)) room (p .bound) d (subst (λ (st : State (List ℕ)). d ∈ kept st) (sym s) h) in omega (arith, g .lowBound))
               (omega (arith, ok .room-in)) (omega (arith, g .lowBound));
           inside = λ o. not-outside 0 (w .decided) refl o;
         }

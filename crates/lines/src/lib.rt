@@ -86,18 +86,18 @@ fn searched(
         &mut matrices,
     );
     match answer {
-        SearchAnswer::Found { root, tried, kept } => found(
+        SearchAnswer::Found { root, counts } => found(
             names,
-            &codes[..kept],
-            &lefts[..kept],
-            &rights[..kept],
-            &sizes[..kept],
+            &codes[..counts.kept],
+            &lefts[..counts.kept],
+            &rights[..counts.kept],
+            &sizes[..counts.kept],
             root,
-            tried,
+            counts.tried,
             text,
         ),
-        SearchAnswer::None { tried, kept } => line::none(text, tried, kept),
-        SearchAnswer::Full { size, tried, kept } => line::full(text, size, tried, kept),
+        SearchAnswer::None(counts) => line::none(text, counts.tried, counts.kept),
+        SearchAnswer::Full { size, counts } => line::full(text, size, counts.tried, counts.kept),
         SearchAnswer::Refused(number) => line::refused(text, number),
     }
 }

@@ -9,3 +9,4 @@ pub mod Lists
 pub mod Rest
 pub mod Few
 pub mod Layers
+pub mod Cursors

@@ -19,7 +19,7 @@ use Rattle.rules.specs.declared.kinds.Place.{Place}
 use Rattle.order.specs.Size.{Cand, cand, Layer, layerOf, range, commuting, leaves, orders, start, places, unaries, pairs, ofSize, candidates}
 use Rattle.order.specs.Ahead.{cursor, leafCursor, told, twice, codeAt, both, row, column, candIn, leavesAhead}
 use Rattle.order.specs.Ahead.{leafAt, codesIn, part, partAhead, partsAhead, ahead, candidateAt, after, rest, first}
-use Rattle.order.specs.Steps.{Rises, Safe, Steps}
+use Rattle.order.specs.Steps.{Rises, Safe, Within, Steps}
 use Rattle.order.proofs.Loops.{range-cons, range-nil, resume-fresh}
 use Rattle.order.proofs.Splits.{part-fresh}
 use Rattle.order.proofs.Sizes.{parts-out, ahead-leaves, ahead-parts, ahead-beyond, leaf-candidate, part-candidate}
@@ -33,7 +33,7 @@ module _ {g : Layer} {at : Cursor} where
       → rest g at ≡ cand code (left .0) (right .0) ∷ rest g next
   unfolding rest
   step-left {code} {left} {right} {next} (Steps.ends e d) = let z : _≡_ {A = ℕ} 0 1 = cc in absurd (omega arith)
-  step-left {code} {left} {right} {next} (Steps.takes here e d s) =
+  step-left {code} {left} {right} {next} (Steps.takes here e d s w) =
       let n : next ≡ after g here = cc in
       let c : code ≡ candidateAt g here .code = cc in
       let l : left .0 ≡ candidateAt g here .left = ap (λ (p : Place). p .0) (let q : left ≡ record { 0 = candidateAt g here .left } = cc in q) in
@@ -43,23 +43,39 @@ module _ {g : Layer} {at : Cursor} where
   -- no index is out of range with it
   pub step-safe : {code : ℕ} {left right : Place} {next : Cursor} → Steps g at (Candidate code left right next) → Rises g → Safe g (cand code (left .0) (right .0))
   step-safe {code} {left} {right} {next} (Steps.ends e d) r = let z : _≡_ {A = ℕ} 0 1 = cc in absurd (omega arith)
-  step-safe {code} {left} {right} {next} (Steps.takes here e d s) r =
+  step-safe {code} {left} {right} {next} (Steps.takes here e d s w) r =
       let c : code ≡ candidateAt g here .code = cc in
       let l : left .0 ≡ candidateAt g here .left = ap (λ (p : Place). p .0) (let q : left ≡ record { 0 = candidateAt g here .left } = cc in q) in
       let q : right .0 ≡ candidateAt g here .right = ap (λ (p : Place). p .0) (let q : right ≡ record { 0 = candidateAt g here .right } = cc in q) in
       rw (c, l, q) (s r)
 
+  -- and it is the one at the first of the cursors ahead, the next one being the cursor after it
+  pub step-ahead : {code : ℕ} {left right : Place} {next : Cursor} → Steps g at (Candidate code left right next)
+      → (here : Cursor) × (ahead g at ≡ here ∷ ahead g next) × (next ≡ after g here)
+  step-ahead {code} {left} {right} {next} (Steps.ends e d) = let z : _≡_ {A = ℕ} 0 1 = cc in absurd (omega arith)
+  step-ahead {code} {left} {right} {next} (Steps.takes here e d s w) =
+      let n : next ≡ after g here = cc in
+      (here, e ∙ ap (λ (x : Cursor). here ∷ ahead g x) (sym n), n)
+
+  pub step-within : {code : ℕ} {left right : Place} {next : Cursor} → Steps g at (Candidate code left right next) → Rises g → Within g next
+  step-within {code} {left} {right} {next} (Steps.ends e d) r = let z : _≡_ {A = ℕ} 0 1 = cc in absurd (omega arith)
+  step-within {code} {left} {right} {next} (Steps.takes here e d s w) r = let n : next ≡ after g here = cc in rw n (w r)
+
+  pub end-ahead : Steps g at End → ahead g at ≡ []
+  end-ahead (Steps.ends e d) = e
+  end-ahead (Steps.takes here e d s w) = let z : _≡_ {A = ℕ} 0 1 = cc in absurd (omega arith)
+
   pub end-left : Steps g at End → rest g at ≡ []
   unfolding rest
   end-left (Steps.ends e d) = rw e
-  end-left (Steps.takes here e d s) = let z : _≡_ {A = ℕ} 0 1 = cc in absurd (omega arith)
+  end-left (Steps.takes here e d s w) = let z : _≡_ {A = ℕ} 0 1 = cc in absurd (omega arith)
 
 -- any two steps that the contract allows are one
 pub steps-unique : {g : Layer} {at : Cursor} {x y : Step} → Steps g at x → Steps g at y → x ≡ y
 steps-unique (Steps.ends e d) (Steps.ends e′ d′) = cc
-steps-unique (Steps.ends e d) (Steps.takes h e′ d′ s) = let z : _≡_ {A = ℕ} 0 1 = cc in absurd (omega arith)
-steps-unique (Steps.takes h e d s) (Steps.ends e′ d′) = let z : _≡_ {A = ℕ} 0 1 = cc in absurd (omega arith)
-steps-unique {g} (Steps.takes h e d s) (Steps.takes h′ e′ d′ s′) =
+steps-unique (Steps.ends e d) (Steps.takes h e′ d′ s w) = let z : _≡_ {A = ℕ} 0 1 = cc in absurd (omega arith)
+steps-unique (Steps.takes h e d s w) (Steps.ends e′ d′) = let z : _≡_ {A = ℕ} 0 1 = cc in absurd (omega arith)
+steps-unique {g} (Steps.takes h e d s w) (Steps.takes h′ e′ d′ s′ w′) =
     let q : h ≡ h′ = cc in
     d ∙ ap (λ (x : Cursor). told (candidateAt g x) (after g x)) q ∙ sym d′
 

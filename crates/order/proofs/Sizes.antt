@@ -20,7 +20,7 @@ use Rattle.order.specs.declared.Step.the-variants.{End}
 use Rattle.order.specs.Size.{Cand, cand, Layer, range, leaves, start}
 use Rattle.order.specs.Ahead.{cursor, leafCursor, told, twice, codeAt, candIn, halfway, afterIn, leftStart, leftEnd, rightStart, rightEnd}
 use Rattle.order.specs.Ahead.{leavesAhead, leafAt, afterLeaf, codesOf, codesIn, part, partAhead, partsAhead, ahead, candidateAt, after, first}
-use Rattle.order.specs.Steps.{Listed, Rises, Safe, Steps}
+use Rattle.order.specs.Steps.{Listed, Rises, Safe, Within, Steps}
 use Rattle.order.specs.Inner.{Takes, LeafIn, InLeaves, InPart, Stands, StandsIn, partOf, partStart, PartsTake}
 use Rattle.order.proofs.Loops.{resume-in, resume-out, resume-done, resume-fresh}
 use Rattle.order.proofs.Splits.{part-fresh}
@@ -154,6 +154,35 @@ module _ (g : Layer) where
   unfolding after
   part-after e here = rw (ne-eqb (g .size) 1 e)
 
+  -- the cursor after one is within
+  leaf-within : g .size ≡ 1 → (here : Cursor) → LeafIn (g .propositions) (g .constants) here → Within g (afterLeaf here)
+  leaf-within e here p = record { operator-in = rw (eq-eqb (g .size) 1 e) (omega (arith, p .operator-in)); left-in = omega arith; right-in = omega arith }
+
+  left-below : Rises g → 2 ≤ g .size → (i : ℕ) → i < (g .size + 1) / 2 → leftEnd (g .size) (g .starts) i ≤ start (g .starts) (g .size)
+  left-below r k zero h = r (g .size - 1 + 1) (omega arith)
+  left-below r k (suc i) h = r (suc i + 1) (omega arith)
+
+  right-below : Rises g → 2 ≤ g .size → (i p : ℕ) → i < (g .size + 1) / 2 → p < rightEnd (g .size) (g .starts) i → p ≤ start (g .starts) (g .size)
+  right-below r k zero p h l = omega arith
+  right-below r k (suc i) p h l = let w = r (g .size - 1 - suc i + 1) (omega arith) in omega (arith, w, l)
+
+  part-within : Rises g → 2 ≤ g .size → (here : Cursor) → StandsIn g here → Within g (afterIn (codesIn g (here .split)) here)
+  unfolding afterIn
+  part-within r k here p = go (halfway (codesIn g (here .split)) here)
+    where
+      go : (b : Bool)
+          → Within g (cond b (cursor (here .split) (here .left) (here .right) (here .operator) true) (cursor (here .split) (here .left) (here .right) (here .operator + 1) false))
+      go true = record {
+        operator-in = rw (ne-eqb (g .size) 1 (λ e. omega arith)) (omega (arith, p .stands .operator-in));
+        left-in = omega (arith, p .stands .left-in, left-below r k (here .split) (p .split-in));
+        right-in = right-below r k (here .split) (here .right) (p .split-in) (p .stands .right-in);
+      }
+      go false = record {
+        operator-in = rw (ne-eqb (g .size) 1 (λ e. omega arith)) (omega (arith, p .stands .operator-in));
+        left-in = omega (arith, p .stands .left-in, left-below r k (here .split) (p .split-in));
+        right-in = right-below r k (here .split) (here .right) (p .split-in) (p .stands .right-in);
+      }
+
   module _ (at : Cursor) where
     pub steps-beyond : length (g .starts) ≤ g .size → Steps g at End
     steps-beyond h = Steps.ends (ahead-beyond h at) refl
@@ -171,6 +200,7 @@ module _ (g : Layer) where
         (rw (leaf-after e here) (ahead-leaves h e at ∙ f ∙ ap (λ (cs : List Cursor). here ∷ cs) (sym (ahead-leaves h e (afterLeaf here)))))
         (rw (leaf-candidate e here, leaf-after e here) d)
         (λ r. rw (leaf-candidate e here) (leaf-safe g here p))
+        (λ r. rw (leaf-after e here) (leaf-within e here p))
 
     pub steps-parts : {step : Step} → g .size < length (g .starts) → 2 ≤ g .size
         → PartsTake g at step → Steps g at step
@@ -181,6 +211,7 @@ module _ (g : Layer) where
         (rw (part-after e here) (ahead-parts h e at ∙ f ∙ ap (λ (cs : List Cursor). here ∷ cs) (sym (ahead-parts h e (afterIn (codesIn g (here .split)) here)))))
         (rw (part-candidate e here, part-after e here) d)
         (λ r. rw (part-candidate e here) (part-safe g here r (here .split) k (p .split-in) (p .stands)))
+        (λ r. rw (part-after e here) (part-within r k here p))
 
 -- a size before 2, or one that `starts` doesn't reach, begins at no place
 pub first-zero : (starts : List ℕ) (s : ℕ) → (s < 2) ⊎ (length starts < s) → leafCursor 0 ≡ first starts s

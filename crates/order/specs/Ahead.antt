@@ -145,3 +145,8 @@ module _ (g : Layer) where
 -- where size s begins
 abbrev pub first : List ℕ → ℕ → Cursor
 first starts s = cursor 0 (cond (ltb 1 s) (getD starts (s - 1) 0) 0) 0 0 false
+
+-- the cursor after j candidates of the size: its first one, or the cursor after the last of those j
+unfoldable pub cursorAfter : Layer → ℕ → Cursor
+cursorAfter g zero = first (g .starts) (g .size)
+cursorAfter g (suc j) = after g (getD (ahead g (first (g .starts) (g .size))) j (leafCursor 0))

@@ -2,14 +2,16 @@
 -- Assumes nothing.
 use mathlib.Core.Path.{_≡_}
 use mathlib.Core.Logic.{_⊎_}
+use mathlib.Core.Bool.{cond}
 use mathlib.Core.List.{List, [], _∷_}
 use Prim.Native.Nat.{ℕ, _≤_, _<_}
 use lib.ListN.{length, getD}
+use lib.Dec.{eqb}
 use Rattle.order.specs.declared.Cursor.{Cursor}
 use Rattle.order.specs.declared.Step.{Step}
 use Rattle.order.specs.declared.Step.the-variants.{End}
-use Rattle.order.specs.Size.{Cand, Layer, start}
-use Rattle.order.specs.Ahead.{ahead, candidateAt, after, told}
+use Rattle.order.specs.Size.{Cand, Layer, leaves, start}
+use Rattle.order.specs.Ahead.{codesIn, ahead, candidateAt, after, told}
 
 -- the code stands in the list
 pub record Listed (codes : List ℕ) (c : ℕ) : Type 0 where
@@ -29,7 +31,18 @@ pub data Safe (g : Layer) (c : Cand) : Type 0 where
   unary : Listed (g .unary) (c .code) → c .left < start (g .starts) (g .size) → c .right ≡ 0 → Safe g c
   binary : Listed (g .binary) (c .code) → c .left < start (g .starts) (g .size) → c .right < start (g .starts) (g .size) → Safe g c
 
--- none is ahead, and the step says so; or `here` is next: the step tells its candidate and the cursor after it, from which on the others are ahead
+-- how long the list is that a cursor of this split goes through: at size 1 the leaves, else the unary operators (split 0) or the binary ones
+abbrev pub listLong : Layer → ℕ → ℕ
+listLong g i = cond (eqb (g .size) 1) (length (leaves (g .propositions) (g .constants))) (length (codesIn g i))
+
+-- a cursor whose position is in its list or just past it, and whose places were kept when the size began
+pub record Within (g : Layer) (at : Cursor) : Type 0 where
+  pub operator-in : at .operator ≤ listLong g (at .split)
+  pub left-in : at .left ≤ start (g .starts) (g .size)
+  pub right-in : at .right ≤ start (g .starts) (g .size)
+
+-- none is ahead, and the step says so; or `here` is next: the step tells its candidate and the cursor after it, from which on the others are ahead, and which is within
 pub data Steps (g : Layer) (at : Cursor) (step : Step) : Type 0 where
   ends : ahead g at ≡ [] → step ≡ End → Steps g at step
-  takes : (here : Cursor) → ahead g at ≡ here ∷ ahead g (after g here) → step ≡ told (candidateAt g here) (after g here) → (Rises g → Safe g (candidateAt g here)) → Steps g at step
+  takes : (here : Cursor) → ahead g at ≡ here ∷ ahead g (after g here) → step ≡ told (candidateAt g here) (after g here) → (Rises g → Safe g (candidateAt g here)) → (Rises g → Within g (after g here))
+      → Steps g at step

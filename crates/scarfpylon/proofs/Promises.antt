@@ -58,23 +58,23 @@ two-three e = omega arith
 
 module _ (i : Input) (t u : Cols) (l : List ℕ) where
   words-say : (a : SearchAnswer) → Decided (core.searchRows i t) 0 → Searched i t a u → Says i t u (written (searchWords a) (eight l))
-  words-say (Found root tried kept) d w = record {
+  words-say (Found root n) d w = record {
     one-of = inl refl;
-    when-found = λ e. (refl, tried-is-position i t u (Found root tried kept) w, found-smallest i t u root tried kept w);
+    when-found = λ e. (refl, tried-is-position i t u (Found root n) w, found-smallest i t u root n w);
     when-none = λ e. absurd (one-two e);
     when-full = λ e. absurd (one-three e);
   }
-  words-say (None tried kept) d w = record {
+  words-say (None n) d w = record {
     one-of = inr (inl refl);
     when-found = λ e. absurd (one-two (sym e));
-    when-none = λ e. (tried-is-position i t u (None tried kept) w, none-means-none i t u tried kept w .2);
+    when-none = λ e. (tried-is-position i t u (None n) w, none-means-none i t u n w .2);
     when-full = λ e. absurd (two-three e);
   }
-  words-say (Full size tried kept) d w = record {
+  words-say (Full size n) d w = record {
     one-of = inr (inr refl);
     when-found = λ e. absurd (one-three (sym e));
     when-none = λ e. absurd (two-three (sym e));
-    when-full = λ e. (tried-is-position i t u (Full size tried kept) w, full-needs-room i t u size tried kept w);
+    when-full = λ e. (tried-is-position i t u (Full size n) w, full-needs-room i t u size n w);
   }
   words-say (Refused k) d w = absurd (omega (arith, w .outcome .0, decided-unique (core.searchRows i t) k 0 (w .decided) d))
 

@@ -70,7 +70,7 @@ module _ (i : Input) (t : Cols) (old : List ℕ) (h : outWords ≤ length old) w
     answered a z s e = record { number = answered-rows (said a .number) (s .decided); refused = λ f. absurd (f z); passed = λ _. (a, s, e) }
 
     pub search-long : (a : SearchAnswer) → Does a
-    search-long (Found root tried kept) s e = answered (Found root tried kept) refl s e
-    search-long (None tried kept) s e = answered (None tried kept) refl s e
-    search-long (Full size tried kept) s e = answered (Full size tried kept) refl s e
+    search-long (Found root n) s e = answered (Found root n) refl s e
+    search-long (None n) s e = answered (None n) refl s e
+    search-long (Full size n) s e = answered (Full size n) refl s e
     search-long (Refused k) s e = record { number = answered-rows k (s .decided); refused = λ _. (s .outcome .1, e); passed = λ _. (Refused k, s, e) }

@@ -14,18 +14,18 @@ use Rattle.scarfpylon.specs.Out.{outShort, Named, word, written}
 
 -- "out = case (1 found, 2 none, 3 full), size (found, full), tried, kept, and at found the root's code, left, right, size"
 abbrev pub searchWords : SearchAnswer → List Named
-searchWords (Found root tried kept) =
+searchWords (Found root n) =
     word 0 1
     ∷ word 1 (root .size)
-    ∷ word 2 tried
-    ∷ word 3 kept
+    ∷ word 2 (n .tried)
+    ∷ word 3 (n .kept)
     ∷ word 4 (root .code)
     ∷ word 5 (root .left .0)
     ∷ word 6 (root .right .0)
     ∷ word 7 (root .size)
     ∷ []
-searchWords (None tried kept) = word 0 2 ∷ word 2 tried ∷ word 3 kept ∷ []
-searchWords (Full size tried kept) = word 0 3 ∷ word 1 size ∷ word 2 tried ∷ word 3 kept ∷ []
+searchWords (None n) = word 0 2 ∷ word 2 (n .tried) ∷ word 3 (n .kept) ∷ []
+searchWords (Full size n) = word 0 3 ∷ word 1 size ∷ word 2 (n .tried) ∷ word 3 (n .kept) ∷ []
 searchWords (Refused k) = []
 
 module _ (i : Input) (t : Cols) (old : List ℕ) where

@@ -46,17 +46,9 @@ pub(crate) fn search_number(answer: SearchAnswer) -> u64
     ensures { λ k. ⌜ k ≡ said answer .number ⌝ }
 {
     match answer {
-        SearchAnswer::Found {
-            root: _,
-            tried: _,
-            kept: _,
-        } => 0,
-        SearchAnswer::None { tried: _, kept: _ } => 0,
-        SearchAnswer::Full {
-            size: _,
-            tried: _,
-            kept: _,
-        } => 0,
+        SearchAnswer::Found { root: _, counts: _ } => 0,
+        SearchAnswer::None(_) => 0,
+        SearchAnswer::Full { size: _, counts: _ } => 0,
         SearchAnswer::Refused(number) => number as u64,
     }
 }
@@ -66,26 +58,26 @@ pub(crate) fn put_search(answer: SearchAnswer, out: &mut [u64])
     ensures { λ u. ⌜ now (out .exit) ≡ written (searchWords answer) (now (out .entry)) ⌝ }
 {
     match answer {
-        SearchAnswer::Found { root, tried, kept } => {
+        SearchAnswer::Found { root, counts } => {
             out[0] = 1;
             out[1] = root.size as u64;
-            out[2] = tried;
-            out[3] = kept as u64;
+            out[2] = counts.tried;
+            out[3] = counts.kept as u64;
             out[4] = root.code as u64;
             out[5] = root.left.0 as u64;
             out[6] = root.right.0 as u64;
             out[7] = root.size as u64;
         }
-        SearchAnswer::None { tried, kept } => {
+        SearchAnswer::None(counts) => {
             out[0] = 2;
-            out[2] = tried;
-            out[3] = kept as u64;
+            out[2] = counts.tried;
+            out[3] = counts.kept as u64;
         }
-        SearchAnswer::Full { size, tried, kept } => {
+        SearchAnswer::Full { size, counts } => {
             out[0] = 3;
             out[1] = size as u64;
-            out[2] = tried;
-            out[3] = kept as u64;
+            out[2] = counts.tried;
+            out[3] = counts.kept as u64;
         }
         SearchAnswer::Refused(_) => {}
     }
