@@ -14,7 +14,7 @@ use Rattle.reading.proofs.Spans.{Spans, first, second, head, inside, taken}
 use Rattle.reading.proofs.Lists.{ones}
 use Rattle.reading.proofs.Readers.{Section}
 use Rattle.names.specs.declared.lookup.Span.{Span}
-use Rattle.names.specs.Lookup.{walk, walkEnd, LettersAt, findFrom, foundIn}
+use Rattle.names.specs.Lookup.{walk, walkEnd, namesBy, LettersAt, findFrom, foundIn}
 use Rattle.names.proofs.NameLaws.{names-sound}
 use Rattle.names.proofs.Walks.{end-more}
 use Rattle.names.proofs.Lookups.{letters-there, span-order}
@@ -158,11 +158,13 @@ module _ (file : List ℕ) (g : GoodNames file) where
       ∙ ap (λ (x : ℕ). getD (namesIn file) p [] ∷ drop x (namesIn file)) (add-one p)
       ∙ sym (drop-cons (namesIn file) p [] h)
 
-  -- so `find` looks among the names of the section
-  pub found-among-names : (word : List ℕ) → foundIn file word ≡ findFrom 0 word (namesIn file)
-  found-among-names word =
+  -- so by the count and the length bytes these are the names of the section
+  pub names-by : namesBy file ≡ namesIn file
+  names-by =
       let ns = namesIn file in
       let c : getD file 0 0 ≡ length ns = head file 0 (length ns) (flatMap nameBytes ns ++ drop (g .0) file) (whole .spans .is) .1 in
-      ap (λ (n : ℕ). findFrom 0 word (walk file n 1)) c
-      ∙ ap (λ (x : ℕ). findFrom 0 word (walk file (length ns) x)) (sym (start-first ns))
-      ∙ ap (findFrom 0 word) (walk-rest (length ns) 0 (omega arith))
+      ap (λ (n : ℕ). walk file n 1) c ∙ ap (λ (x : ℕ). walk file (length ns) x) (sym (start-first ns)) ∙ walk-rest (length ns) 0 (omega arith)
+
+  -- and `find` looks among them
+  pub found-among-names : (word : List ℕ) → foundIn file word ≡ findFrom 0 word (namesIn file)
+  found-among-names word = ap (findFrom 0 word) names-by

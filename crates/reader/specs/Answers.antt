@@ -13,7 +13,7 @@ use Rattle.formula.specs.Formula.{size}
 use Rattle.formula.specs.Nodes.{Node}
 use Rattle.grammar.specs.Nodes.{nodesOf}
 use Rattle.grammar.specs.Token.{Typed, Atom, Token, pre, atom, opens, closes}
-use Rattle.names.specs.Names.{isNameByte}
+use Rattle.names.specs.Names.{isNameByte, namesIn, GoodNames}
 use Rattle.grammar.specs.Grammar.{operand, level, rightLevel, Derives, Reads, Refused11}
 use Rattle.sequence.specs.Operators.Unary.{strongNext}
 use Rattle.grammar.specs.Scan.{leafy, classify, ready, after, rest, word as inWord}
@@ -29,7 +29,7 @@ use Rattle.reader.specs.declared.Got.the-variants.{Val, Bad}
 use Rattle.reader.specs.declared.judge.Judged.{Judged}
 use Rattle.reader.specs.declared.judge.Judged.the-variants.{Nodes as Sized, Long, Stops as StopsAt, Unknown as UnknownName, Large}
 use Rattle.reader.specs.Words.{mostBytes, UnknownAt, FirstUnknown, Deep}
-use Rattle.reader.specs.Inner.{namesIn, GoodNames, codesBy, packs, mostField}
+use Rattle.reader.specs.Inner.{codesBy, packs, mostField}
 
 -- the next operator, with offsets of the whole text
 abbrev pub Said : ℕ → Peek → Op → Type 0

@@ -1,13 +1,11 @@
 // Formulas read from text: names looked up, the text judged, the tree's nodes written.
 mod bytes;
-mod depth;
 mod fill;
 mod front;
 mod judge;
 mod leaves;
 mod nodes;
 mod operator;
-mod unknown;
 mod write;
 
 use front::First;
@@ -19,7 +17,7 @@ use operator::Op;
 use write::least;
 ghost use Prim.Native.Nat.{_+_, _≤_};
 ghost use Rattle.reader.specs.Parsing.{saidParsed, columns, Parses};
-ghost use Rattle.reader.specs.Inner.{GoodNames};
+ghost use Rattle.names.specs.Names.{GoodNames};
 ghost use Rattle.reader.specs.Answers.{Room, Infix, More, Prefix, Bracket, Whole};
 ghost use Rattle.reader.specs.Lent.{ReadsGood};
 
@@ -172,7 +170,9 @@ fn read_good(
     sizes: &mut [u8],
 ) -> Parsed
     requires { ⌜ GoodNames (now names) ⌝ }
-    ensures { λ p. ⌜ ReadsGood (now (names .entry)) (now (text .entry)) (columns (now (codes .entry)) (now (lefts .entry)) (now (rights .entry)) (now (sizes .entry))) (columns (now (codes .exit)) (now (lefts .exit)) (now (rights .exit)) (now (sizes .exit))) (saidParsed p) ⌝ }
+    ensures { λ p. ⌜ ReadsGood (now (names .entry)) (now (text .entry))
+        (columns (now (codes .entry)) (now (lefts .entry)) (now (rights .entry)) (now (sizes .entry)))
+        (columns (now (codes .exit)) (now (lefts .exit)) (now (rights .exit)) (now (sizes .exit))) (saidParsed p) ⌝ }
 {
     let mut scratch = [0u64; 4096];
     let j = judge::judge(names, text, &mut scratch);
@@ -200,7 +200,9 @@ pub fn parse(
     rights: &mut [u16],
     sizes: &mut [u8],
 ) -> Parsed
-    ensures { λ p. ⌜ Parses (now (names .entry)) (now (text .entry)) (columns (now (codes .entry)) (now (lefts .entry)) (now (rights .entry)) (now (sizes .entry))) (columns (now (codes .exit)) (now (lefts .exit)) (now (rights .exit)) (now (sizes .exit))) (saidParsed p) ⌝ }
+    ensures { λ p. ⌜ Parses (now (names .entry)) (now (text .entry))
+        (columns (now (codes .entry)) (now (lefts .entry)) (now (rights .entry)) (now (sizes .entry)))
+        (columns (now (codes .exit)) (now (lefts .exit)) (now (rights .exit)) (now (sizes .exit))) (saidParsed p) ⌝ }
 {
     let judged = names::judge(names);
     match judged {

@@ -1,5 +1,6 @@
 // The infix operator that comes next, and the closing bracket.
 use crate::bytes;
+use names::letter::is_name_byte;
 ghost use mathlib.Core.Path.{_≡_};
 ghost use Prim.Native.Nat.{_≤_, _<_};
 ghost use lib.ListN.{length};
@@ -45,7 +46,7 @@ fn word_op(text: &[u8], at: usize, code: u8) -> Op
     ensures { λ r. ⌜ r ≡ word (now (text .entry)) at code ⌝ }
 {
     let b = bytes::byte(text, at);
-    if bytes::is_word(b) {
+    if is_name_byte(b) {
         return Op::Cut(at);
     }
     Op::Is {
