@@ -47,12 +47,13 @@ abbrev pub Operator : List ℕ → ℕ → Op → Type 0
 Operator text at r = Said at (peek (drop at text)) r
 
 -- the last byte of `->` or `<->`
-abbrev pub Arrow : List ℕ → ℕ → ℕ → Op → Type 0
-Arrow text at code r = (o : Binary) → level o ≡ 0 → rightLevel o ≡ 0 → binaryCode o ≡ code → Said at (expect (62 ∷ []) o (drop at text)) r
+abbrev pub Arrow : List ℕ → ℕ → ℕ → ℕ → Op → Type 0
+Arrow text at code right r = (o : Binary) → level o ≡ 0 → rightLevel o ≡ right → binaryCode o ≡ code → Said at (expect (62 ∷ []) o (drop at text)) r
 
 -- behind `U` or `R`
-abbrev pub word : List ℕ → ℕ → ℕ → Op
-word text at code = cond (isNameByte (getD text at 0)) (Cut at) (Is 3 3 at code)
+abbrev pub Word : List ℕ → ℕ → ℕ → ℕ → Op → Type 0
+Word text at code right r =
+    (o : Binary) → level o ≡ 3 → rightLevel o ≡ right → binaryCode o ≡ code → Said at (cond (isNameByte (getD text at 0)) (cut 0) (op o 0)) r
 
 -- a closing bracket, after an expression with which nothing goes on
 abbrev pub Closing : List ℕ → ℕ → End → Type 0

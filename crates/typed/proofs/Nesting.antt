@@ -41,13 +41,6 @@ module _ (text : List ℕ) where
     pub counted-next : (b : ℕ) {n x : ℕ} → n ≡ howMany b (take i text) → x ≡ cond (eqb (getD text i 0) b) 1 0 → n + x ≡ howMany b (take (i + 1) text)
     counted-next b e q = omega (arith, next b)
 
-    pub one-most : (b : ℕ) → cond (eqb (getD text i 0) b) 1 0 ≤ 1
-    one-most b = by-test (eqb (getD text i 0) b)
-      where
-        by-test : (t : Bool) → cond t 1 0 ≤ 1
-        by-test true = omega arith
-        by-test false = omega arith
-
     module _ {opens closes : ℕ} (p : opens ≡ howMany 40 (take (i + 1) text)) (q : closes ≡ howMany 41 (take (i + 1) text)) where
       pub counted-deep : mostBrackets + closes < opens → Deep text
       counted-deep d = (i + 1, omega (arith, p, q))

@@ -1,10 +1,11 @@
--- How private functions speak of the words that a pass over the text meets. No public contract cites this file, so nothing here has to be believed.
+-- How private functions speak of the words and brackets that a pass over the text meets. No public contract cites this file, so nothing here has to be believed.
 -- Assumes nothing.
 use mathlib.Core.Path.{_≡_}
-use mathlib.Core.Bool.{Bool, true, false}
+use mathlib.Core.Bool.{Bool, true, false, cond}
 use mathlib.Core.Logic.{_⊎_}
 use mathlib.Core.List.{List, List·Memᴰ}
 use Prim.Native.Nat.{ℕ, suc, _≤_, _<_}
+use lib.Dec.{eqb}
 use lib.ListN.{length, getD}
 use Rattle.names.specs.Names.{isNameByte}
 use Rattle.names.specs.Reserved.{reserved}
@@ -30,3 +31,8 @@ Boundary text i = (j : ℕ) → suc j ≡ i → isNameByte (getD text i 0) ≡ t
 abbrev pub PassedIs : List (List ℕ) → List ℕ → ℕ → Passed → Type 0
 PassedIs names text i Unknown = Boundary text i → UnknownAt names text i
 PassedIs names text i (To next) = (i < next) × (next ≤ length text) × Boundary text next × ((k : ℕ) → i ≤ k → k < next → UnknownAt names text k → ⊥)
+
+-- 1 for a byte that is this one, else 0
+pub record One (b this r : ℕ) : Type 0 where
+  pub is : r ≡ cond (eqb b this) 1 0
+  pub most : r ≤ 1

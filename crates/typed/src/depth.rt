@@ -1,14 +1,12 @@
 // How deep the brackets of a text nest.
-ghost use mathlib.Core.Path.{_≡_};
-ghost use mathlib.Core.Bool.{cond};
-ghost use lib.Dec.{eqb};
 ghost use Rattle.typed.specs.Answers.{DeepIs};
+ghost use Rattle.typed.specs.Inner.{One};
 
 const MOST_BRACKETS: usize = 64;
 
 // 1 for a byte that is this one.
 fn one(b: u8, this: u8) -> usize
-    ensures { λ r. ⌜ r ≡ cond (eqb b this) 1 0 ⌝ }
+    ensures { λ r. ⌜ One b this r ⌝ }
 {
     if b == this {
         return 1;

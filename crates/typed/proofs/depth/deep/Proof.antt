@@ -4,7 +4,7 @@ use Prim.Native.Nat.{_-_}
 use native.Mathlib.Omega.{arith}
 use borrow.Author.Needs.{needs}
 use lib.ListN.{length}
-use Rattle.typed.proofs.Nesting.{Counted, counted-start, counted-next, one-most, counted-deep, counted-on, counted-end}
+use Rattle.typed.proofs.Nesting.{Counted, counted-start, counted-next, counted-deep, counted-on, counted-end}
 use Rattle.typed.proofs.depth.deep.Statement.{statement}
 use Rattle.typed.proofs.depth.deep.Tie as tie
 
@@ -28,8 +28,7 @@ add-opened c =
     let s = c .before .before .before .before .before in
     let l = c .before .before .before .loop in
     let h = c .before .before .loop-test .taken in
-    let m = one-most (s .args .text .now) (l .inv) h 40 in
-    omega (arith, l .inv .opened-most, c .one .ensures)
+    omega (arith, l .inv .opened-most, c .one .ensures .most)
 
 one-requires-2 : tie.Need-one-requires-2 Inv-loop μ-loop
 one-requires-2 c κs = search needs
@@ -39,24 +38,22 @@ add-closed c =
     let s = c .before .before .before .before .before .before in
     let l = c .before .before .before .before .loop in
     let h = c .before .before .before .loop-test .taken in
-    let n = one-most (s .args .text .now) (l .inv) h 41 in
-    omega (arith, l .inv .closed-most, c .one2 .ensures)
+    omega (arith, l .inv .closed-most, c .one2 .ensures .most)
 
 add-if1 : tie.Need-add-if1 Inv-loop μ-loop
 add-if1 c =
     let s = c .before .before .before .before .before .before in
     let l = c .before .before .before .before .loop in
     let h = c .before .before .before .loop-test .taken in
-    let n = one-most (s .args .text .now) (l .inv) h 41 in
-    omega (arith, l .inv .closed-most, c .one2 .ensures)
+    omega (arith, l .inv .closed-most, c .one2 .ensures .most)
 
 returns : tie.Need-returns Inv-loop μ-loop
 returns c =
     let s = c .before .before .before .before .before .before .before in
     let l = c .before .before .before .before .before .loop in
     let h = c .before .before .before .before .loop-test .taken in
-    let a = counted-next (s .args .text .now) (l .inv) h 40 (l .inv .opens) (c .before .before .one .ensures) in
-    let b = counted-next (s .args .text .now) (l .inv) h 41 (l .inv .closes) (c .before .one2 .ensures) in
+    let a = counted-next (s .args .text .now) (l .inv) h 40 (l .inv .opens) (c .before .before .one .ensures .is) in
+    let b = counted-next (s .args .text .now) (l .inv) h 41 (l .inv .closes) (c .before .one2 .ensures .is) in
     counted-deep (s .args .text .now) (l .inv) h a b (c .if1 .taken)
 
 add-i : tie.Need-add-i Inv-loop μ-loop
@@ -74,11 +71,9 @@ loop-again c =
     let s = c .before .before .before .before .before .before .before in
     let l = c .before .before .before .before .before .loop in
     let h = c .before .before .before .before .loop-test .taken in
-    let a = counted-next (s .args .text .now) (l .inv) h 40 (l .inv .opens) (c .before .before .one .ensures) in
-    let b = counted-next (s .args .text .now) (l .inv) h 41 (l .inv .closes) (c .before .one2 .ensures) in
-    let m = one-most (s .args .text .now) (l .inv) h 40 in
-    let n = one-most (s .args .text .now) (l .inv) h 41 in
-    counted-on (s .args .text .now) (l .inv) h a b (omega (arith, l .inv .opened-most, c .before .before .one .ensures)) (omega (arith, l .inv .closed-most, c .before .one2 .ensures)) (omega (arith, c .if1 .left))
+    let a = counted-next (s .args .text .now) (l .inv) h 40 (l .inv .opens) (c .before .before .one .ensures .is) in
+    let b = counted-next (s .args .text .now) (l .inv) h 41 (l .inv .closes) (c .before .one2 .ensures .is) in
+    counted-on (s .args .text .now) (l .inv) h a b (omega (arith, l .inv .opened-most, c .before .before .one .ensures .most)) (omega (arith, l .inv .closed-most, c .before .one2 .ensures .most)) (omega (arith, c .if1 .left))
 
 returns-2 : tie.Need-returns-2 Inv-loop μ-loop
 returns-2 c = let s = c .before .before .before in let l = c .before .loop in counted-end (s .args .text .now) (l .inv) (c .loop-test .left)
