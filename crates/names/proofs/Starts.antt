@@ -10,7 +10,7 @@ use lib.Seq.{drop-cons, take-suc}
 use Rattle.names.specs.Names.{propositions, nameLength, nameBytes, GoodName, name, namesUpTo, namesIn, GoodNames}
 use Rattle.reading.specs.Reading.{one}
 use Rattle.rules.specs.Lists.{Each}
-use Rattle.reading.proofs.Spans.{Spans, first, second, head, inside, taken}
+use Rattle.reading.proofs.Spans.{Spans, first, second, head, taken}
 use Rattle.reading.proofs.Lists.{ones}
 use Rattle.reading.proofs.Readers.{Section}
 use Rattle.names.specs.declared.lookup.Span.{Span}
@@ -83,9 +83,6 @@ module _ (file : List ℕ) (g : GoodNames file) where
         × (drop (startOf (namesIn file) p + 1) file ≡ flatMap one this ++ drop (startOf (namesIn file) p + length (nameBytes this)) file)
     byte = head file (startOf (namesIn file) p) (length this) (flatMap one this ++ drop (startOf (namesIn file) p + length (nameBytes this)) file) (here .is)
 
-    pub start-in : startOf (namesIn file) p < length file
-    start-in = byte .0
-
     pub name-byte : getD file (startOf (namesIn file) p) 0 ≡ length (getD (namesIn file) p [])
     unfolding this
     name-byte = byte .1
@@ -103,10 +100,6 @@ module _ (file : List ℕ) (g : GoodNames file) where
     pub name-bytes : take (length (getD (namesIn file) p [])) (drop (startOf (namesIn file) p + 1) file) ≡ getD (namesIn file) p []
     unfolding this
     name-bytes = taken file this letters
-
-    pub name-end : startOf (namesIn file) p + 1 + length (getD (namesIn file) p []) ≤ length file
-    unfolding this
-    name-end = inside file this letters (omega (arith, byte .0))
 
     pub start-next : startOf (namesIn file) (p + 1) ≡ startOf (namesIn file) p + 1 + length (getD (namesIn file) p [])
     unfolding this

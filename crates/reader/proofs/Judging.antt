@@ -18,10 +18,7 @@ use Rattle.names.proofs.Starts.{names-by}
 use Rattle.reader.specs.declared.judge.Judged.the-variants.{Nodes as Sized, Long, Stops as StopsAt, Unknown as UnknownName, Large}
 use Rattle.reader.specs.Words.{mostBytes}
 use Rattle.names.specs.Names.{GoodNames, namesIn}
-use Rattle.reader.specs.Answers.{Room, Whole, JudgedIs}
-
-pub room-first : (file text scratch : List ℕ) → GoodNames file → mostBytes ≤ length scratch → length text ≤ mostBytes → Room file text scratch 0 0
-room-first file text scratch g r h = record { names = g; short = omega arith; within = omega arith; before = omega arith; room = omega arith }
+use Rattle.reader.specs.Answers.{Whole, JudgedIs}
 
 module _ (file text old new : List ℕ) (h : length text ≤ mostBytes) (g : GoodNames file) where
   -- by the count and the length bytes, and as names

@@ -130,7 +130,7 @@ module _ (file text : List ℕ) (old : Columns) where
   taken-formula a b = one-formula file (a .formula) (b .formula) (a .under) (b .under) (one-tree (a .reads) (b .reads))
 
   -- only what is taken has the number 0
-  pub is-taken : {m : Columns} (s : Said) → s .number ≡ 0 → Decides (parseRows file text old) (Taken file text old m) s → Taken file text old m s
+  is-taken : {m : Columns} (s : Said) → s .number ≡ 0 → Decides (parseRows file text old) (Taken file text old m) s → Taken file text old m s
   unfolding Decides
   is-taken s z (inl a) = absurd (let n : 8 ≡ 0 = sym (a .0) ∙ z in omega arith)
   is-taken s z (inr (_, inl a)) = absurd (let n : 12 ≡ 0 = sym (a .0) ∙ z in omega arith)

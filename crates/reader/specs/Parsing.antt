@@ -107,7 +107,7 @@ module _ (file text : List ℕ) (old : Columns) where
   parseRows = brokenNames ∷ longText ∷ noFormula ∷ unknownName ∷ largeFormula ∷ shortRoom ∷ []
 
   -- "A text that isn't refused gives the one tree of the grammar, its nodes written left child, right child, parent, nothing shared": the formula
-  -- whose text, typed with these names, has that tree
+  -- whose text, typed with these names, has that tree; each of its propositions has a name
   pub record Taken (new : Columns) (s : Said) : Type 0 where
     pub number : s .number ≡ 0
     pub formula : Formula
