@@ -12,6 +12,8 @@ use front::First;
 use judge::Judged;
 use names::NamesAnswer;
 use nodes::put;
+use nodes::put_one;
+use nodes::put_two;
 use operator::End;
 use operator::Op;
 use write::least;
@@ -103,14 +105,7 @@ fn read_more(
             let Got::Val { next: end, size: r } = t else {
                 return t;
             };
-            put(
-                scratch,
-                behind + r,
-                code,
-                behind - 1,
-                behind + r - 1,
-                1 + size + r,
-            );
+            put_two(scratch, code, behind, size, r);
             read_more(names, text, end, level, 1 + (size + r), place, scratch)
         }
     }
@@ -128,10 +123,11 @@ fn read_prefix(names: &[u8], text: &[u8], at: usize, place: usize, scratch: &mut
             let Got::Val { next: end, size } = t else {
                 return t;
             };
-            put(scratch, place + size, code, place + size - 1, 0, 1 + size);
+            put_one(scratch, code, place, size);
+            let whole = 1 + size;
             Got::Val {
                 next: end,
-                size: 1 + size,
+                size: whole,
             }
         }
         First::Open(next) => read_bracket(names, text, next, place, scratch),

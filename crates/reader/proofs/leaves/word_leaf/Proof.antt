@@ -43,14 +43,16 @@ returns-3 c =
     let second = c .before .before .before .before in
     let first = second .before .before .before in
     let s = first .before .before .before .before .before in
-    leaf-name (s .args .names .now) (s .args .word .now) (s .pre) (sym (first .before .same .ensures) ∙ first .if1 .left) (sym (second .before .same2 .ensures) ∙ second .if2 .left) (c .before .before .before .find .ensures) (c .before .f .given .1)
+    leaf-name (s .args .names .now) (s .args .word .now) (s .pre) (sym (first .before .same .ensures) ∙ first .if1 .left)
+    (sym (second .before .same2 .ensures) ∙ second .if2 .left) (c .before .before .before .find .ensures) (c .before .f .given .1)
 
 returns-4 : tie.Need-returns-4
 returns-4 c =
     let second = c .before .before .before in
     let first = second .before .before .before in
     let s = first .before .before .before .before .before in
-    leaf-name (s .args .names .now) (s .args .word .now) (s .pre) (sym (first .before .same .ensures) ∙ first .if1 .left) (sym (second .before .same2 .ensures) ∙ second .if2 .left) (c .before .before .find .ensures) (c .enum-told .given .1)
+    leaf-name (s .args .names .now) (s .args .word .now) (s .pre) (sym (first .before .same .ensures) ∙ first .if1 .left)
+    (sym (second .before .same2 .ensures) ∙ second .if2 .left) (c .before .before .find .ensures) (c .enum-told .given .1)
 
 pub word-leaf-spec : {M : Type 1} → statement M
 word-leaf-spec =
