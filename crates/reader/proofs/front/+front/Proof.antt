@@ -12,7 +12,7 @@ use Rattle.reader.proofs.front.front.Reads as front
 use Rattle.reader.proofs.front.front.Kinds as front-kinds
 use Rattle.reader.proofs.front.+front.Lts-front as front-lts
 use Rattle.reader.proofs.bytes.byte.Reads as byte-reads
-use Rattle.reader.proofs.bytes.is_letter.Reads as is-letter-reads
+use Rattle.names.proofs.letter.is_letter.Reads as is-letter-reads
 use Rattle.reader.proofs.front.word.Reads as word-reads
 use Rattle.reader.proofs.front.+front.{statement}
 use Rattle.reader.proofs.front.+front.Tie.{close}
