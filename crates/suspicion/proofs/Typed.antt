@@ -47,7 +47,7 @@ length-nodes p (binary o l r) =
 module _ (names text : List ℕ) (old left : Columns) where
   -- an offset carried by a refusal is within the text
   Within : Said → Type 0
-  Within s = (o : ℕ) → s .values ≡ o ∷ [] → (s .number ≡ 11) ⊎ (s .number ≡ 13) → o ≤ mostBytes
+  Within s = (o : ℕ) → s .values ≡ o ∷ [] → (s .number ≡ 11) ⊎ (s .number ≡ 13) → (o ≤ mostBytes) × (length text ≤ mostBytes)
 
   not-long : ((values : List ℕ) → (values ≡ []) × (mostBytes < length text) → ⊥) → length text ≤ mostBytes
   not-long f = elim (decLt mostBytes (length text)) [ yes h ↦ absurd (f [] (refl, h)) | no h ↦ omega arith ]
@@ -62,19 +62,19 @@ module _ (names text : List ℕ) (old left : Columns) where
   within s (inr (_, inl a)) o v n = other (a .0) (λ z. omega arith) (λ z. omega arith) n
   within s (inr (_, inr (l, inl (e, (k, w, r))))) o v n =
       let h : o ≡ k = head-eq-of-cons-eq (sym v ∙ w) in
-      ⊎-elim (λ x. omega (arith, h, x .0, not-long l)) (λ x. omega (arith, h, x .0, not-long l)) (r .here)
+      (⊎-elim (λ x. omega (arith, h, x .0, not-long l)) (λ x. omega (arith, h, x .0, not-long l)) (r .here), not-long l)
   within s (inr (_, inr (l, inr (_, inl (e, (k, w, u)))))) o v n =
       let h : o ≡ k = head-eq-of-cons-eq (sym v ∙ w) in
-      omega (arith, h, u .here .word .some, u .here .word .within, not-long l)
+      (omega (arith, h, u .here .word .some, u .here .word .within, not-long l), not-long l)
   within s (inr (_, inr (_, inr (_, inr (_, inl a))))) o v n = other (a .0) (λ z. omega arith) (λ z. omega arith) n
   within s (inr (_, inr (_, inr (_, inr (_, inr (_, inl a)))))) o v n = other (a .0) (λ z. omega arith) (λ z. omega arith) n
   within s (inr (_, inr (_, inr (_, inr (_, inr (_, inr (_, t))))))) o v n = other (t .number) (λ z. omega arith) (λ z. omega arith) n
 
-  pub stops-within : {p : Parsed} {o : ℕ} → p ≡ Stops o → Parses names text old left (saidParsed p) → o ≤ mostBytes
+  pub stops-within : {p : Parsed} {o : ℕ} → p ≡ Stops o → Parses names text old left (saidParsed p) → (o ≤ mostBytes) × (length text ≤ mostBytes)
   unfolding Within
   stops-within {p} {o} e a = within (saidParsed p) (a .answer) o (ap (λ (q : Parsed). saidParsed q .values) e) (inl (ap (λ (q : Parsed). saidParsed q .number) e))
 
-  pub unknown-within : {p : Parsed} {o : ℕ} → p ≡ Unknown o → Parses names text old left (saidParsed p) → o ≤ mostBytes
+  pub unknown-within : {p : Parsed} {o : ℕ} → p ≡ Unknown o → Parses names text old left (saidParsed p) → (o ≤ mostBytes) × (length text ≤ mostBytes)
   unfolding Within
   unknown-within {p} {o} e a = within (saidParsed p) (a .answer) o (ap (λ (q : Parsed). saidParsed q .values) e) (inr (ap (λ (q : Parsed). saidParsed q .number) e))
 
