@@ -2,3 +2,4 @@
 pub mod Typed
 pub mod Answered
 pub mod Unique
+pub mod Sizes

@@ -13,14 +13,14 @@ use Rattle.rules.specs.Limits.{mostSize}
 use Rattle.formula.specs.Formula.{Formula, leaf, unary, binary, size}
 use Rattle.formula.proofs.Trees.{size-pos}
 use Rattle.formula.specs.Nodes.{Node, codes}
-use Rattle.names.specs.Names.{wholeNames}
+use Rattle.names.specs.Names.{wholeNames, namesIn}
 use Rattle.grammar.specs.Grammar.{Reads, Refused11}
 use Rattle.grammar.specs.Nodes.{node, nodesOf}
 use Rattle.grammar.specs.Naming.{typed}
 use Rattle.reader.specs.Words.{mostBytes, FirstUnknown}
 use Rattle.reader.specs.declared.Parsed.{Parsed}
 use Rattle.reader.specs.declared.Parsed.the-variants.{Nodes, Broken, Stops, Unknown, Refused}
-use Rattle.reader.specs.Parsing.{Decides, Columns, namesOf, saidParsed, parseRows, Taken, Parses}
+use Rattle.reader.specs.Parsing.{Decides, Columns, saidParsed, parseRows, Taken, Parses}
 
 -- a formula as it is typed has as many nodes
 same-size : (names : List (List ℕ)) (t : Formula) → size (typed names t) ≡ size t
@@ -47,7 +47,7 @@ length-nodes p (binary o l r) =
 module _ (names text : List ℕ) (old left : Columns) where
   -- an offset carried by a refusal is within the text
   Within : Said → Type 0
-  Within s = (o : ℕ) → s .values ≡ o ∷ [] → (s .number ≡ 11) ⊎ (s .number ≡ 13) → o ≤ mostBytes
+  Within s = (o : ℕ) → s .values ≡ o ∷ [] → (s .number ≡ 11) ⊎ (s .number ≡ 13) → (o ≤ mostBytes) × (length text ≤ mostBytes)
 
   not-long : ((values : List ℕ) → (values ≡ []) × (mostBytes < length text) → ⊥) → length text ≤ mostBytes
   not-long f = elim (decLt mostBytes (length text)) [ yes h ↦ absurd (f [] (refl, h)) | no h ↦ omega arith ]
@@ -62,19 +62,19 @@ module _ (names text : List ℕ) (old left : Columns) where
   within s (inr (_, inl a)) o v n = other (a .0) (λ z. omega arith) (λ z. omega arith) n
   within s (inr (_, inr (l, inl (e, (k, w, r))))) o v n =
       let h : o ≡ k = head-eq-of-cons-eq (sym v ∙ w) in
-      ⊎-elim (λ x. omega (arith, h, x .0, not-long l)) (λ x. omega (arith, h, x .0, not-long l)) (r .here)
+      (⊎-elim (λ x. omega (arith, h, x .0, not-long l)) (λ x. omega (arith, h, x .0, not-long l)) (r .here), not-long l)
   within s (inr (_, inr (l, inr (_, inl (e, (k, w, u)))))) o v n =
       let h : o ≡ k = head-eq-of-cons-eq (sym v ∙ w) in
-      omega (arith, h, u .here .word .some, u .here .word .within, not-long l)
+      (omega (arith, h, u .here .word .some, u .here .word .within, not-long l), not-long l)
   within s (inr (_, inr (_, inr (_, inr (_, inl a))))) o v n = other (a .0) (λ z. omega arith) (λ z. omega arith) n
   within s (inr (_, inr (_, inr (_, inr (_, inr (_, inl a)))))) o v n = other (a .0) (λ z. omega arith) (λ z. omega arith) n
   within s (inr (_, inr (_, inr (_, inr (_, inr (_, inr (_, t))))))) o v n = other (t .number) (λ z. omega arith) (λ z. omega arith) n
 
-  pub stops-within : {p : Parsed} {o : ℕ} → p ≡ Stops o → Parses names text old left (saidParsed p) → o ≤ mostBytes
+  pub stops-within : {p : Parsed} {o : ℕ} → p ≡ Stops o → Parses names text old left (saidParsed p) → (o ≤ mostBytes) × (length text ≤ mostBytes)
   unfolding Within
   stops-within {p} {o} e a = within (saidParsed p) (a .answer) o (ap (λ (q : Parsed). saidParsed q .values) e) (inl (ap (λ (q : Parsed). saidParsed q .number) e))
 
-  pub unknown-within : {p : Parsed} {o : ℕ} → p ≡ Unknown o → Parses names text old left (saidParsed p) → o ≤ mostBytes
+  pub unknown-within : {p : Parsed} {o : ℕ} → p ≡ Unknown o → Parses names text old left (saidParsed p) → (o ≤ mostBytes) × (length text ≤ mostBytes)
   unfolding Within
   unknown-within {p} {o} e a = within (saidParsed p) (a .answer) o (ap (λ (q : Parsed). saidParsed q .values) e) (inr (ap (λ (q : Parsed). saidParsed q .number) e))
 
@@ -91,7 +91,7 @@ module _ (names text : List ℕ) (old left : Columns) where
   front-in f t list =
       omega (arith, length-append (map f (nodesOf codes 0 t)) (drop (length (map f (nodesOf codes 0 t))) list), length-map (nodesOf codes 0 t) f, length-nodes 0 t)
 
-  taken-few : (s : Said) (n : ℕ) → s .values ≡ n ∷ [] → ((t : Formula) → Reads text (typed (namesOf (wholeNames names)) t) → mostSize < size t → ⊥)
+  taken-few : (s : Said) (n : ℕ) → s .values ≡ n ∷ [] → ((t : Formula) → Reads text (typed (namesIn names) t) → mostSize < size t → ⊥)
       → Taken names text old left s → Few n
   taken-few s n v large t =
       let f = t .formula in
@@ -114,7 +114,7 @@ module _ (names text : List ℕ) (old left : Columns) where
   few s n z v (inr (_, inr (_, inr (_, inr (_, inl a))))) = absurd (omega (arith, a .0))
   few s n z v (inr (_, inr (_, inr (_, inr (_, inr (_, inl a)))))) = absurd (omega (arith, a .0))
   few s n z v (inr (_, inr (_, inr (_, inr (_, inr (large, inr (_, t))))))) =
-      taken-few s n v (λ f r g. large [] (refl, inl (typed (namesOf (wholeNames names)) f, r, omega (arith, same-size (namesOf (wholeNames names)) f)))) t
+      taken-few s n v (λ f r g. large [] (refl, inl (typed (namesIn names) f, r, omega (arith, same-size (namesIn names) f)))) t
 
   pub few-nodes : {p : Parsed} {n : ℕ} → p ≡ Nodes n → Parses names text old left (saidParsed p) → Few n
   few-nodes {p} {n} e a = few (saidParsed p) n (ap (λ (q : Parsed). saidParsed q .number) e) (ap (λ (q : Parsed). saidParsed q .values) e) (a .answer)

@@ -66,13 +66,13 @@ enum-known-parsed-3 : tie.Need-enum-known-parsed-3
 enum-known-parsed-3 c = search needs
 
 pointed-requires : tie.Need-pointed-requires
-pointed-requires c κs = stops-within _ _ _ _ (c .before .before .parsed3 .given .1) (c .before .before .before .before .before .before .before .before .parse .ensures)
+pointed-requires c κs = stops-within _ _ _ _ (c .before .before .parsed3 .given .1) (c .before .before .before .before .before .before .before .before .parse .ensures) .0
 
 enum-known-parsed-4 : tie.Need-enum-known-parsed-4
 enum-known-parsed-4 c = search needs
 
 pointed-requires-2 : tie.Need-pointed-requires-2
-pointed-requires-2 c κs = unknown-within _ _ _ _ (c .before .before .parsed4 .given .1) (c .before .before .before .before .before .before .before .before .parse .ensures)
+pointed-requires-2 c κs = unknown-within _ _ _ _ (c .before .before .parsed4 .given .1) (c .before .before .before .before .before .before .before .before .parse .ensures) .0
 
 enum-known-parsed-5 : tie.Need-enum-known-parsed-5
 enum-known-parsed-5 c = search needs
