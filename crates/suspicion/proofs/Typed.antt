@@ -13,7 +13,7 @@ use Rattle.rules.specs.Limits.{mostSize}
 use Rattle.formula.specs.Formula.{Formula, leaf, unary, binary, size}
 use Rattle.formula.proofs.Trees.{size-pos}
 use Rattle.formula.specs.Nodes.{Node, codes}
-use Rattle.names.specs.Names.{wholeNames, namesIn}
+use Rattle.names.specs.Names.{namesIn}
 use Rattle.grammar.specs.Grammar.{Reads, Refused11}
 use Rattle.grammar.specs.Nodes.{node, nodesOf}
 use Rattle.grammar.specs.Naming.{typed}
