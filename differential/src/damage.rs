@@ -162,9 +162,7 @@ impl Files {
         let word = if self.below(3) > 0 {
             RESERVED[self.below(RESERVED.len())]
         } else {
-            [
-                "u", "g", "True", "FALSE", "tru", "trueish", "fals", "X1", "Fa", "G_", "UR",
-            ][self.below(11)]
+            ["u", "g", "True", "FALSE", "tru", "trueish", "fals", "X1", "Fa", "G_", "UR"][self.below(11)]
         };
         [&file[..at], &[word.len() as u8], word.as_bytes(), &file[end..]].concat()
     }

@@ -197,8 +197,7 @@ pub fn compare(rounds: u64) -> Result<(usize, usize), String> {
             input += "\n";
             at += 1;
         }
-        let output =
-            String::from_utf8(program::output("run_formulas", input.into_bytes())?).map_err(|e| e.to_string())?;
+        let output = String::from_utf8(program::output("run_formulas", input.into_bytes())?).map_err(|e| e.to_string())?;
         let answers: Vec<&str> = output.lines().collect();
         if answers.len() != at - from {
             return Err(format!(
