@@ -24,19 +24,36 @@ pub struct Extent {
 impl Extent {
     pub fn full(way: Way, random: u64) -> Self {
         match way {
-            Way::Linked => Extent { bytes: 4, tokens: 6, random },
-            Way::Served => Extent { bytes: 1, tokens: 1, random },
+            Way::Linked => Extent {
+                bytes: 4,
+                tokens: 6,
+                random,
+            },
+            Way::Served => Extent {
+                bytes: 1,
+                tokens: 1,
+                random,
+            },
         }
     }
 
     pub fn short(way: Way) -> Self {
-        Extent { bytes: 3, tokens: 4, random: 5_000 }.thinner(way)
+        Extent {
+            bytes: 3,
+            tokens: 4,
+            random: 5_000,
+        }
+        .thinner(way)
     }
 
     fn thinner(self, way: Way) -> Self {
         match way {
             Way::Linked => self,
-            Way::Served => Extent { bytes: 1, tokens: 1, random: 200 },
+            Way::Served => Extent {
+                bytes: 1,
+                tokens: 1,
+                random: 200,
+            },
         }
     }
 }
@@ -130,7 +147,10 @@ impl Parsing {
         if self.differ == 1 {
             let text = String::from_utf8_lossy(text).to_string();
             println!("  the first: {text:?} with rooms {rooms:?} answers {said} and has to answer {answer}; nodes due: {due:?}");
-            println!("  codes {:?}, lefts {:?}, rights {:?}, sizes {:?}, out {:?}", lent.codes, lent.lefts, lent.rights, lent.sizes, lent.out);
+            println!(
+                "  codes {:?}, lefts {:?}, rights {:?}, sizes {:?}, out {:?}",
+                lent.codes, lent.lefts, lent.rights, lent.sizes, lent.out
+            );
         }
     }
 
@@ -150,7 +170,9 @@ impl Parsing {
     }
 
     fn typed(&mut self, count: u64) {
-        let letters: Vec<String> = ["p", "q", "Xq", "trues", "a_9", "sixteen_bytes_ab", "U2", "f"].map(String::from).to_vec();
+        let letters: Vec<String> = ["p", "q", "Xq", "trues", "a_9", "sixteen_bytes_ab", "U2", "f"]
+            .map(String::from)
+            .to_vec();
         for _ in 0..count {
             let m = 1 + self.random.below(letters.len() as u64) as usize;
             let names = &letters[..m];
@@ -160,7 +182,12 @@ impl Parsing {
             let mut due = vec![];
             nodes(&tree, &mut due);
             let spare = 2 + self.random.below(20);
-            let mut typing = Typing { random: &mut self.random, names, text: vec![], spare };
+            let mut typing = Typing {
+                random: &mut self.random,
+                names,
+                text: vec![],
+                spare,
+            };
             typing.write(&tree, 0);
             let mut text = typing.text;
             // As typed: the very tree. Sizes above 31 are 12.
@@ -200,7 +227,13 @@ impl Parsing {
         }
         for deep in [1, 62, 63, 64, 65, 66, 1000, 2047, 2048] {
             let both = |inner: &[u8]| [many(b'(', deep), inner.to_vec(), many(b')', deep)].concat();
-            texts.extend([both(b"p"), both(b"zz"), both(b""), both(b"p&p"), [both(b"p"), b")".to_vec()].concat()]);
+            texts.extend([
+                both(b"p"),
+                both(b"zz"),
+                both(b""),
+                both(b"p&p"),
+                [both(b"p"), b")".to_vec()].concat(),
+            ]);
             texts.push([b"(".to_vec(), both(b"p")].concat());
             texts.push([both(b"p"), b"|".to_vec(), both(b"p")].concat());
         }
@@ -269,13 +302,28 @@ impl Parsing {
                 );
                 let n = lent.out[0] as usize;
                 let last = n - 1;
-                let root = [lent.codes[last] as u64, lent.lefts[last] as u64, lent.rights[last] as u64, lent.sizes[last] as u64];
-                let again =
-                    self.printed(&section, &lent.codes[..last], &lent.lefts[..last], &lent.rights[..last], &lent.sizes[..last], root);
+                let root = [
+                    lent.codes[last] as u64,
+                    lent.lefts[last] as u64,
+                    lent.rights[last] as u64,
+                    lent.sizes[last] as u64,
+                ];
+                let again = self.printed(
+                    &section,
+                    &lent.codes[..last],
+                    &lent.lefts[..last],
+                    &lent.rights[..last],
+                    &lent.sizes[..last],
+                    root,
+                );
                 self.compared += 1;
                 if n != size || text != again || text != f.tree.to_string().into_bytes() {
                     self.differ += 1;
-                    println!("  {:?} read back prints {:?}", String::from_utf8_lossy(&text), String::from_utf8_lossy(&again));
+                    println!(
+                        "  {:?} read back prints {:?}",
+                        String::from_utf8_lossy(&text),
+                        String::from_utf8_lossy(&again)
+                    );
                 }
             }
         }
@@ -309,15 +357,26 @@ pub fn run(way: Way, extent: Extent) -> i32 {
     let Some(library) = boundary::opened(way, "texts of formulas") else {
         return 1;
     };
-    let mut parsing = Parsing { library, random: Random::new(14), compared: 0, differ: 0 };
+    let mut parsing = Parsing {
+        library,
+        random: Random::new(14),
+        compared: 0,
+        differ: 0,
+    };
     let mut all = (0, 0);
     let names = section(&["p".to_string(), "q".to_string()]);
     let bytes: Vec<&[u8]> = TELLING.chunks(1).collect();
     parsing.every(&names, &bytes, b"", extent.bytes);
-    parsing.report(&format!("texts of up to {} of {} bytes", extent.bytes, bytes.len()), &mut all);
+    parsing.report(
+        &format!("texts of up to {} of {} bytes", extent.bytes, bytes.len()),
+        &mut all,
+    );
     let tokens: Vec<&[u8]> = TOKENS.iter().map(|token| token.as_bytes()).collect();
     parsing.every(&names, &tokens, b" ", extent.tokens);
-    parsing.report(&format!("runs of up to {} of {} tokens", extent.tokens, tokens.len()), &mut all);
+    parsing.report(
+        &format!("runs of up to {} of {} tokens", extent.tokens, tokens.len()),
+        &mut all,
+    );
     parsing.limits();
     parsing.report("texts at the limits", &mut all);
     parsing.typed(extent.random);
