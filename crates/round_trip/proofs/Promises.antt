@@ -74,7 +74,7 @@ module _ (old : Columns) {new : Columns} (t : Formula) (w : new ≡ written (nod
   same : nodesOf codes 0 t ≡ nodesIn new (size t)
   same = sym (read-nodes old (nodesOf codes 0 t) (size t) (nodes-length codes 0 t) w)
 
-  read-spells : Spells codes (nodesIn new (size t)) (rootIn new (size t)) t
+  pub read-spells : Spells codes (nodesIn new (size t)) (rootIn new (size t)) t
   read-spells = subst (λ (k : List Node). Spells codes k (nodeAt k (size t - 1)) t) same (nodes-spell t)
 
   read-good : (m : ℕ) → Named m t → size t ≤ mostSize → Broken m (nodesIn new (size t)) (rootIn new (size t)) → ⊥

@@ -3,3 +3,5 @@ pub mod Typed
 pub mod Answered
 pub mod Unique
 pub mod Sizes
+pub mod Apart
+pub mod Promises

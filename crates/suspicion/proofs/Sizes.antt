@@ -67,7 +67,7 @@ module _ (i : Recording) (names typed : List ℕ) (c : Columns) where
       omega (arith, pointed-short typed o 13 (w .1) (w .0), ap length s)
   shows-short (parsed.Refused k) out a s = omega (arith, refused-short k, ap length s)
 
-says-short : (g : Got Parts) (typed out : List ℕ) → Says g typed out → length out ≤ 8248
+pub says-short : (g : Got Parts) (typed out : List ℕ) → Says g typed out → length out ≤ 8248
 says-short (bad o) typed out s = omega (arith, refused-at-short 8 o, ap length s)
 says-short (got p next) typed out s = shows-short _ _ typed (s .left) (s .answer) out (s .parses) (s .shows)
 
