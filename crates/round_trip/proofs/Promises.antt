@@ -77,7 +77,7 @@ module _ (old : Columns) {new : Columns} (t : Formula) (w : new ≡ written (nod
   pub read-spells : Spells codes (nodesIn new (size t)) (rootIn new (size t)) t
   read-spells = subst (λ (k : List Node). Spells codes k (nodeAt k (size t - 1)) t) same (nodes-spell t)
 
-  read-good : (m : ℕ) → Named m t → size t ≤ mostSize → Broken m (nodesIn new (size t)) (rootIn new (size t)) → ⊥
+  pub read-good : (m : ℕ) → Named m t → size t ≤ mostSize → Broken m (nodesIn new (size t)) (rootIn new (size t)) → ⊥
   read-good m h l = subst (λ (k : List Node). Broken m k (nodeAt k (size t - 1)) → ⊥) same (nodes-good m t h l)
 
 -- ---- "What the printer writes, read back with the same names, prints the same"

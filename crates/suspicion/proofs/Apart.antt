@@ -12,7 +12,7 @@ use lib.Dec.{ltb}
 use lib.ListN.{getD, replicate}
 use Rattle.writing.specs.Writing.{digit, digits, decimal, mostDigits}
 use Rattle.lines.specs.Line.{refusedWord, newline, refusedLine}
-use Rattle.suspicion.specs.Line.{separatesLine, sessionWord, disagreesWord, disagreesLine, atWord, refusedAtLine, caret, pointedLines}
+use Rattle.suspicion.specs.Line.{separatesLine, sessionWord, disagreesWord, disagreesLine, atWord, caret, pointedLines}
 
 -- ---- the last byte, and the one before it
 
@@ -99,17 +99,11 @@ separates-disagrees j e = let z : _≡_ {A = ℕ} 112 115 = ap (λ (l : List ℕ
 pub separates-refused : (k : ℕ) → separatesLine ≡ refusedLine k → ⊥
 separates-refused k e = let z : _≡_ {A = ℕ} 115 114 = head-eq-of-cons-eq e in omega arith
 
-pub separates-refused-at : (k o : ℕ) → separatesLine ≡ refusedAtLine k o → ⊥
-separates-refused-at k o e = let z : _≡_ {A = ℕ} 115 114 = head-eq-of-cons-eq e in omega arith
-
 pub separates-pointed : (typed : List ℕ) (o k : ℕ) → separatesLine ≡ pointedLines typed o k → ⊥
 separates-pointed typed o k e = omega (arith, separates-ends, ap (lastButOne 0 0) e, pointed-ends typed o k)
 
 pub disagrees-refused : (j k : ℕ) → disagreesLine j ≡ refusedLine k → ⊥
 disagrees-refused j k e = let z : _≡_ {A = ℕ} 115 114 = head-eq-of-cons-eq e in omega arith
-
-pub disagrees-refused-at : (j k o : ℕ) → disagreesLine j ≡ refusedAtLine k o → ⊥
-disagrees-refused-at j k o e = let z : _≡_ {A = ℕ} 115 114 = head-eq-of-cons-eq e in omega arith
 
 pub disagrees-pointed : (j : ℕ) (typed : List ℕ) (o k : ℕ) → disagreesLine j ≡ pointedLines typed o k → ⊥
 disagrees-pointed j typed o k e = omega (arith, before-end 0 0 (sessionWord ++ decimal j), ap (lastButOne 0 0) e, pointed-ends typed o k)
