@@ -1,7 +1,7 @@
--- No two answers have the same lines: the byte before the last tells a verdict from a refusal, the third one verdict from the other, and the digits
--- are those of one number.
+-- No other answer has the line of a verdict: the byte before the last, or the first one, tells a verdict from a refusal, the third one verdict from the
+-- other, and the digits are those of one number.
 -- Assumes nothing.
-use mathlib.Core.Path.{_≡_, refl, sym, ap, _∙_, subst}
+use mathlib.Core.Path.{_≡_, refl, sym, ap, _∙_}
 use mathlib.Core.Bool.{Bool, true, false, cond}
 use mathlib.Core.List.{List, [], _∷_, _++_, append-assoc, append-cancel-left, append-cancel-right, head-eq-of-cons-eq}
 use Prim.Native.Nat.{ℕ, zero, suc, _+_, _-_, _*_, _/_, _%_, _^_, _≤_, _<_}

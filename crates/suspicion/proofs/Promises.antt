@@ -1,10 +1,10 @@
 -- The lines mean what they say: the nodes that were read spell the formula that was typed, the check's answer is of what they spell, and no other answer
--- has the same lines.
+-- has a verdict's line.
 -- Assumes nothing.
 use mathlib.Core.Path.{_≡_, refl, sym, ap, _∙_, subst}
 use mathlib.Core.Logic.{inl, inr, ⊎-elim}
 use mathlib.Core.List.{List, [], _∷_, append-nil, head-eq-of-cons-eq, tail-eq-of-cons-eq, nil≢cons}
-use Prim.Native.Nat.{ℕ, _-_, _^_, _≤_, _<_}
+use Prim.Native.Nat.{ℕ, _-_, _<_}
 use native.Mathlib.Omega.{arith}
 use lib.ListN.{length, take, getD}
 use Rattle.reading.specs.Reading.{Got, got, bad, section}
@@ -13,11 +13,11 @@ use Rattle.names.proofs.Theorems.{names-accepts}
 use Rattle.rules.specs.Refusals.{Decided}
 use Rattle.rules.proofs.Refusals.{decided-unique}
 use Rattle.session.specs.Recording.{Recording}
-use Rattle.file.specs.Format.{Parts, Good, GoodFile, fileBytes}
+use Rattle.file.specs.Format.{Parts, Good, GoodFile}
 use Rattle.file.specs.Offence.{wholeFile}
 use Rattle.file.proofs.Theorems.{handed-out-passes}
 use Rattle.file.proofs.Whole.{passed-is-good, good-passes}
-use Rattle.formula.specs.Formula.{Formula, size, Separates}
+use Rattle.formula.specs.Formula.{Formula, Separates}
 use Rattle.formula.specs.Recorded.{markedTraces}
 use Rattle.formula.specs.Nodes.{Node, nodeAt, Spells, codes}
 use Rattle.formula.specs.Rule.{Broken as NodesBroken}

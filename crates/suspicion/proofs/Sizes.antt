@@ -18,7 +18,7 @@ use Rattle.reader.specs.declared.Parsed.the-variants as parsed
 use Rattle.reader.specs.Parsing.{Columns, saidParsed, Parses}
 use Rattle.writing.specs.Writing.{decimal, mostDigits}
 use Rattle.writing.proofs.Writing.{wrote-whole}
-use Rattle.lines.specs.Line.{refusedWord, newline, refusedLine}
+use Rattle.lines.specs.Line.{refusedWord, newline}
 use Rattle.lines.proofs.Digits.{refused-short}
 use Rattle.writing.proofs.Digits.{few-digits}
 use Rattle.suspicion.specs.Line.{sessionWord, disagreesWord, disagreesLine, atWord, refusedAtLine, caret, pointedLines}

@@ -3,46 +3,23 @@
 -- Assumes nothing.
 use mathlib.Core.Path.{_≡_, refl, sym, ap, _∙_, subst}
 use mathlib.Core.Logic.{_⊎_, inl, inr, ⊎-elim}
-use mathlib.Core.List.{List, [], _∷_, _++_, map, head-eq-of-cons-eq}
-use Prim.Native.Nat.{ℕ, zero, suc, _+_, _-_, _≤_, _<_}
+use mathlib.Core.List.{List, [], _∷_, map, head-eq-of-cons-eq}
+use Prim.Native.Nat.{ℕ, zero, suc, _≤_, _<_}
 use native.Mathlib.Decide.{decLt}
 use native.Mathlib.Omega.{arith}
 use lib.ListN.{length, take, drop, replicate, length-append, length-map}
 use Rattle.rules.specs.Answers.{Said, over}
 use Rattle.rules.specs.Limits.{mostSize}
-use Rattle.formula.specs.Formula.{Formula, leaf, unary, binary, size}
+use Rattle.formula.specs.Formula.{Formula, size}
 use Rattle.formula.proofs.Trees.{size-pos}
 use Rattle.formula.specs.Nodes.{Node, codes}
-use Rattle.names.specs.Names.{namesIn}
-use Rattle.grammar.specs.Grammar.{Reads, Refused11}
-use Rattle.grammar.specs.Nodes.{node, nodesOf}
-use Rattle.grammar.specs.Naming.{typed}
-use Rattle.reader.specs.Words.{mostBytes, FirstUnknown}
+use Rattle.grammar.specs.Nodes.{nodesOf}
+use Rattle.reader.specs.Words.{mostBytes}
 use Rattle.reader.specs.declared.Parsed.{Parsed}
-use Rattle.reader.specs.declared.Parsed.the-variants.{Nodes, Broken, Stops, Unknown, Refused}
+use Rattle.reader.specs.declared.Parsed.the-variants.{Nodes, Stops, Unknown}
 use Rattle.reader.specs.Parsing.{Decides, Columns, saidParsed, parseRows, Taken, Parses}
-
--- a formula as it is typed has as many nodes
-same-size : (names : List (List ℕ)) (t : Formula) → size (typed names t) ≡ size t
-unfolding typed
-same-size names (leaf c) = refl
-same-size names (unary u t) = omega (arith, same-size names t)
-same-size names (binary o l r) = omega (arith, same-size names l, same-size names r)
-
--- and so many are written
-length-nodes : (p : ℕ) (t : Formula) → length (nodesOf codes p t) ≡ size t
-unfolding nodesOf
-length-nodes p (leaf c) = refl
-length-nodes p (unary u t) = omega (arith, length-append (nodesOf codes p t) (node (codes .ofUnary u) (p + size t - 1) 0 (1 + size t) ∷ []), length-nodes p t)
-length-nodes p (binary o l r) =
-    let last : List Node = node (codes .ofBinary o) (p + size l - 1) (p + size l + size r - 1) (1 + size l + size r) ∷ [] in
-    omega (
-      arith,
-      length-append (nodesOf codes p l) (nodesOf codes (p + size l) r ++ last),
-      length-append (nodesOf codes (p + size l) r) last,
-      length-nodes p l,
-      length-nodes (p + size l) r,
-    )
+use Rattle.reader.proofs.Scratch.{nodes-length}
+use Rattle.round_trip.proofs.Contracts.{parse-passed}
 
 module _ (names text : List ℕ) (old left : Columns) where
   -- an offset carried by a refusal is within the text
@@ -89,35 +66,22 @@ module _ (names text : List ℕ) (old left : Columns) where
 
   front-in : (f : Node → ℕ) (t : Formula) (list : List ℕ) → size t ≤ length (over (map f (nodesOf codes 0 t)) list)
   front-in f t list =
-      omega (arith, length-append (map f (nodesOf codes 0 t)) (drop (length (map f (nodesOf codes 0 t))) list), length-map (nodesOf codes 0 t) f, length-nodes 0 t)
+      omega (arith, length-append (map f (nodesOf codes 0 t)) (drop (length (map f (nodesOf codes 0 t))) list), length-map (nodesOf codes 0 t) f, nodes-length codes 0 t)
 
-  taken-few : (s : Said) (n : ℕ) → s .values ≡ n ∷ [] → ((t : Formula) → Reads text (typed (namesIn names) t) → mostSize < size t → ⊥)
-      → Taken names text old left s → Few n
-  taken-few s n v large t =
+  pub few-nodes : {p : Parsed} {n : ℕ} → p ≡ Nodes n → Parses names text old left (saidParsed p) → Few n
+  few-nodes {p} {n} e a =
+      let d = parse-passed names text old left (saidParsed p) a (ap (λ (q : Parsed). saidParsed q .number) e) in
+      let t = d .taken in
       let f = t .formula in
-      let h : size f ≡ n = head-eq-of-cons-eq (sym (t .values) ∙ v) in
+      let h : size f ≡ n = head-eq-of-cons-eq (sym (t .values) ∙ ap (λ (q : Parsed). saidParsed q .values) e) in
       subst Few h (record {
         some = size-pos f;
-        most = elim (decLt mostSize (size f)) [ yes g ↦ absurd (large f (t .reads) g) | no g ↦ omega arith ];
+        most = d .small;
         codes-in = subst (λ (c : Columns). size f ≤ length (c .codes)) (sym (t .nodes)) (front-in (λ x. x .code) f (old .codes));
         lefts-in = subst (λ (c : Columns). size f ≤ length (c .lefts)) (sym (t .nodes)) (front-in (λ x. x .left) f (old .lefts));
         rights-in = subst (λ (c : Columns). size f ≤ length (c .rights)) (sym (t .nodes)) (front-in (λ x. x .right) f (old .rights));
         sizes-in = subst (λ (c : Columns). size f ≤ length (c .sizes)) (sym (t .nodes)) (front-in (λ x. x .size) f (old .sizes));
       })
-
-  few : (s : Said) (n : ℕ) → s .number ≡ 0 → s .values ≡ n ∷ [] → Decides (parseRows names text old) (Taken names text old left) s → Few n
-  unfolding Decides
-  few s n z v (inl a) = absurd (omega (arith, a .0))
-  few s n z v (inr (_, inl a)) = absurd (omega (arith, a .0))
-  few s n z v (inr (_, inr (_, inl a))) = absurd (omega (arith, a .0))
-  few s n z v (inr (_, inr (_, inr (_, inl a)))) = absurd (omega (arith, a .0))
-  few s n z v (inr (_, inr (_, inr (_, inr (_, inl a))))) = absurd (omega (arith, a .0))
-  few s n z v (inr (_, inr (_, inr (_, inr (_, inr (_, inl a)))))) = absurd (omega (arith, a .0))
-  few s n z v (inr (_, inr (_, inr (_, inr (_, inr (large, inr (_, t))))))) =
-      taken-few s n v (λ f r g. large [] (refl, inl (typed (namesIn names) f, r, omega (arith, same-size (namesIn names) f)))) t
-
-  pub few-nodes : {p : Parsed} {n : ℕ} → p ≡ Nodes n → Parses names text old left (saidParsed p) → Few n
-  few-nodes {p} {n} e a = few (saidParsed p) n (ap (λ (q : Parsed). saidParsed q .number) e) (ap (λ (q : Parsed). saidParsed q .values) e) (a .answer)
 
 -- the first of equal numbers
 pub take-replicate : (k n : ℕ) (v : ℕ) → k ≤ n → take k (replicate n v) ≡ replicate k v

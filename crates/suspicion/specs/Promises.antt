@@ -42,7 +42,7 @@ pub data Answer (p : Parts) (text out : List ℕ) : Type 0 where
   is-unknown : (o : ℕ) → out ≡ pointedLines text o 13 → IsFormula text → FirstUnknown (p .names) text o → Answer p text out
   is-large : out ≡ refusedLine 12 → (mostBytes < length text) ⊎ ((u : Typed) × Reads text u × (mostSize < size u)) ⊎ Deep text → Answer p text out
 
--- and no two of these have the same lines: what a line says is so, whichever lines it stands among. N has at most 20 digits
+-- and no other answer has the line of a verdict: where such a line is all that is written, it is so. N has at most 20 digits
 pub record Meant (p : Parts) (text out : List ℕ) : Type 0 where
   pub answer : Answer p text out
   pub separates : out ≡ separatesLine → (t : Formula) × IsTyped (p .names) text t × Separates (markedTraces (recordingOf p)) t
