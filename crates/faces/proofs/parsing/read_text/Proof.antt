@@ -1,0 +1,100 @@
+-- `parsing::read_text` meets its contract: the reader writes into arrays, and the formula's nodes are made of their fields.
+-- Assumes nothing.
+use mathlib.Core.Path.{sym}
+use lib.Seq.{length-take-le}
+use borrow.Author.Needs.{needs}
+use Rattle.faces.proofs.Placed.{read-in, count-in-room, cut-most}
+use Rattle.faces.proofs.parsing.read_text.Statement.{statement}
+use Rattle.faces.proofs.parsing.read_text.Tie as tie
+
+room-of-requires : tie.Need-room-of-requires
+room-of-requires c κs = search needs
+
+bytes-requires : tie.Need-bytes-requires
+bytes-requires c κs = search needs
+
+places-requires : tie.Need-places-requires
+places-requires c κs = search needs
+
+places-requires-2 : tie.Need-places-requires-2
+places-requires-2 c κs = search needs
+
+bytes-requires-2 : tie.Need-bytes-requires-2
+bytes-requires-2 c κs = search needs
+
+array-borrow-prefix-codes : tie.Need-array-borrow-prefix-codes
+array-borrow-prefix-codes c = search needs
+
+slice-aggregate-parse : tie.Need-slice-aggregate-parse
+slice-aggregate-parse c = sym (length-take-le _ _ (search needs))
+
+array-borrow-prefix-lefts : tie.Need-array-borrow-prefix-lefts
+array-borrow-prefix-lefts c = search needs
+
+slice-aggregate-parse-2 : tie.Need-slice-aggregate-parse-2
+slice-aggregate-parse-2 c = sym (length-take-le _ _ (search needs))
+
+array-borrow-prefix-rights : tie.Need-array-borrow-prefix-rights
+array-borrow-prefix-rights c = search needs
+
+slice-aggregate-parse-3 : tie.Need-slice-aggregate-parse-3
+slice-aggregate-parse-3 c = sym (length-take-le _ _ (search needs))
+
+array-borrow-prefix-sizes : tie.Need-array-borrow-prefix-sizes
+array-borrow-prefix-sizes c = search needs
+
+slice-aggregate-parse-4 : tie.Need-slice-aggregate-parse-4
+slice-aggregate-parse-4 c = sym (length-take-le _ _ (search needs))
+
+parse-requires : tie.Need-parse-requires
+parse-requires c κs = search needs
+
+count-in-requires : tie.Need-count-in-requires
+count-in-requires c κs = search needs
+
+pack-requires : tie.Need-pack-requires
+pack-requires c κs =
+    count-in-room _ _ _ _ (c .before .before .before .before .before .parse .result) _ _ (c .before .before .before .before .before .parse .ensures) (c .before .before .before .before .before .parse .kept .1 .1 .0)
+    (cut-most _ _ _ (c .before .before .before .before .before .before .before .before .before .before .before .before .before .before .room-of .ensures) (c .before .before .before .before .before .before .before .before .before .before .before .before .before .bytes .ensures)) (c .count-in .ensures)
+
+returns : tie.Need-returns
+returns c =
+    read-in _ _ _ (record { answer = c .before .before .before .before .before .before .parse .result; nodes = _; count = _ }) (record {
+      given = _;
+      left = _;
+      codes-beyond = _;
+      lefts-beyond = _;
+      rights-beyond = _;
+      sizes-beyond = _;
+      codes-given = cut-most _ _ _ (c .before .before .before .before .before .before .before .before .before .before .before .before .before .before .before .room-of .ensures) (c .before .before .before .before .before .before .before .before .before .before .before .before .before .before .bytes .ensures);
+      lefts-given = cut-most _ _ _ (c .before .before .before .before .before .before .before .before .before .before .before .before .before .before .before .room-of .ensures) (c .before .before .before .before .before .before .before .before .before .before .before .before .before .places .ensures);
+      rights-given = cut-most _ _ _ (c .before .before .before .before .before .before .before .before .before .before .before .before .before .before .before .room-of .ensures) (c .before .before .before .before .before .before .before .before .before .before .before .before .places2 .ensures);
+      sizes-given = cut-most _ _ _ (c .before .before .before .before .before .before .before .before .before .before .before .before .before .before .before .room-of .ensures) (c .before .before .before .before .before .before .before .before .before .before .before .bytes2 .ensures);
+      codes-left = c .before .before .before .before .before .before .parse .kept .1 .1 .0;
+      count-is = c .before .count-in .ensures;
+      most-is = search needs;
+      parsed = c .before .before .before .before .before .before .parse .ensures;
+      filled = c .pack .ensures;
+    })
+
+pub read-text-spec : {M : Type 1} → statement M
+read-text-spec =
+    tie.close
+    (tie.spec
+    room-of-requires
+    bytes-requires
+    places-requires
+    places-requires-2
+    bytes-requires-2
+    array-borrow-prefix-codes
+    slice-aggregate-parse
+    array-borrow-prefix-lefts
+    slice-aggregate-parse-2
+    array-borrow-prefix-rights
+    slice-aggregate-parse-3
+    array-borrow-prefix-sizes
+    slice-aggregate-parse-4
+    parse-requires
+    count-in-requires
+    pack-requires
+    returns)
