@@ -8,7 +8,7 @@ use Prim.Native.Nat.{ℕ, _<_, _≤_, min}
 use native.Mathlib.Decide.{decLe}
 use native.Mathlib.Omega.{arith}
 use lib.ListN.{length, take, drop, length-map, length-take}
-use Rattle.rules.specs.Answers.{Said, over}
+use Rattle.rules.specs.Answers.{Said}
 use Rattle.formula.specs.Formula.{size, Formula}
 use Rattle.formula.specs.Nodes.{codes}
 use Rattle.formula.specs.Nodes as walk
@@ -144,10 +144,13 @@ module _ (file text : List ℕ) (n : ℕ) (d : Read) (ran : Ran file text n d) (
   abbrev answer : Said
   answer = saidParsed (d .answer)
 
+  as-long : (f : Node → ℕ) → length (map f ns) ≡ n
+  as-long f = length-map ns f ∙ long
+
   room-cut : roomOf (ran .given) ≡ min (roomOf (fields ns)) most
   room-cut =
       alike _ _ _ _ _ (ran .codes-given) (ran .lefts-given) (ran .rights-given) (ran .sizes-given)
-      ∙ ap (λ (m : ℕ). min m most) (sym (alike _ _ _ _ n (length-map ns (λ m. m .code) ∙ long) (length-map ns (λ m. m .left .0) ∙ long) (length-map ns (λ m. m .right .0) ∙ long) (length-map ns (λ m. m .size) ∙ long)))
+      ∙ ap (λ (m : ℕ). min m most) (sym (alike _ _ _ _ n (as-long (λ m. m .code)) (as-long (λ m. m .left .0)) (as-long (λ m. m .right .0)) (as-long (λ m. m .size))))
 
   placed : (t : Formula) → d .count ≡ size t → ran .left ≡ written (list t) (ran .given) → fields (placedOver d ns) ≡ written (list t) (fields ns)
   placed t k e =
@@ -187,7 +190,8 @@ module _ (file text : List ℕ) (n : ℕ) (d : Read) (ran : Ran file text n d) (
       let m = ran .most-is in (
         (omega (arith, b, g, c, m), omega (arith, b, g, c)),
         record {
-          answer = same-rows file text (ran .given) (fields ns) room-cut (Taken file text (ran .given) (ran .left)) (Taken file text (fields ns) (fields (placedOver d ns))) answer taken-over (ran .parsed .answer);
+          answer = same-rows file text (ran .given) (fields ns) room-cut (Taken file text (ran .given) (ran .left))
+              (Taken file text (fields ns) (fields (placedOver d ns))) answer taken-over (ran .parsed .answer);
           refused = refused-over;
         },
       )

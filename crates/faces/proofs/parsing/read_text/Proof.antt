@@ -54,26 +54,34 @@ count-in-requires c κs = search needs
 
 pack-requires : tie.Need-pack-requires
 pack-requires c κs =
-    count-in-room _ _ _ _ (c .before .before .before .before .before .parse .result) _ _ (c .before .before .before .before .before .parse .ensures) (c .before .before .before .before .before .parse .kept .1 .1 .0)
-    (cut-most _ _ _ (c .before .before .before .before .before .before .before .before .before .before .before .before .before .before .room-of .ensures) (c .before .before .before .before .before .before .before .before .before .before .before .before .before .bytes .ensures)) (c .count-in .ensures)
+    let read = c .before .before .before .before .before in
+    let codes = read .before .before .before .before .before .before .before .before in
+    count-in-room _ _ _ _ (read .parse .result) _ _ (read .parse .ensures) (read .parse .kept .1 .1 .0)
+    (cut-most _ _ _ (codes .before .room-of .ensures) (codes .bytes .ensures)) (c .count-in .ensures)
 
 returns : tie.Need-returns
 returns c =
-    read-in _ _ _ (record { answer = c .before .before .before .before .before .before .parse .result; nodes = _; count = _ }) (record {
+    let read = c .before .before .before .before .before .before in
+    let sizes = read .before .before .before .before .before in
+    let rights = sizes .before in
+    let lefts = rights .before in
+    let codes = lefts .before in
+    let room = codes .before in
+    read-in _ _ _ (record { answer = read .parse .result; nodes = _; count = _ }) (record {
       given = _;
       left = _;
       codes-beyond = _;
       lefts-beyond = _;
       rights-beyond = _;
       sizes-beyond = _;
-      codes-given = cut-most _ _ _ (c .before .before .before .before .before .before .before .before .before .before .before .before .before .before .before .room-of .ensures) (c .before .before .before .before .before .before .before .before .before .before .before .before .before .before .bytes .ensures);
-      lefts-given = cut-most _ _ _ (c .before .before .before .before .before .before .before .before .before .before .before .before .before .before .before .room-of .ensures) (c .before .before .before .before .before .before .before .before .before .before .before .before .before .places .ensures);
-      rights-given = cut-most _ _ _ (c .before .before .before .before .before .before .before .before .before .before .before .before .before .before .before .room-of .ensures) (c .before .before .before .before .before .before .before .before .before .before .before .before .places2 .ensures);
-      sizes-given = cut-most _ _ _ (c .before .before .before .before .before .before .before .before .before .before .before .before .before .before .before .room-of .ensures) (c .before .before .before .before .before .before .before .before .before .before .before .bytes2 .ensures);
-      codes-left = c .before .before .before .before .before .before .parse .kept .1 .1 .0;
+      codes-given = cut-most _ _ _ (room .room-of .ensures) (codes .bytes .ensures);
+      lefts-given = cut-most _ _ _ (room .room-of .ensures) (lefts .places .ensures);
+      rights-given = cut-most _ _ _ (room .room-of .ensures) (rights .places2 .ensures);
+      sizes-given = cut-most _ _ _ (room .room-of .ensures) (sizes .bytes2 .ensures);
+      codes-left = read .parse .kept .1 .1 .0;
       count-is = c .before .count-in .ensures;
       most-is = search needs;
-      parsed = c .before .before .before .before .before .before .parse .ensures;
+      parsed = read .parse .ensures;
       filled = c .pack .ensures;
     })
 
