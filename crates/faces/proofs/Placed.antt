@@ -93,9 +93,9 @@ count-within file text old new (Stops o) p l = omega arith
 count-within file text old new (Unknown o) p l = omega arith
 count-within file text old new (Refused k) p l = omega arith
 
-pub count-in-room : (file text : List ℕ) (old new : Columns) (a : Parsed) (n k : ℕ) → Parses file text old new (saidParsed a)
-    → length (new .codes) ≡ length (old .codes) → length (old .codes) ≡ min n most → k ≡ countIn a → k ≤ most
-count-in-room file text old new a n k p l e h = omega (arith, count-within file text old new a p l)
+pub count-in-room : (file text : List ℕ) (old new : Columns) (a : Parsed) (k : ℕ) → Parses file text old new (saidParsed a)
+    → length (new .codes) ≡ length (old .codes) → length (old .codes) ≤ most → k ≡ countIn a → k ≤ most
+count-in-room file text old new a k p l e h = omega (arith, count-within file text old new a p l)
 
 -- where the number is 0, as many as the answer says; else none
 count-taken : (a : Parsed) (k : ℕ) → saidParsed a .number ≡ 0 → saidParsed a .values ≡ k ∷ [] → countIn a ≡ k
@@ -112,7 +112,10 @@ count-refused (Stops o) f = refl
 count-refused (Unknown o) f = refl
 count-refused (Refused r) f = refl
 
--- an array cut to the length of a list
+-- an array cut to some length, and to that of a list
+pub cut-within : (count : ℕ) (l : List ℕ) → length l ≡ most → length (take count l) ≤ most
+cut-within count l h = omega (arith, length-take count l)
+
 pub cut-most : (n count : ℕ) (l : List ℕ) → count ≡ min n most → length l ≡ most → length (take count l) ≡ min n most
 cut-most n count l e h = omega (arith, length-take count l)
 

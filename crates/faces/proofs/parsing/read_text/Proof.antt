@@ -3,7 +3,7 @@
 use mathlib.Core.Path.{sym}
 use lib.Seq.{length-take-le}
 use borrow.Author.Needs.{needs}
-use Rattle.faces.proofs.Placed.{read-in, count-in-room, cut-most}
+use Rattle.faces.proofs.Placed.{read-in, count-in-room, cut-within, cut-most}
 use Rattle.faces.proofs.parsing.read_text.Statement.{statement}
 use Rattle.faces.proofs.parsing.read_text.Tie as tie
 
@@ -56,8 +56,8 @@ pack-requires : tie.Need-pack-requires
 pack-requires c κs =
     let read = c .before .before .before .before .before in
     let codes = read .before .before .before .before .before .before .before .before in
-    count-in-room _ _ _ _ (read .parse .result) _ _ (read .parse .ensures) (read .parse .kept .1 .1 .0)
-    (cut-most _ _ _ (codes .before .room-of .ensures) (codes .bytes .ensures)) (c .count-in .ensures)
+    count-in-room _ _ _ _ (read .parse .result) _ (read .parse .ensures) (read .parse .kept .1 .1 .0)
+    (cut-within (codes .before .room-of .result) (codes .bytes .result) (codes .bytes .ensures)) (c .count-in .ensures)
 
 returns : tie.Need-returns
 returns c =
