@@ -19,9 +19,10 @@ u64 scarfpylon_binary(u8, u64, u64, u64, u64, M(u64));
 u64 scarfpylon_check(u64, u64, S(u8), S(u8), S(u64), S(u8), S(u16), S(u16), S(u8), u8, u16, u16, u8, M(u64));
 u64 scarfpylon_print(S(u8), S(u8), S(u16), S(u16), S(u8), u8, u16, u16, u8, M(u8), M(u64));
 u64 scarfpylon_read(S(u8), M(u8), M(u8), M(u64), M(u8), M(u8), M(u64));
+u64 scarfpylon_parse(S(u8), S(u8), M(u8), M(u16), M(u16), M(u8), M(u64));
 
 /* Bytes of one number in each slice of each function. */
-static const u8 widths[7][11] = {
+static const u8 widths[8][11] = {
     {0},
     {1, 1, 8, 1, 1, 1, 2, 2, 1, 8, 8},
     {8},
@@ -29,6 +30,7 @@ static const u8 widths[7][11] = {
     {1, 1, 8, 1, 2, 2, 1, 8},
     {1, 1, 2, 2, 1, 1, 8},
     {1, 1, 1, 8, 1, 1, 8},
+    {1, 1, 1, 2, 2, 1, 8},
 };
 
 /* Whether all of it came; none of it at the end of the calls. */
@@ -56,7 +58,7 @@ int main(void) {
     while (get(head, sizeof head)) {
         u64 f = head[0], *x = head + 1, *n = head + 9, answer = 0;
         void *s[11];
-        if (f < 1 || f > 6) return 1;
+        if (f < 1 || f > 7) return 1;
         for (int i = 0; i < 11; i++) {
             /* One more, so that no slice is at no address. */
             s[i] = malloc(n[i] * widths[f][i] + 1);
@@ -77,6 +79,7 @@ int main(void) {
             answer = scarfpylon_print(s[0], n[0], s[1], n[1], s[2], n[2], s[3], n[3], s[4], n[4], x[0], x[1], x[2], x[3], s[5], n[5], s[6], n[6]);
             break;
         case 6: answer = scarfpylon_read(s[0], n[0], s[1], n[1], s[2], n[2], s[3], n[3], s[4], n[4], s[5], n[5], s[6], n[6]); break;
+        case 7: answer = scarfpylon_parse(s[0], n[0], s[1], n[1], s[2], n[2], s[3], n[3], s[4], n[4], s[5], n[5], s[6], n[6]); break;
         default: return 1;
         }
         put(&answer, sizeof answer);

@@ -46,8 +46,11 @@
  *      8   a session file or a names section is broken; 256 times the offset of the first offending byte is added
  *      9   a node list or its root is not as said above, or a proposition's number not as the function asks
  *     10   two sequences of unequal length
+ *     11   a text is no formula; 256 times the offset of the first byte that can't continue one is added, the text's length if it ends early
+ *     12   a text of more than 4,096 bytes, or a formula of a size above 31 or with more than 64 brackets open at once
+ *     13   a name that is not among the names; 256 times its offset is added
  *
- * So `result & 255` is the number, and for number 8 `result >> 8` is the offset.
+ * So `result & 255` is the number, and for numbers 8, 11 and 13 `result >> 8` is the offset.
  *
  * Answers are written to the last slice, `out`, which has at least 8 words; a shorter one is refused with 3. A function names the words that it
  * writes; the others stay as they were.
@@ -135,6 +138,23 @@ uint64_t scarfpylon_print(const uint8_t *names, size_t names_count,
                           const uint16_t *rights, size_t rights_count, const uint8_t *sizes, size_t sizes_count,
                           uint8_t code, uint16_t left, uint16_t right, uint8_t size,
                           uint8_t *text, size_t text_count,
+                          uint64_t *out, size_t out_count);
+
+/*
+ * Reads a formula that is typed. The names are a names section, as at scarfpylon_print. Operators as in the table above, names, `true`, `false`, and
+ * brackets `(` `)`; any number of spaces before, between and after them, and at least one between two words: `pUq` is a name. `!`, `X`, `X[!]`, `F` and
+ * `G` bind tightest; then `U` and `R`, to the right (`p U q U r` is `p U (q U r)`), `&` and then `|`, to the left, and lowest `->` and `<->` together, to
+ * the right.
+ *
+ * Writes the formula's nodes at the start of codes, lefts, rights and sizes: left child, right child, parent, nothing shared, so that the last one is the
+ * root; what is beyond stays as it was. And out[0]: how many nodes, at most 31. For scarfpylon_check and scarfpylon_print the list is those before the
+ * last, or all of them, and the root is the last.
+ * Refuses with 8 (the names), 12 (the text's length), 11, 13, 12 (size or brackets), then 3 (the shortest of the four slices below the number of nodes,
+ * `out`). The offset of 11 goes by the grammar alone, whatever the names; those of 11 and 13 are at most 4,096.
+ */
+uint64_t scarfpylon_parse(const uint8_t *names, size_t names_count, const uint8_t *text, size_t text_count,
+                          uint8_t *codes, size_t codes_count, uint16_t *lefts, size_t lefts_count,
+                          uint16_t *rights, size_t rights_count, uint8_t *sizes, size_t sizes_count,
                           uint64_t *out, size_t out_count);
 
 /*

@@ -73,6 +73,15 @@ impl Reader<'_> {
         Ok(name)
     }
 
+    fn names(&mut self) -> Result<Vec<String>, usize> {
+        let mut names = vec![];
+        for _ in 0..self.good(|m| (1..=16).contains(&m))? {
+            let name = self.name(&names)?;
+            names.push(name);
+        }
+        Ok(names)
+    }
+
     /// Eight bytes, low byte first; a bit at or above the length offends at the word's first byte, once the word is whole.
     fn word(&mut self, length: usize) -> Result<Vec<bool>, usize> {
         let start = self.at;
@@ -99,14 +108,20 @@ impl Reader<'_> {
     }
 }
 
+/// The names of a names section with nothing after it, or the offset at which a bad one offends.
+pub fn names(section: &[u8]) -> Result<Vec<String>, usize> {
+    let mut reader = Reader { file: section, at: 0 };
+    let names = reader.names()?;
+    if reader.at < section.len() {
+        return Err(reader.at);
+    }
+    Ok(names)
+}
+
 /// The parts of a good file, or the offset at which a bad one offends.
 pub fn read(file: &[u8]) -> Result<Parts, usize> {
     let mut reader = Reader { file, at: 0 };
-    let mut names = vec![];
-    for _ in 0..reader.good(|m| (1..=16).contains(&m))? {
-        let name = reader.name(&names)?;
-        names.push(name);
-    }
+    let names = reader.names()?;
     let mut sessions = vec![];
     for _ in 0..reader.good(|r| (1..=32).contains(&r))? {
         let mark = reader.good(|mark| mark <= 1)? == 1;

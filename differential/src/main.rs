@@ -15,6 +15,7 @@ mod findings;
 mod formulas;
 mod judge;
 mod oracle;
+mod parses;
 mod program;
 mod query;
 mod refusals;
@@ -35,6 +36,9 @@ const USAGE: &str = "differential: one of
   searches --short         the same with fewer of both
   searches --archive ..    the same through the archive that ships, in a program of its own (default: 2000 random ones)
   calls [ROUNDS]           operators, check, print and read of the C boundary (default: 20 rounds); with --archive before it, as above
+  parses [COUNT]           formulas read from text, against a reader written from document 02's prose: every short text and COUNT random ones
+                           (default: 100000); with --archive before it, as above, the random ones alone (default: 2000)
+  parses --short           the same with fewer of both
   speed                    how fast our search runs beside the Rust's; only with --profile speed --features published-hash
   speed --beside FILE      how fast it runs beside an earlier library of ours (an absolute path); with the same profile
   until                    how fast `U` is in each form that was tried; only with --profile speed
@@ -64,6 +68,7 @@ fn main() {
         },
         ["searches", rest @ ..] => searches(rest),
         ["calls", rest @ ..] => calls(rest),
+        ["parses", rest @ ..] => parses(rest),
         ["collision"] => search::collision(),
         ["speed"] => search::speed(),
         ["speed", "--beside", file] => search::speed_beside(file),
@@ -100,6 +105,20 @@ fn calls(words: &[&str]) -> i32 {
         _ => None,
     };
     rounds.map_or_else(usage, |rounds| calls::run(way, rounds))
+}
+
+fn parses(words: &[&str]) -> i32 {
+    let (way, most, rest) = match words {
+        ["--archive", rest @ ..] => (Way::Served, 2_000, rest),
+        rest => (Way::Linked, 100_000, rest),
+    };
+    let extent = match rest {
+        [] => Some(parses::Extent::full(way, most)),
+        ["--short"] => Some(parses::Extent::short(way)),
+        [count] => count.parse().ok().map(|count| parses::Extent::full(way, count)),
+        _ => None,
+    };
+    extent.map_or_else(usage, |extent| parses::run(way, extent))
 }
 
 fn usage() -> i32 {

@@ -104,7 +104,7 @@ module _ {A B : Type 0} (f : A → B) where
   map-both (x ∷ l) m = ap (λ (r : List B). f x ∷ r) (map-both l m)
 
 -- the kept ones are the array's first, and stand over the list's first
-column : (f : Node → ℕ) (xs old c tail : List ℕ) (ns list : List Node) (k : ℕ) → length xs ≡ k → c ≡ over xs old → take k (c ++ tail) ≡ take k (map f list)
+pub column : (f : Node → ℕ) (xs old c tail : List ℕ) (ns list : List Node) (k : ℕ) → length xs ≡ k → c ≡ over xs old → take k (c ++ tail) ≡ take k (map f list)
     → map f (take k list ++ drop k ns) ≡ over xs (map f ns)
 column f xs old c tail ns list k l e t =
     let first : take k (c ++ tail) ≡ xs =
@@ -113,7 +113,7 @@ column f xs old c tail ns list k l e t =
     ∙ ap (λ (z : List ℕ). z ++ map f (drop k ns)) (map-take f k list ∙ sym t ∙ first)
     ∙ ap (λ (z : List ℕ). xs ++ z) (map-drop f k ns ∙ ap (λ (z : ℕ). drop z (map f ns)) (sym l))
 
-within : (xs old c : List ℕ) → c ≡ over xs old → length c ≡ length old → length xs ≤ length old
+pub within : (xs old c : List ℕ) → c ≡ over xs old → length c ≡ length old → length xs ≤ length old
 within xs old c e l =
     let n : length c ≡ length (over xs old) = ap length e in
     omega (arith, n, length-append xs (drop (length xs) old), length-drop (length xs) old)

@@ -5,3 +5,5 @@ pub mod Cut
 pub mod Seen
 pub mod Unique
 pub mod Kept
+pub mod Placed
+pub mod OneParse

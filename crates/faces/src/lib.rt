@@ -1,19 +1,23 @@
-// Faces over lent lists of nodes: check, print and search with a slice of `Node` structs where the core has four slices of numbers. Thin functions:
-// they copy nodes (`lists`) and hand them on to the work on numbers (`columns`).
+// Faces over lent lists of nodes: check, print, search and parse with a slice of `Node` structs where the core has four slices of numbers. Thin functions:
+// they copy nodes (`lists`, `parsing`) and hand them on to the work on numbers (`columns`, `parsing`).
 mod columns;
 mod lists;
+mod parsing;
 
 use formula::Verdict;
 use formula::kinds::Node;
+use reader::Parsed;
 use search::SearchAnswer;
 use text::Printed;
 ghost use Rattle.formula.specs.Kinds.{nodeOf};
 ghost use Rattle.formula.specs.Check.{saidVerdict, CheckAnswer};
 ghost use Rattle.session.specs.Recording.{recording};
 ghost use Rattle.text.specs.Print.{saidPrinted, Prints};
+ghost use Rattle.reader.specs.Parsing.{saidParsed, Parses};
 ghost use Rattle.search.specs.Search.{Searched};
 ghost use Rattle.walk.specs.Input.{inputOf};
 ghost use Rattle.faces.specs.Lists.{plain, columns};
+ghost use Rattle.faces.specs.Typed.{fields};
 
 // The analyst's check of a node list, whoever wrote it.
 pub fn check(
@@ -75,4 +79,12 @@ pub fn search(
         matrices,
     );
     lists::put_back(done, nodes)
+}
+
+// A formula that is typed with names of a lent names section, its nodes in a lent list of nodes: left child, right child, parent, the root last.
+pub fn parse(names: &[u8], text: &[u8], nodes: &mut [Node]) -> Parsed
+    ensures { λ p. ⌜ Parses (now (names .entry)) (now (text .entry)) (fields (now (nodes .entry))) (fields (now (nodes .exit))) (saidParsed p) ⌝ }
+{
+    let read = parsing::read_text(names, text, nodes.len());
+    parsing::put(read, nodes)
 }

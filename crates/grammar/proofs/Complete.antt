@@ -12,11 +12,12 @@ use Rattle.sequence.specs.Operators.{Unary, unaryToken}
 use Rattle.grammar.specs.Token.{Atom, name, constant, Token, pre, mid, atom, opens, closes, spell, spellAtom, isWord, Good, Apart, Spells, end, gap, token}
 use Rattle.sequence.specs.Operators.Unary.{not, weakNext, strongNext, finally, globally}
 use Rattle.sequence.specs.Operators.Binary.{or, and, until, release, implies, equiv}
-use Rattle.grammar.specs.Name.{WordBytes}
-use Rattle.grammar.specs.Scan.{Kind, wordy, square, sign, kind, same, Class, prefixed, leafy, neither, classify, State, ready, apart, after, word, rest, Step, dead, go, emit, onReady, onReadySign, onAfter, onAfterSign, onWord, onApart, step, Scan, good, bad, finish, behind, follow, scan}
+use Rattle.names.specs.Names.{sameBytes}
+use Rattle.grammar.specs.Scan.{Kind, wordy, square, sign, kind, Class, prefixed, leafy, neither, classify, State, ready, apart, after, word, rest, Step, dead, go, emit, onReady, onReadySign, onAfter, onAfterSign, onWord, onApart, step, Scan, good, bad, finish, behind, follow, scan}
 use Rattle.grammar.specs.Passing.{ahead}
 use Rattle.grammar.proofs.Flat.{Phase, awaits, has, Flat, done, leaves, prefixes, opened, infixes, closed}
-use Rattle.grammar.proofs.Words.{true-false, KindIs, kind-is, kind-word, letter-word, Begun, class-name}
+use Rattle.reading.proofs.Lists.{true-false}
+use Rattle.grammar.proofs.Words.{WordBytes, KindIs, kind-is, kind-word, letter-word, Begun, class-name, letter-first}
 
 pub bad-good : {k : ℕ} {ts : List Token} → bad k ≡ good ts → ⊥
 bad-good e = let z : _≡_ {A = ℕ} 0 1 = cc in omega arith
@@ -46,25 +47,25 @@ no-square d (b ∷ text) {ts} e = by-test (eqb b 91) refl
     by-test false q = refl
 
 module _ (w : List ℕ) (d : ℕ) where
-  only-next : {c : Class} → classify w ≡ c → (c ≡ prefixed weakNext → ⊥) → same w (unaryToken weakNext) ≡ false
+  only-next : {c : Class} → classify w ≡ c → (c ≡ prefixed weakNext → ⊥) → sameBytes w (unaryToken weakNext) ≡ false
   unfolding classify
-  only-next {c} e n = by-test (same w (unaryToken weakNext)) refl
+  only-next {c} e n = by-test (sameBytes w (unaryToken weakNext)) refl
     where
-      by-test : (t : Bool) → same w (unaryToken weakNext) ≡ t → t ≡ false
+      by-test : (t : Bool) → sameBytes w (unaryToken weakNext) ≡ t → t ≡ false
       by-test true q = let p : classify w ≡ prefixed weakNext = rw q in absurd (n (sym e ∙ p))
       by-test false q = refl
 
   -- a whole word, where no word goes on: a prefix operator, a leaf, or neither
-  pub ended-prefix : {u : Unary} → classify w ≡ prefixed u → (text : List ℕ) → Apart text → (same w (unaryToken weakNext) ≡ true → NoSquare text) → scan (word w d) text ≡ ahead 0 (pre u ∷ []) (scan (ready d) text)
+  pub ended-prefix : {u : Unary} → classify w ≡ prefixed u → (text : List ℕ) → Apart text → (sameBytes w (unaryToken weakNext) ≡ true → NoSquare text) → scan (word w d) text ≡ ahead 0 (pre u ∷ []) (scan (ready d) text)
   unfolding scan step finish
   ended-prefix {u} c [] a n = rw c
   ended-prefix {u} c (b ∷ text) a n = at-kind (kind b) (kind-is b)
     where
       at-kind : (k : Kind) → KindIs b k → follow (onWord w d b k) (λ t. scan t text) ≡ ahead 0 (pre u ∷ []) (follow (onReady d b k) (λ t. scan t text))
       at-kind (wordy l) h = absurd (true-false (h .0) a)
-      at-kind square h = strong (same w (unaryToken weakNext)) refl
+      at-kind square h = strong (sameBytes w (unaryToken weakNext)) refl
         where
-          strong : (x : Bool) → same w (unaryToken weakNext) ≡ x → follow (cond x (go [] (rest 33 (93 ∷ []) (pre strongNext) d)) dead) (λ t. scan t text) ≡ bad 0
+          strong : (x : Bool) → sameBytes w (unaryToken weakNext) ≡ x → follow (cond x (go [] (rest 33 (93 ∷ []) (pre strongNext) d)) dead) (λ t. scan t text) ≡ bad 0
           strong true q = absurd (true-false (eq-eqb b 91 (h .1)) (n q))
           strong false q = refl
       at-kind (sign s) h = rw c (emit-ahead (pre u) (onReadySign d s) (λ t. scan t text))
@@ -156,7 +157,7 @@ module _ {ts : List Token} (text : List ℕ) (ih : (p : Phase) (d : ℕ) → Fla
   read-token (mid release) g a {d = d} (infixes o f) = rw (read-apart d text (a refl), ih awaits d f)
   read-token (mid implies) g a {d = d} (infixes o f) = rw (read-rest d 62 [] (mid implies) text (ih awaits d f))
   read-token (mid equiv) g a {d = d} (infixes o f) = rw (read-rest d 45 (62 ∷ []) (mid equiv) text (ih awaits d f))
-  read-token (atom (name w)) g a {d = d} (leaves l f) = read-word d text w (record { letters = g .letters; short = g .short }) (leaf-good w d (class-name w (g .free)) text (a refl) (ih has d f))
+  read-token (atom (name w)) g a {d = d} (leaves l f) = read-word d text w (record { letters = letter-first w g; short = g .short }) (leaf-good w d (class-name w (g .free)) text (a refl) (ih has d f))
   read-token (atom (constant true)) g a {d = d} (leaves l f) = read-word d text (spellAtom (constant true)) (record { letters = (refl, (refl, (refl, (refl, tt)))); short = omega arith }) (leaf-good (spellAtom (constant true)) d refl text (a refl) (ih has d f))
   read-token (atom (constant false)) g a {d = d} (leaves l f) = read-word d text (spellAtom (constant false)) (record { letters = (refl, (refl, (refl, (refl, (refl, tt))))); short = omega arith }) (leaf-good (spellAtom (constant false)) d refl text (a refl) (ih has d f))
   read-token opens g a {d = d} (opened f) = rw (ih awaits (suc d) f)

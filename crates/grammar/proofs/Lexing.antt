@@ -11,9 +11,10 @@ use Rattle.grammar.specs.Token.{name, constant, Token, pre, mid, atom, o
 use Rattle.sequence.specs.Operators.Unary.{not, weakNext, strongNext, finally, globally}
 use Rattle.sequence.specs.Operators.Binary.{or, and, until, release, implies, equiv}
 use Rattle.sequence.specs.Operators.{unaryToken, binaryToken}
-use Rattle.grammar.specs.Name.{WordBytes, LetterFirst}
-use Rattle.grammar.specs.Scan.{Sign, blank, bang, opener, closer, amp, bar, dash, less, other, Kind, wordy, square, sign, kind, same, Class, prefixed, leafy, neither, classify}
-use Rattle.grammar.proofs.Words.{true-false, KindIs, kind-is, kind-word, letter-word, class-name}
+use Rattle.names.specs.Names.{sameBytes}
+use Rattle.grammar.specs.Scan.{Sign, blank, bang, opener, closer, amp, bar, dash, less, other, Kind, wordy, square, sign, kind, Class, prefixed, leafy, neither, classify}
+use Rattle.reading.proofs.Lists.{true-false}
+use Rattle.grammar.proofs.Words.{WordBytes, LetterFirst, KindIs, kind-is, kind-word, letter-word, class-name, letter-first}
 
 -- between tokens; inside a word; a token with these bytes still to come
 data State : Type 0 where
@@ -28,7 +29,7 @@ data Step : Type 0 where
 abbrev wordToken : List ℕ → Class → Token
 wordToken w (prefixed u) = pre u
 wordToken w (leafy l) = atom l
-wordToken w neither = cond (same w (binaryToken until)) (mid until) (mid release)
+wordToken w neither = cond (sameBytes w (binaryToken until)) (mid until) (mid release)
 
 abbrev onSign : Sign → Step
 onSign blank = go [] free
@@ -53,7 +54,7 @@ onFree b (sign s) = onSign s
 
 abbrev onWord : List ℕ → ℕ → Kind → Step
 onWord w b (wordy l) = go [] (word (w ++ (b ∷ [])))
-onWord w b square = cond (same w (unaryToken weakNext)) (go [] (rest 33 (93 ∷ []) (pre strongNext))) stuck
+onWord w b square = cond (sameBytes w (unaryToken weakNext)) (go [] (rest 33 (93 ∷ []) (pre strongNext))) stuck
 onWord w b (sign s) = emit (wordToken w (classify w)) (onSign s)
 
 abbrev coming : List ℕ → Token → Step
@@ -136,7 +137,7 @@ lexed (token {ts} {text} t g a s) = by-token t g a (lexed s)
     by-token (mid release) g a e = whole text (mid release) (binaryToken release) (refl, tt) refl (a refl) e
     by-token (mid implies) g a e = rw e
     by-token (mid equiv) g a e = rw e
-    by-token (atom (name w)) g a e = whole text (atom (name w)) w (g .letters) (ap (wordToken w) (class-name w (g .free))) (a refl) e
+    by-token (atom (name w)) g a e = whole text (atom (name w)) w (letter-first w g) (ap (wordToken w) (class-name w (g .free))) (a refl) e
     by-token (atom (constant true)) g a e = whole text (atom (constant true)) (spellAtom (constant true)) (refl, (refl, (refl, (refl, tt)))) refl (a refl) e
     by-token (atom (constant false)) g a e = whole text (atom (constant false)) (spellAtom (constant false)) (refl, (refl, (refl, (refl, (refl, tt))))) refl (a refl) e
     by-token opens g a e = rw e

@@ -15,7 +15,8 @@ use Rattle.grammar.specs.Token.{Typed, Atom, Token, pre, mid, atom, Apar
 use Rattle.sequence.specs.Operators.Unary.{weakNext}
 use Rattle.grammar.specs.Grammar.{level, leftLevel, rightLevel, operand, prefix, between, Reads, Refused11}
 use Rattle.grammar.specs.Grammar as grammar
-use Rattle.grammar.specs.Scan.{same, prefixed, leafy, neither, classify, State, ready, after, word, dead, go, step, Scan, good, bad, finish, behind, scan, scanText}
+use Rattle.names.specs.Names.{sameBytes}
+use Rattle.grammar.specs.Scan.{prefixed, leafy, neither, classify, State, ready, after, word, dead, go, step, Scan, good, bad, finish, behind, scan, scanText}
 use Rattle.grammar.specs.Passing.{ahead, Passes, Stops, Peek, op, nothing, cut, peek, IfOp, QuietAt, Expression, Continues}
 use Rattle.grammar.proofs.Levels.{sides, takes-over, lower}
 use Rattle.grammar.proofs.Complete.{NoSquare, ended-prefix, ended-leaf, ended-neither}
@@ -83,7 +84,7 @@ module _ (text : List ℕ) where
   still {s} {t} {at} {ts} h e = let n : at - at ≡ 0 = omega arith in record { forward = omega arith; within = h; is = rw n e }
 
   module _ (w : List ℕ) (d : ℕ) {at : ℕ} (h : at ≤ length text) (a : Apart (drop at text)) where
-    pub word-prefix : {u : Unary} → classify w ≡ prefixed u → (same w (unaryToken weakNext) ≡ true → NoSquare (drop at text)) → Passes text (word w d) at (pre u ∷ []) (ready d) at
+    pub word-prefix : {u : Unary} → classify w ≡ prefixed u → (sameBytes w (unaryToken weakNext) ≡ true → NoSquare (drop at text)) → Passes text (word w d) at (pre u ∷ []) (ready d) at
     word-prefix c n = still h (ended-prefix w d c (drop at text) a n)
 
     pub word-leaf : {l : Atom} → classify w ≡ leafy l → Passes text (word w d) at (atom l ∷ []) (after d) at

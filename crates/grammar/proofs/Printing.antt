@@ -12,7 +12,7 @@ use Rattle.formula.specs.Formula as formula
 use Rattle.text.specs.Text.{space, bracketed, leafText, text}
 use Rattle.grammar.specs.Token.{constant, Typed, Token, pre, mid, atom, opens, closes, Apart, Spells, end, gap, token}
 use Rattle.grammar.specs.Grammar.{Derives, alone, prefix, bracket, between, Reads}
-use Rattle.grammar.specs.Naming.{atomOf, typed, GoodLeaf, GoodNames}
+use Rattle.grammar.specs.Naming.{atomOf, typed, GoodLeaf, AllNamed}
 use Rattle.grammar.proofs.Levels.{sides, lower}
 use Rattle.grammar.proofs.Sound.{plain}
 
@@ -47,8 +47,8 @@ module _ (names : List (List ℕ)) where
   prints-leaf (formula.constant true) g us more a s = token (atom (constant true)) tt (λ _. a) s
   prints-leaf (formula.constant false) g us more a s = token (atom (constant false)) tt (λ _. a) s
 
-  prints : (t : Formula) → GoodNames names t → Prints (tokens (typed names t)) (text names t)
-  unfolding tokens typed GoodNames
+  prints : (t : Formula) → AllNamed names t → Prints (tokens (typed names t)) (text names t)
+  unfolding tokens typed AllNamed
   prints (leaf c) g us more a s = prints-leaf c g us more a s
   prints (unary u t) g us more a s =
       rw (append-assoc (unaryToken u) (space ∷ bracketed (text names t)) more)
@@ -64,7 +64,7 @@ module _ (names : List (List ℕ)) where
       )
       (wrap ls (text names l) (prints l (g .0)) (gap right))
 
-  pub printed : (t : Formula) → GoodNames names t → Reads (text names t) (typed names t)
+  pub printed : (t : Formula) → AllNamed names t → Reads (text names t) (typed names t)
   printed t g =
       let s : Spells (tokens (typed names t)) (text names t) = rw append-nil at (rw append-nil at (prints t g [] [] tt end)) in
       record { tokens = tokens (typed names t); spelt = s; derived = derives (typed names t) }

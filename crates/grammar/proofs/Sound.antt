@@ -11,12 +11,13 @@ use lib.ListN.{length, length-append}
 use Rattle.sequence.specs.Operators.Unary.{not, weakNext, strongNext}
 use Rattle.sequence.specs.Operators.Binary.{or, and, until, release, implies, equiv}
 use Rattle.sequence.specs.Operators.{unaryToken}
-use Rattle.names.specs.Names.{isNameByte}
-use Rattle.grammar.specs.Name.{WordBytes}
+use Rattle.names.specs.Names.{isNameByte, sameBytes}
 use Rattle.grammar.specs.Token.{Token, pre, mid, atom, opens, closes, spell, isWord, Good, Apart, Spells, end, gap, token}
-use Rattle.grammar.specs.Scan.{Sign, blank, bang, opener, closer, amp, bar, dash, less, other, Kind, wordy, square, sign, kind, same, Class, prefixed, leafy, neither, classify, State, ready, apart, after, word, rest, Step, dead, go, emit, onReady, onReadySign, onAfter, onAfterSign, onEnded, onWord, onApart, coming, step, Scan, good, bad, finish, finishWord, behind, follow, scan}
+use Rattle.grammar.specs.Scan.{Sign, blank, bang, opener, closer, amp, bar, dash, less, other, Kind, wordy, square, sign, kind, Class, prefixed, leafy, neither, classify, State, ready, apart, after, word, rest, Step, dead, go, emit, onReady, onReadySign, onAfter, onAfterSign, onEnded, onWord, onApart, coming, step, Scan, good, bad, finish, finishWord, behind, follow, scan}
 use Rattle.grammar.proofs.Flat.{awaits, has, Flat, done, leaves, prefixes, opened, infixes, closed}
-use Rattle.grammar.proofs.Words.{true-false, SignIs, KindIs, kind-is, same-is, Begun, ClassIs, class-is}
+use Rattle.reading.proofs.Lists.{true-false}
+use Rattle.names.proofs.Same.{same-eq}
+use Rattle.grammar.proofs.Words.{WordBytes, SignIs, KindIs, kind-is, Begun, ClassIs, class-is}
 use Rattle.grammar.proofs.Complete.{bad-good}
 
 -- what a state that takes a text's tokens says of them
@@ -144,13 +145,13 @@ module _ (text : List ℕ) (ih : (s : State) (ts : List Token) → scan s text �
           let n = next [] (word (w ++ (b ∷ [])) d) e in
           rw (n .1, ← (append-assoc w (b ∷ []) text)) (n .2 (grown w b g (h .0) (ltb-true (length w) 16 q)))
       short false q e = absurd (bad-good e)
-  word-kind w d b square h {ts} e g = strong (same w (unaryToken weakNext)) refl e
+  word-kind w d b square h {ts} e g = strong (sameBytes w (unaryToken weakNext)) refl e
     where
-      strong : (p : Bool) → same w (unaryToken weakNext) ≡ p → Then (cond p (go [] (rest 33 (93 ∷ []) (pre strongNext) d)) dead) ts → Spells ts (w ++ (b ∷ text)) × Flat awaits d ts
+      strong : (p : Bool) → sameBytes w (unaryToken weakNext) ≡ p → Then (cond p (go [] (rest 33 (93 ∷ []) (pre strongNext) d)) dead) ts → Spells ts (w ++ (b ∷ text)) × Flat awaits d ts
       strong true q e =
           let n = next [] (rest 33 (93 ∷ []) (pre strongNext) d) e in
           let r = n .2 in
-          let x = same-is w (unaryToken weakNext) q in
+          let x = same-eq w (unaryToken weakNext) q in
           (plain-of (pre strongNext) tt refl (r .1) (n .1 ∙ r .2) (ap₂ (λ u v. u ++ v) x (ap₂ (λ u v. u ∷ v) (h .1) (r .3))) (r .4), rw (n .1 ∙ r .2) (prefixes strongNext (r .5)))
       strong false q e = absurd (bad-good e)
   word-kind w d b (sign s) h e g = ended w d b s g (h .0) (h .1) (classify w) (class-is w) e

@@ -81,13 +81,6 @@ one-offset {j = j} {k} p q =
       | no h ↦ elim (decLt k j) [ yes g ↦ absurd (one-side q p g) | no g ↦ omega arith ]
     ]
 
-pub refused-scan : (text : List ℕ) {k : ℕ} → Refused11 text k → scanText text ≡ bad k
-refused-scan text {k} r = by-scan (scanText text) refl
-  where
-    by-scan : (s : Scan) → scanText text ≡ s → s ≡ bad k
-    by-scan (good ts) e = absurd (not-both (scan-formula e) r)
-    by-scan (bad j) e = ap bad (one-offset (scan-refused e) r)
-
 -- a text is a formula, or refused with an offset
 pub decided : (text : List ℕ) → IsFormula text ⊎ ((k : ℕ) × Refused11 text k)
 decided text = by-scan (scanText text) refl

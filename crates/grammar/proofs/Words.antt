@@ -1,24 +1,27 @@
--- What the scan's tests of a byte and of a whole word say.
+-- What the scan's tests of a byte and of a whole word say; a name's bytes, letter by letter.
 -- Assumes nothing.
-use mathlib.Core.Path.{_≡_, refl, sym, ap₂, _∙_}
+use mathlib.Core.Path.{_≡_, refl, sym, subst}
 use mathlib.Core.Logic.{_⊎_, inl, inr}
-use mathlib.Core.Bool.{Bool, true, false, cond, _&&_}
-use mathlib.Core.List.{List, [], _∷_}
+use mathlib.Core.Bool.{Bool, true, false, cond}
+use mathlib.Core.List.{List, [], _∷_, _++_, List·Memᴰ, List·Memᴰ·not-nil}
 use Prim.Native.Nat.{ℕ, _≤_}
 use native.Mathlib.Omega.{arith}
-use borrow.Author.Tests.{eq-eqb, eqb-true}
-use lib.Dec.{eqb}
+use borrow.Author.Tests.{eqb-true}
+use lib.Dec.{eqb, lit≤}
 use lib.ListN.{length}
+use Rattle.rules.specs.Lists.{Each}
+use Rattle.reading.proofs.Lists.{true-false, not-in}
+use Rattle.names.proofs.Same.{same-refl, same-eq}
+use Rattle.names.proofs.NameLaws.{Letter}
+use Rattle.text.proofs.Tokens.{unary-reserved, binary-reserved, constant-reserved}
 use Rattle.grammar.specs.Token.{name, pre, spellAtom, isWord, GoodAtom}
 use Rattle.sequence.specs.Operators.Unary.{not, weakNext, strongNext, finally, globally}
 use Rattle.sequence.specs.Operators.Binary.{or, and, until, release, implies, equiv}
 use Rattle.sequence.specs.Operators.{unaryToken, binaryToken}
-use Rattle.names.specs.Names.{isLetter, isNameByte}
-use Rattle.grammar.specs.Name.{LetterFirst, Reserved, ofUnary, ofBinary, ofConstant, constantText}
-use Rattle.grammar.specs.Scan.{Sign, blank, bang, opener, closer, amp, bar, dash, less, other, signOf, Kind, wordy, square, sign, kind, same, Class, prefixed, leafy, neither, classify}
-
-pub true-false : {b : Bool} → b ≡ true → b ≡ false → ⊥
-true-false p q = let z : _≡_ {A = Bool} true false = sym p ∙ q in let n : _≡_ {A = ℕ} 0 1 = cc in omega arith
+use Rattle.names.specs.Names.{nameLength, isLetter, isNameByte, sameBytes}
+use Rattle.names.specs.Reserved.{reserved}
+use Rattle.grammar.specs.Name.{constantText, Name}
+use Rattle.grammar.specs.Scan.{Sign, blank, bang, opener, closer, amp, bar, dash, less, other, signOf, Kind, wordy, square, sign, kind, Class, prefixed, leafy, neither, classify}
 
 -- a test decides
 test : {A : Type 0} (P : A → Type 0) (t : Bool) {a b : A} → (t ≡ true → P a) → (t ≡ false → P b) → P (cond t a b)
@@ -67,90 +70,96 @@ kind-word b e = rw e
 pub letter-word : (b : ℕ) → isLetter b ≡ true → isNameByte b ≡ true
 letter-word b e = rw e
 
+-- ---- a name's bytes
+
+abbrev pub WordBytes : List ℕ → Type 0
+WordBytes [] = Unit
+WordBytes (b ∷ w) = (isNameByte b ≡ true) × WordBytes w
+
+abbrev pub LetterFirst : List ℕ → Type 0
+LetterFirst [] = ⊥
+LetterFirst (b ∷ w) = (isLetter b ≡ true) × WordBytes w
+
+bytes-each : (x : ℕ) (seen w : List ℕ) → WordBytes w → Each Letter (x ∷ seen) w
+unfolding Each
+bytes-each x seen [] l = tt
+bytes-each x seen (b ∷ w) l = (l .0, bytes-each x (seen ++ (b ∷ [])) w (l .1))
+
+each-bytes : (x : ℕ) (seen w : List ℕ) → Each Letter (x ∷ seen) w → WordBytes w
+unfolding Each
+each-bytes x seen [] e = tt
+each-bytes x seen (b ∷ w) e = (e .0, each-bytes x (seen ++ (b ∷ [])) w (e .1))
+
+letters-each : (w : List ℕ) → LetterFirst w → (1 ≤ length w) × Each Letter [] w
+unfolding Each
+letters-each [] l = absurd l
+letters-each (b ∷ w) l = (omega arith, (l .0, bytes-each b [] w (l .1)))
+
+pub letter-first : (w : List ℕ) → Name w → LetterFirst w
+unfolding Each
+letter-first [] n = absurd (let s = n .some in omega arith)
+letter-first (b ∷ w) n = let l = n .letters in (l .0, each-bytes b [] w (l .1))
+
 -- ---- a whole word
 
-pub same-is : (v w : List ℕ) → same v w ≡ true → v ≡ w
-same-is [] [] e = refl
-same-is [] (b ∷ w) e = absurd (true-false e refl)
-same-is (a ∷ v) [] e = absurd (true-false e refl)
-same-is (a ∷ v) (b ∷ w) e = go (eqb a b) refl e (same-is v w)
+same-not : (v w : List ℕ) → (v ≡ w → ⊥) → sameBytes v w ≡ false
+same-not v w n = go (sameBytes v w) refl
   where
-    go : (t : Bool) → eqb a b ≡ t → (t && same v w) ≡ true → (same v w ≡ true → v ≡ w) → a ∷ v ≡ b ∷ w
-    go true q h below = ap₂ (λ x y. x ∷ y) (eqb-true a b q) (below h)
-    go false q h below = absurd (true-false h refl)
-
-is-same : (w : List ℕ) → same w w ≡ true
-is-same [] = refl
-is-same (b ∷ w) = rw (eq-eqb b b refl) (is-same w)
-
-same-of : {v w : List ℕ} → v ≡ w → same v w ≡ true
-same-of {v} e = rw (← e) (is-same v)
-
-not-same : (v w : List ℕ) → same v w ≡ false → v ≡ w → ⊥
-not-same v w e q = true-false (same-of q) e
-
-same-not : (v w : List ℕ) → (v ≡ w → ⊥) → same v w ≡ false
-same-not v w n = go (same v w) refl
-  where
-    go : (t : Bool) → same v w ≡ t → t ≡ false
-    go true e = absurd (n (same-is v w e))
+    go : (t : Bool) → sameBytes v w ≡ t → t ≡ false
+    go true e = absurd (n (same-eq v w e))
     go false e = refl
 
 -- a word so far
 pub record Begun (w : List ℕ) : Type 0 where
   pub letters : LetterFirst w
-  pub short : length w ≤ 16
-
--- no word is spelt with another byte first
-starts-so : {w v : List ℕ} → LetterFirst w → v ≡ w → LetterFirst v
-starts-so l e = rw e l
+  pub short : length w ≤ nameLength
 
 abbrev pub ClassIs : List ℕ → Class → Type 0
 ClassIs w (prefixed u) = (unaryToken u ≡ w) × (isWord (pre u) ≡ true)
 ClassIs w (leafy l) = (spellAtom l ≡ w) × (Begun w → GoodAtom l)
 ClassIs w neither = (w ≡ binaryToken until) ⊎ (w ≡ binaryToken release)
 
--- every operator is looked at: one more would have to be tried in `classify`
-module _ (w : List ℕ) (x : same w (unaryToken weakNext) ≡ false) (f : same w (unaryToken finally) ≡ false) (g : same w (unaryToken globally) ≡ false)
-    (u : same w (binaryToken until) ≡ false) (r : same w (binaryToken release) ≡ false) (t : same w (constantText true) ≡ false) (n : same w (constantText false) ≡ false) where
-  not-reserved : LetterFirst w → Reserved w → ⊥
-  not-reserved l (ofUnary not e) = let a = starts-so l e in true-false (a .0) refl
-  not-reserved l (ofUnary weakNext e) = not-same w (unaryToken weakNext) x (sym e)
-  not-reserved l (ofUnary strongNext e) = let a = starts-so l e in true-false (a .1 .0) refl
-  not-reserved l (ofUnary finally e) = not-same w (unaryToken finally) f (sym e)
-  not-reserved l (ofUnary globally e) = not-same w (unaryToken globally) g (sym e)
-  not-reserved l (ofBinary or e) = let a = starts-so l e in true-false (a .0) refl
-  not-reserved l (ofBinary and e) = let a = starts-so l e in true-false (a .0) refl
-  not-reserved l (ofBinary until e) = not-same w (binaryToken until) u (sym e)
-  not-reserved l (ofBinary release e) = not-same w (binaryToken release) r (sym e)
-  not-reserved l (ofBinary implies e) = let a = starts-so l e in true-false (a .0) refl
-  not-reserved l (ofBinary equiv e) = let a = starts-so l e in true-false (a .0) refl
-  not-reserved l (ofConstant true e) = not-same w (constantText true) t (sym e)
-  not-reserved l (ofConstant false e) = not-same w (constantText false) n (sym e)
+-- every reserved word is looked at: one more would have to be tried in `classify`
+module _ (w : List ℕ) (x : sameBytes w (unaryToken weakNext) ≡ false) (f : sameBytes w (unaryToken finally) ≡ false) (g : sameBytes w (unaryToken globally) ≡ false)
+    (u : sameBytes w (binaryToken until) ≡ false) (r : sameBytes w (binaryToken release) ≡ false)
+    (t : sameBytes w (constantText true) ≡ false) (n : sameBytes w (constantText false) ≡ false) where
+  not-reserved : List·Memᴰ w reserved → ⊥
+  unfolding reserved
+  not-reserved = not-in sameBytes w (λ y p. rw (← p) (same-refl w)) reserved (rw (u, r, x, f, g, t, n))
+
+  name-good : Begun w → Name w
+  name-good b =
+      let l = letters-each w (b .letters) in
+      record { some = l .0; short = b .short; letters = l .1; free = not-reserved; new = λ m. List·Memᴰ·not-nil m }
 
 pub class-is : (w : List ℕ) → ClassIs w (classify w)
 unfolding classify
 class-is w =
-    test (ClassIs w) (same w (unaryToken weakNext)) (λ e. (sym (same-is w (unaryToken weakNext) e), refl)) λ x.
-    test (ClassIs w) (same w (unaryToken finally)) (λ e. (sym (same-is w (unaryToken finally) e), refl)) λ f.
-    test (ClassIs w) (same w (unaryToken globally)) (λ e. (sym (same-is w (unaryToken globally) e), refl)) λ g.
-    test (ClassIs w) (same w (binaryToken until)) (λ e. inl (same-is w (binaryToken until) e)) λ u.
-    test (ClassIs w) (same w (binaryToken release)) (λ e. inr (same-is w (binaryToken release) e)) λ r.
-    test (ClassIs w) (same w (constantText true)) (λ e. (sym (same-is w (constantText true) e), λ b. tt)) λ t.
-    test (ClassIs w) (same w (constantText false)) (λ e. (sym (same-is w (constantText false) e), λ b. tt)) λ n. (
+    test (ClassIs w) (sameBytes w (unaryToken weakNext)) (λ e. (sym (same-eq w (unaryToken weakNext) e), refl)) λ x.
+    test (ClassIs w) (sameBytes w (unaryToken finally)) (λ e. (sym (same-eq w (unaryToken finally) e), refl)) λ f.
+    test (ClassIs w) (sameBytes w (unaryToken globally)) (λ e. (sym (same-eq w (unaryToken globally) e), refl)) λ g.
+    test (ClassIs w) (sameBytes w (binaryToken until)) (λ e. inl (same-eq w (binaryToken until) e)) λ u.
+    test (ClassIs w) (sameBytes w (binaryToken release)) (λ e. inr (same-eq w (binaryToken release) e)) λ r.
+    test (ClassIs w) (sameBytes w (constantText true)) (λ e. (sym (same-eq w (constantText true) e), λ b. tt)) λ t.
+    test (ClassIs w) (sameBytes w (constantText false)) (λ e. (sym (same-eq w (constantText false) e), λ b. tt)) λ n. (
       refl,
-      λ b. record { letters = b .letters; short = b .short; free = not-reserved w x f g u r t n (b .letters) },
+      λ b. name-good w x f g u r t n b,
     )
 
-pub class-name : (w : List ℕ) → (Reserved w → ⊥) → classify w ≡ leafy (name w)
-unfolding classify
-class-name w free =
-    rw (
-      same-not w (unaryToken weakNext) (λ e. free (ofUnary weakNext (sym e))),
-      same-not w (unaryToken finally) (λ e. free (ofUnary finally (sym e))),
-      same-not w (unaryToken globally) (λ e. free (ofUnary globally (sym e))),
-      same-not w (binaryToken until) (λ e. free (ofBinary until (sym e))),
-      same-not w (binaryToken release) (λ e. free (ofBinary release (sym e))),
-      same-not w (constantText true) (λ e. free (ofConstant true (sym e))),
-      same-not w (constantText false) (λ e. free (ofConstant false (sym e))),
-    )
+-- a word that is not reserved is a name
+module _ (w : List ℕ) (free : List·Memᴰ w reserved → ⊥) where
+  apart : (v : List ℕ) → List·Memᴰ v reserved → sameBytes w v ≡ false
+  apart v m = same-not w v (λ e. free (subst (λ (x : List ℕ). List·Memᴰ x reserved) (sym e) m))
+
+  pub class-name : classify w ≡ leafy (name w)
+  unfolding classify Each
+  class-name =
+      rw (
+        apart (unaryToken weakNext) (unary-reserved weakNext (lit≤ tt, (refl, tt))),
+        apart (unaryToken finally) (unary-reserved finally (lit≤ tt, (refl, tt))),
+        apart (unaryToken globally) (unary-reserved globally (lit≤ tt, (refl, tt))),
+        apart (binaryToken until) (binary-reserved until (lit≤ tt, (refl, tt))),
+        apart (binaryToken release) (binary-reserved release (lit≤ tt, (refl, tt))),
+        apart (constantText true) (constant-reserved true),
+        apart (constantText false) (constant-reserved false),
+      )

@@ -23,7 +23,7 @@ abbrev pub GoodLeaf : List (List ℕ) → Leaf → Type 0
 GoodLeaf names (proposition p) = Name (getD names p [])
 GoodLeaf names (formula.constant b) = Unit
 
-unfoldable pub GoodNames : List (List ℕ) → Formula → Type 0
-GoodNames names (leaf c) = GoodLeaf names c
-GoodNames names (unary u t) = GoodNames names t
-GoodNames names (binary o l r) = GoodNames names l × GoodNames names r
+unfoldable pub AllNamed : List (List ℕ) → Formula → Type 0
+AllNamed names (leaf c) = GoodLeaf names c
+AllNamed names (unary u t) = AllNamed names t
+AllNamed names (binary o l r) = AllNamed names l × AllNamed names r

@@ -1,7 +1,7 @@
 -- A machine over bytes that finds the tokens of a formula, or the offset of refusal 11. Precedence does not matter for what can go on, so it
 -- knows only whether an operand or an infix operator is awaited, how many brackets are open, and what token has begun.
 -- Assumes nothing.
-use mathlib.Core.Bool.{Bool, true, false, cond, _&&_}
+use mathlib.Core.Bool.{Bool, true, false, cond}
 use mathlib.Core.List.{List, [], _∷_, _++_}
 use Prim.Native.Nat.{ℕ, zero, suc}
 use lib.Dec.{eqb, ltb}
@@ -10,7 +10,7 @@ use Rattle.sequence.specs.Operators.{Unary, unaryToken, binaryToken}
 use Rattle.grammar.specs.Token.{Atom, name, constant, Token, pre, mid, atom, opens, closes}
 use Rattle.sequence.specs.Operators.Unary.{not, weakNext, strongNext, finally, globally}
 use Rattle.sequence.specs.Operators.Binary.{or, and, until, release, implies, equiv}
-use Rattle.names.specs.Names.{nameLength, isLetter, isNameByte}
+use Rattle.names.specs.Names.{nameLength, isLetter, isNameByte, sameBytes}
 use Rattle.grammar.specs.Name.{constantText}
 
 -- ---- bytes
@@ -40,12 +40,6 @@ kind b = cond (isNameByte b) (wordy (isLetter b)) (cond (eqb b 91) square (sign 
 
 -- ---- whole words
 
-abbrev pub same : List ℕ → List ℕ → Bool
-same [] [] = true
-same [] (y ∷ ys) = false
-same (x ∷ xs) [] = false
-same (x ∷ xs) (y ∷ ys) = eqb x y && same xs ys
-
 pub data Class : Type 0 where
   prefixed : Unary → Class
   leafy : Atom → Class
@@ -53,13 +47,13 @@ pub data Class : Type 0 where
 
 unfoldable pub classify : List ℕ → Class
 classify w =
-    cond (same w (unaryToken weakNext)) (prefixed weakNext)
-    (cond (same w (unaryToken finally)) (prefixed finally)
-    (cond (same w (unaryToken globally)) (prefixed globally)
-    (cond (same w (binaryToken until)) neither
-    (cond (same w (binaryToken release)) neither
-    (cond (same w (constantText true)) (leafy (constant true))
-    (cond (same w (constantText false)) (leafy (constant false))
+    cond (sameBytes w (unaryToken weakNext)) (prefixed weakNext)
+    (cond (sameBytes w (unaryToken finally)) (prefixed finally)
+    (cond (sameBytes w (unaryToken globally)) (prefixed globally)
+    (cond (sameBytes w (binaryToken until)) neither
+    (cond (sameBytes w (binaryToken release)) neither
+    (cond (sameBytes w (constantText true)) (leafy (constant true))
+    (cond (sameBytes w (constantText false)) (leafy (constant false))
     (leafy (name w))))))))
 
 -- ---- states, each with the number of open brackets
@@ -129,7 +123,7 @@ onEnded neither d s = dead
 
 abbrev pub onWord : List ℕ → ℕ → ℕ → Kind → Step
 onWord w d b (wordy l) = cond (ltb (length w) nameLength) (go [] (word (w ++ (b ∷ [])) d)) dead
-onWord w d b square = cond (same w (unaryToken weakNext)) (go [] (rest 33 (93 ∷ []) (pre strongNext) d)) dead
+onWord w d b square = cond (sameBytes w (unaryToken weakNext)) (go [] (rest 33 (93 ∷ []) (pre strongNext) d)) dead
 onWord w d b (sign s) = onEnded (classify w) d s
 
 abbrev pub onApart : ℕ → Kind → Step

@@ -3,6 +3,7 @@ pub mod NameLaws
 pub mod Walks
 pub mod Words
 pub mod Lookups
+pub mod Finding
 pub mod Turns
 pub mod Sections
 pub mod Starts

@@ -10,11 +10,11 @@ use lib.Seq.{drop-cons, take-suc}
 use Rattle.names.specs.Names.{propositions, nameLength, nameBytes, GoodName, name, namesUpTo, namesIn, GoodNames}
 use Rattle.reading.specs.Reading.{one}
 use Rattle.rules.specs.Lists.{Each}
-use Rattle.reading.proofs.Spans.{Spans, first, second, head, inside, taken}
+use Rattle.reading.proofs.Spans.{Spans, first, second, head, taken}
 use Rattle.reading.proofs.Lists.{ones}
 use Rattle.reading.proofs.Readers.{Section}
 use Rattle.names.specs.declared.lookup.Span.{Span}
-use Rattle.names.specs.Lookup.{walk, walkEnd, LettersAt, findFrom, foundIn}
+use Rattle.names.specs.Lookup.{walk, walkEnd, namesBy, LettersAt, findFrom, foundIn}
 use Rattle.names.proofs.NameLaws.{names-sound}
 use Rattle.names.proofs.Walks.{end-more}
 use Rattle.names.proofs.Lookups.{letters-there, span-order}
@@ -83,9 +83,6 @@ module _ (file : List ℕ) (g : GoodNames file) where
         × (drop (startOf (namesIn file) p + 1) file ≡ flatMap one this ++ drop (startOf (namesIn file) p + length (nameBytes this)) file)
     byte = head file (startOf (namesIn file) p) (length this) (flatMap one this ++ drop (startOf (namesIn file) p + length (nameBytes this)) file) (here .is)
 
-    pub start-in : startOf (namesIn file) p < length file
-    start-in = byte .0
-
     pub name-byte : getD file (startOf (namesIn file) p) 0 ≡ length (getD (namesIn file) p [])
     unfolding this
     name-byte = byte .1
@@ -103,10 +100,6 @@ module _ (file : List ℕ) (g : GoodNames file) where
     pub name-bytes : take (length (getD (namesIn file) p [])) (drop (startOf (namesIn file) p + 1) file) ≡ getD (namesIn file) p []
     unfolding this
     name-bytes = taken file this letters
-
-    pub name-end : startOf (namesIn file) p + 1 + length (getD (namesIn file) p []) ≤ length file
-    unfolding this
-    name-end = inside file this letters (omega (arith, byte .0))
 
     pub start-next : startOf (namesIn file) (p + 1) ≡ startOf (namesIn file) p + 1 + length (getD (namesIn file) p [])
     unfolding this
@@ -158,11 +151,13 @@ module _ (file : List ℕ) (g : GoodNames file) where
       ∙ ap (λ (x : ℕ). getD (namesIn file) p [] ∷ drop x (namesIn file)) (add-one p)
       ∙ sym (drop-cons (namesIn file) p [] h)
 
-  -- so `find` looks among the names of the section
-  pub found-among-names : (word : List ℕ) → foundIn file word ≡ findFrom 0 word (namesIn file)
-  found-among-names word =
+  -- so by the count and the length bytes these are the names of the section
+  pub names-by : namesBy file ≡ namesIn file
+  names-by =
       let ns = namesIn file in
       let c : getD file 0 0 ≡ length ns = head file 0 (length ns) (flatMap nameBytes ns ++ drop (g .0) file) (whole .spans .is) .1 in
-      ap (λ (n : ℕ). findFrom 0 word (walk file n 1)) c
-      ∙ ap (λ (x : ℕ). findFrom 0 word (walk file (length ns) x)) (sym (start-first ns))
-      ∙ ap (findFrom 0 word) (walk-rest (length ns) 0 (omega arith))
+      ap (λ (n : ℕ). walk file n 1) c ∙ ap (λ (x : ℕ). walk file (length ns) x) (sym (start-first ns)) ∙ walk-rest (length ns) 0 (omega arith)
+
+  -- and `find` looks among them
+  pub found-among-names : (word : List ℕ) → foundIn file word ≡ findFrom 0 word (namesIn file)
+  found-among-names word = ap (findFrom 0 word) names-by

@@ -3,26 +3,22 @@
 use mathlib.Core.Path.{_≡_, sym, ap, _∙_}
 use mathlib.Core.Logic.{_↔_}
 use mathlib.Core.List.{List, [], _∷_}
-use Prim.Native.Nat.{ℕ, _≤_}
+use Prim.Native.Nat.{ℕ}
 use native.Mathlib.Omega.{arith}
 use lib.ListN.{length}
-use Rattle.rules.specs.Lists.{Each}
 use Rattle.rules.specs.Answers.{Said}
 use Rattle.reading.specs.Reading.{section, got}
 use Rattle.reading.proofs.Ends.{end-sound, end-complete, whole-run, run-whole}
 use Rattle.names.specs.declared.NamesAnswer.{NamesAnswer}
 use Rattle.names.specs.declared.NamesAnswer.the-variants.{Names, Broken as NamesBroken}
-use Rattle.names.specs.Names.{propositions, nameBytes, GoodName, namesUpTo, wholeNames}
+use Rattle.names.specs.Names.{propositions, nameBytes, GoodList, namesUpTo, wholeNames}
 use Rattle.names.specs.declared.lookup.Span.{Span}
 use Rattle.names.specs.Lookup.{LettersAt}
 use Rattle.names.specs.Judged.{saidNames, namesSaid}
 use Rattle.names.proofs.NameLaws.{names-sound, names-complete}
 
-abbrev GoodNames : List (List ℕ) → Type 0
-GoodNames ns = (1 ≤ length ns) × (length ns ≤ propositions) × Each GoodName [] ns
-
 -- a byte string is a names section, with nothing after it, exactly where it is the bytes of good names
-pub names-accepts : (file : List ℕ) (ns : List (List ℕ)) → (wholeNames file ≡ got ns (length file)) ↔ (GoodNames ns × (section nameBytes ns ≡ file))
+pub names-accepts : (file : List ℕ) (ns : List (List ℕ)) → (wholeNames file ≡ got ns (length file)) ↔ (GoodList ns × (section nameBytes ns ≡ file))
 names-accepts file ns = (
   (λ e.
       let t = end-sound file (namesUpTo propositions file 0) e in

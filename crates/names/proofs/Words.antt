@@ -15,7 +15,7 @@ use Rattle.reading.proofs.Lists.{or-on, or-stop}
 use Rattle.names.specs.declared.reserved.Word.{Word}
 use Rattle.names.specs.Reserved.{reserved}
 use Rattle.names.specs.Names.{sameBytes}
-use Rattle.names.specs.Inner.{Spelt}
+use Rattle.names.specs.Inner.{Spelt, words}
 
 -- ---- the table
 
@@ -28,20 +28,6 @@ at : (d : Word) (rs : List Word) (i k : ℕ) → Rows i rs → k < length rs →
 at d [] i k t h = absurd (not-suc-le-zero h)
 at d (r ∷ rs) i zero t h = subst (λ (m : ℕ). Spelt m r) (sym (add-zero i)) (t .0)
 at d (r ∷ rs) i (suc k) t h = subst (λ (m : ℕ). Spelt m (getD rs k d)) (suc-add i k ∙ sym (add-suc i k)) (at d rs (suc i) k (t .1) (le-of-suc-le-suc h))
-
-abbrev row : List ℕ → ℕ → Word
-row letters bytes = record { letters = letters; bytes = bytes }
-
-abbrev words : List Word
-words =
-    row (85 ∷ 0 ∷ 0 ∷ 0 ∷ 0 ∷ []) 1
-    ∷ row (82 ∷ 0 ∷ 0 ∷ 0 ∷ 0 ∷ []) 1
-    ∷ row (88 ∷ 0 ∷ 0 ∷ 0 ∷ 0 ∷ []) 1
-    ∷ row (70 ∷ 0 ∷ 0 ∷ 0 ∷ 0 ∷ []) 1
-    ∷ row (71 ∷ 0 ∷ 0 ∷ 0 ∷ 0 ∷ []) 1
-    ∷ row (116 ∷ 114 ∷ 117 ∷ 101 ∷ 0 ∷ []) 4
-    ∷ row (102 ∷ 97 ∷ 108 ∷ 115 ∷ 101 ∷ []) 5
-    ∷ []
 
 rows : Rows 0 words
 unfolding reserved

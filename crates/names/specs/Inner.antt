@@ -2,7 +2,7 @@
 -- Assumes nothing.
 use mathlib.Core.Bool.{Bool, cond}
 use mathlib.Core.Path.{_≡_}
-use mathlib.Core.List.{[]}
+use mathlib.Core.List.{List, [], _∷_}
 use Prim.Native.Nat.{ℕ, _≤_}
 use lib.Dec.{eqb}
 use lib.ListN.{length, getD, take}
@@ -18,3 +18,18 @@ fitsAt i b = cond (eqb i 0) (isLetter b) (isNameByte b)
 pub record Spelt (i : ℕ) (word : Word) : Type 0 where
   pub short : word .bytes ≤ length (word .letters)
   pub is : take (word .bytes) (word .letters) ≡ getD reserved i []
+
+-- the rows as the code has them
+abbrev row : List ℕ → ℕ → Word
+row letters bytes = record { letters = letters; bytes = bytes }
+
+abbrev pub words : List Word
+words =
+    row (85 ∷ 0 ∷ 0 ∷ 0 ∷ 0 ∷ []) 1
+    ∷ row (82 ∷ 0 ∷ 0 ∷ 0 ∷ 0 ∷ []) 1
+    ∷ row (88 ∷ 0 ∷ 0 ∷ 0 ∷ 0 ∷ []) 1
+    ∷ row (70 ∷ 0 ∷ 0 ∷ 0 ∷ 0 ∷ []) 1
+    ∷ row (71 ∷ 0 ∷ 0 ∷ 0 ∷ 0 ∷ []) 1
+    ∷ row (116 ∷ 114 ∷ 117 ∷ 101 ∷ 0 ∷ []) 4
+    ∷ row (102 ∷ 97 ∷ 108 ∷ 115 ∷ 101 ∷ []) 5
+    ∷ []

@@ -30,6 +30,9 @@ unfoldable pub findFrom : ℕ → List ℕ → List (List ℕ) → Found
 findFrom i word [] = Nothing
 findFrom i word (name ∷ names) = cond (sameBytes word name) (At i) (findFrom (i + 1) word names)
 
--- of as many names as the count says
+-- as many names as the count says
+abbrev pub namesBy : List ℕ → List (List ℕ)
+namesBy file = walk file (getD file 0 0) 1
+
 abbrev pub foundIn : List ℕ → List ℕ → Found
-foundIn file word = findFrom 0 word (walk file (getD file 0 0) 1)
+foundIn file word = findFrom 0 word (namesBy file)

@@ -49,6 +49,10 @@ pub record GoodName (before : List (List ℕ)) (name : List ℕ) : Type 0 where
   pub free : List·Memᴰ name reserved → ⊥
   pub new : List·Memᴰ name before → ⊥
 
+-- "propositions m 1 to 16", "no name twice": each name is good after those before it
+abbrev pub GoodList : List (List ℕ) → Type 0
+GoodList names = (1 ≤ length names) × (length names ≤ propositions) × Each GoodName [] names
+
 -- ---- the first offending byte
 
 abbrev pub sameBytes : List ℕ → List ℕ → Bool

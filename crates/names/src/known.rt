@@ -7,7 +7,7 @@ ghost use Rattle.names.specs.Names.{sameBytes};
 ghost use Rattle.names.specs.Lookup.{walk, walkEnd};
 
 // Whether two runs of bytes are the same.
-pub(crate) fn same(a: &[u8], b: &[u8]) -> bool
+pub fn same(a: &[u8], b: &[u8]) -> bool
     ensures { λ r. ⌜ r ≡ sameBytes (now (a .entry)) (now (b .entry)) ⌝ }
 {
     if a.len() != b.len() {

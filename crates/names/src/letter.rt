@@ -7,7 +7,8 @@ ghost use Rattle.reading.specs.Reading.{each, byte, stepOf};
 ghost use Rattle.names.specs.Names.{isLetter, isNameByte, letter};
 ghost use Rattle.names.specs.Inner.{fitsAt};
 
-fn is_letter(b: u8) -> bool
+// "letters": A-Z, a-z.
+pub fn is_letter(b: u8) -> bool
     ensures { λ r. ⌜ r ≡ isLetter b ⌝ }
 {
     if b < 65 {
@@ -25,7 +26,8 @@ fn is_letter(b: u8) -> bool
     false
 }
 
-fn is_name_byte(b: u8) -> bool
+// "letters, digits or `_`".
+pub fn is_name_byte(b: u8) -> bool
     ensures { λ r. ⌜ r ≡ isNameByte b ⌝ }
 {
     if is_letter(b) {

@@ -58,7 +58,7 @@ fn word_at(i: usize) -> Word
 }
 
 // Whether these bytes are a reserved word.
-fn is_reserved(name: &[u8]) -> bool
+pub fn is_reserved(name: &[u8]) -> bool
     ensures { λ r. ⌜ r ≡ isIn sameBytes (now (name .entry)) reserved ⌝ }
 {
     let mut i: usize = 0;

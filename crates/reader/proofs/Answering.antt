@@ -11,7 +11,7 @@ use Rattle.rules.specs.Answers.{Said, over}
 use Rattle.formula.specs.Formula.{size}
 use Rattle.formula.specs.Nodes.{Node, codes}
 use Rattle.reading.specs.Reading.{Got, got, bad}
-use Rattle.names.specs.Names.{wholeNames}
+use Rattle.names.specs.Names.{wholeNames, GoodNames, namesIn, listed}
 use Rattle.names.specs.Judged.{saidNames, namesSaid}
 use Rattle.names.specs.Judged.{namesOf as saidOf}
 use Rattle.names.specs.declared.NamesAnswer.{NamesAnswer}
@@ -25,8 +25,8 @@ use Rattle.reader.specs.declared.Parsed.the-variants.{Nodes, Broken, Sto
 use Rattle.reader.specs.declared.judge.Judged.{Judged}
 use Rattle.reader.specs.declared.judge.Judged.the-variants.{Nodes as Sized, Long, Stops as StopsAt, Unknown as UnknownName, Large}
 use Rattle.reader.specs.Words.{mostBytes, Deep}
-use Rattle.reader.specs.Parsing.{saidParsed, namesOf, Row, Decides, Columns, columns, roomOf, written, longText, noFormula, unknownName, largeFormula, shortRoom, Taken, Parses}
-use Rattle.reader.specs.Inner.{GoodNames, namesIn, codesBy}
+use Rattle.reader.specs.Parsing.{saidParsed, Row, Decides, Columns, columns, roomOf, written, longText, noFormula, unknownName, largeFormula, shortRoom, Taken, Parses}
+use Rattle.reader.specs.Inner.{codesBy}
 use Rattle.reader.specs.Answers.{AllKnown, JudgedIs}
 use Rattle.reader.specs.Lent.{Enough, Unpacked, ReadsGood}
 use Rattle.reader.proofs.Scratch.{nodes-length, written-length}
@@ -136,7 +136,7 @@ module _ (file : List ℕ) where
   pub names-good : {a : NamesAnswer} {n : ℕ} → a ≡ Names n → saidNames a ≡ namesSaid file → GoodNames file
   names-good {a} {n} e s = by-names (wholeNames file) (ap saidNames (sym e) ∙ s)
     where
-      by-names : (w : Got (List (List ℕ))) → saidNames (Names n) ≡ saidOf w → (next : ℕ) × (w ≡ got (namesOf w) next)
+      by-names : (w : Got (List (List ℕ))) → saidNames (Names n) ≡ saidOf w → (next : ℕ) × (w ≡ got (listed w) next)
       by-names (got names next) q = (next, refl)
       by-names (bad o) q = absurd (let z : _≡_ {A = ℕ} 0 8 = ap (λ (s : Said). s .number) q in omega arith)
 

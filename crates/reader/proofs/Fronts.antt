@@ -13,10 +13,12 @@ use lib.ListN.{length, take, drop, getD, length-append, List·getD-eq-default}
 use Rattle.sequence.specs.Operators.{Unary, unaryCode}
 use Rattle.grammar.specs.Token.{Atom, pre, Apart}
 use Rattle.sequence.specs.Operators.Unary.{not, weakNext, strongNext, finally, globally}
-use Rattle.names.specs.Names.{isLetter, isNameByte}
-use Rattle.grammar.specs.Scan.{blank, bang, opener, closer, amp, bar, dash, less, other, Kind, wordy, square, sign, kind, same, Class, prefixed, leafy, neither, classify, ready, word, rest, dead, onReady, step, finish}
+use Rattle.names.specs.Names.{isLetter, isNameByte, sameBytes}
+use Rattle.grammar.specs.Scan.{blank, bang, opener, closer, amp, bar, dash, less, other, Kind, wordy, square, sign, kind, Class, prefixed, leafy, neither, classify, ready, word, rest, dead, onReady, step, finish}
 use Rattle.grammar.specs.Passing.{Passes, Stops}
-use Rattle.grammar.proofs.Words.{true-false, KindIs, kind-is, kind-word, letter-word, same-is, ClassIs, class-is}
+use Rattle.reading.proofs.Lists.{true-false}
+use Rattle.names.proofs.Same.{same-eq}
+use Rattle.grammar.proofs.Words.{KindIs, kind-is, kind-word, letter-word, ClassIs, class-is}
 use Rattle.grammar.proofs.Complete.{NoSquare}
 use Rattle.grammar.proofs.Passage as passage
 use Rattle.reader.specs.declared.front.First.{First}
@@ -167,8 +169,8 @@ module _ (text : List ℕ) where
         word-prefix : (u : Unary) → classify (b ∷ []) ≡ prefixed u → (eqb b 88 ≡ true → getD text end 0 ≡ 91 → ⊥) → Fronts text at (Operator end (unaryCode u))
         word-prefix u c n = (omega (arith, r .forward), u, (λ d. passage.pass-then text (single d) (passage.word-prefix text (b ∷ []) d (r .within) apart c (λ x. clear (n (only x))))), refl)
           where
-            only : same (b ∷ []) (88 ∷ []) ≡ true → eqb b 88 ≡ true
-            only x = let q = same-is (b ∷ []) (88 ∷ []) x in eq-eqb b 88 (cc)
+            only : sameBytes (b ∷ []) (88 ∷ []) ≡ true → eqb b 88 ≡ true
+            only x = let q = same-eq (b ∷ []) (88 ∷ []) x in eq-eqb b 88 (cc)
 
         -- `X`, where no `[` follows; `F` and `G`
         pub word-next : b ≡ 88 → (getD text end 0 ≡ 91 → ⊥) → Fronts text at (Operator end 1)

@@ -21,7 +21,7 @@ use Rattle.grammar.proofs.Passage as passage
 use Rattle.reader.specs.declared.operator.Op.{Op}
 use Rattle.reader.specs.declared.operator.Op.the-variants.{Is, Nothing, Cut}
 use Rattle.reader.specs.declared.operator.End.the-variants.{At, Bad as NoEnd}
-use Rattle.reader.specs.Answers.{Said, Operator, Arrow, word, Closing, Ending}
+use Rattle.reader.specs.Answers.{Said, Operator, Arrow, Word, Closing, Ending}
 
 pub said-further : (at : ℕ) (k : Peek) (r : Op) → Said (at + 1) k r → Said at (further k) r
 said-further at (op o n) (Is l r next c) s = (s .0, s .1, omega (arith, s .2), s .3)
@@ -47,25 +47,25 @@ module _ (text : List ℕ) where
 
   -- ---- arrow
 
-  pub arrow-is : (at code : ℕ) → getD text at 0 ≡ 62 → Arrow text at code (Is 0 0 (at + 1) code)
+  pub arrow-is : (at code right : ℕ) → getD text at 0 ≡ 62 → Arrow text at code right (Is 0 right (at + 1) code)
   unfolding expect
-  arrow-is at code e o l r k = rw (head (inside at 61 e) e) (sym l, sym r, refl, sym k)
+  arrow-is at code right e o l r k = rw (head (inside at 61 e) e) (sym l, sym r, refl, sym k)
 
-  pub arrow-not : (at code : ℕ) → at ≤ length text → (getD text at 0 ≡ 62 → ⊥) → Arrow text at code (Cut at)
+  pub arrow-not : (at code right : ℕ) → at ≤ length text → (getD text at 0 ≡ 62 → ⊥) → Arrow text at code right (Cut at)
   unfolding expect
-  arrow-not at code h n o l r k = elim (decLt at (length text)) [
+  arrow-not at code right h n o l r k = elim (decLt at (length text)) [
     | yes g ↦ rw (head g refl, ne-eqb (getD text at 0) 62 n) (omega arith)
     | no g ↦ rw (past h (omega arith)) (omega arith)
   ]
 
   -- ---- word_op
 
-  module _ (at code : ℕ) {b : ℕ} {t : Bool} (w : t ≡ isNameByte b) where
-    pub word-cut : t ≡ true → b ≡ getD text at 0 → Cut at ≡ word text at code
-    word-cut e g = rw (← g, ← w, e)
+  module _ (at code right : ℕ) {b : ℕ} {t : Bool} (w : t ≡ isNameByte b) where
+    pub word-cut : t ≡ true → b ≡ getD text at 0 → Word text at code right (Cut at)
+    word-cut e g o l r k = rw (← g, ← w, e) (omega arith)
 
-    pub word-is : t ≡ false → b ≡ getD text at 0 → Is 3 3 at code ≡ word text at code
-    word-is e g = rw (← g, ← w, e)
+    pub word-is : t ≡ false → b ≡ getD text at 0 → Word text at code right (Is 3 right at code)
+    word-is e g o l r k = rw (← g, ← w, e) (sym l, sym r, omega arith, sym k)
 
   -- ---- operator
 
@@ -82,11 +82,11 @@ module _ (text : List ℕ) where
     unfolding peek kind
     op-or e = rw (head h e) (refl, refl, refl, refl)
 
-    pub op-implies : (r : Op) → getD text at 0 ≡ 45 → Arrow text (at + 1) 9 r → Operator text at r
+    pub op-implies : (r : Op) → getD text at 0 ≡ 45 → Arrow text (at + 1) 9 0 r → Operator text at r
     unfolding peek kind
     op-implies r e s = rw (head h e) (said-further at (expect (62 ∷ []) implies (drop (at + 1) text)) r (s implies refl refl refl))
 
-    pub op-equiv : (r : Op) → getD text at 0 ≡ 60 → getD text (at + 1) 0 ≡ 45 → Arrow text (at + 2) 10 r → Operator text at r
+    pub op-equiv : (r : Op) → getD text at 0 ≡ 60 → getD text (at + 1) 0 ≡ 45 → Arrow text (at + 2) 10 0 r → Operator text at r
     unfolding peek kind expect
     op-equiv r e f s =
         let n : (at + 1) + 1 ≡ at + 2 = omega arith in
@@ -100,21 +100,24 @@ module _ (text : List ℕ) where
       | no g ↦ rw (head h e, past {at = at + 1} (omega arith) (omega arith)) (omega arith)
     ]
 
-    said-word : (o : Binary) (r : Op) → level o ≡ 3 → rightLevel o ≡ 3 → r ≡ word text (at + 1) (binaryCode o) → Said at (alone o (drop (at + 1) text)) r
+    said-word : (o : Binary) (r : Op) → level o ≡ 3 → rightLevel o ≡ 3 → Word text (at + 1) (binaryCode o) 3 r → Said at (alone o (drop (at + 1) text)) r
     said-word o r p q w = elim (decLt (at + 1) (length text)) [
-      | yes g ↦ rw (head g refl, w) (by-test (isNameByte (getD text (at + 1) 0)))
-      | no g ↦ let z : getD text (at + 1) 0 ≡ 0 = List·getD-eq-default text 0 (omega arith) in rw (past {at = at + 1} (omega arith) (omega arith), w, z) (sym p, sym q, refl, refl)
+      | yes g ↦ rw (head g refl) (by-test (isNameByte (getD text (at + 1) 0)) (w o p q refl))
+      | no g ↦
+          let z : getD text (at + 1) 0 ≡ 0 = List·getD-eq-default text 0 (omega arith) in
+          let v : Said (at + 1) (op o 0) r = subst (λ (x : ℕ). Said (at + 1) (cond (isNameByte x) (cut 0) (op o 0)) r) z (w o p q refl) in
+          rw (past {at = at + 1} (omega arith) (omega arith)) (said-further at (op o 0) r v)
     ]
       where
-        by-test : (t : Bool) → Said at (cond t (cut 1) (op o 1)) (cond t (Cut (at + 1)) (Is 3 3 (at + 1) (binaryCode o)))
-        by-test true = refl
-        by-test false = (sym p, sym q, refl, refl)
+        by-test : (t : Bool) → Said (at + 1) (cond t (cut 0) (op o 0)) r → Said at (cond t (cut 1) (op o 1)) r
+        by-test true s = said-further at (cut 0) r s
+        by-test false s = said-further at (op o 0) r s
 
-    pub op-until : (r : Op) → getD text at 0 ≡ 85 → r ≡ word text (at + 1) 7 → Operator text at r
+    pub op-until : (r : Op) → getD text at 0 ≡ 85 → Word text (at + 1) 7 3 r → Operator text at r
     unfolding peek kind
     op-until r e w = rw (head h e) (said-word until r refl refl w)
 
-    pub op-release : (r : Op) → getD text at 0 ≡ 82 → r ≡ word text (at + 1) 8 → Operator text at r
+    pub op-release : (r : Op) → getD text at 0 ≡ 82 → Word text (at + 1) 8 3 r → Operator text at r
     unfolding peek kind
     op-release r e w = rw (head h e) (said-word release r refl refl w)
 

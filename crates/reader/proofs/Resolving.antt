@@ -2,11 +2,10 @@
 -- Assumes nothing.
 use mathlib.Core.Path.{_≡_, refl, sym, ap, ap₂, _∙_}
 use mathlib.Core.Logic.{_⊎_, inl, inr, ⊎-elim}
-use mathlib.Core.Bool.{Bool, true, false, cond}
+use mathlib.Core.Bool.{Bool, true, false}
 use mathlib.Core.List.{List, [], _∷_, _++_, append-assoc, append-nil, List·Memᴰ}
 use Prim.Native.Nat.{ℕ, zero, suc, _+_, _-_, _≤_, _<_}
 use native.Mathlib.Omega.{arith}
-use native.Mathlib.Decide.{decLt}
 use lib.ListN.{length, take, drop, getD, length-append}
 use lib.Seq.{take-at, drop-at, getD-append-add}
 use Rattle.sequence.specs.Operators.{Unary, Binary, unaryCode, binaryCode, unaryToken, binaryToken}
@@ -15,19 +14,23 @@ use Rattle.sequence.specs.Operators.Binary.{or, and, until, release, implies, e
 use Rattle.formula.specs.Formula.{leaf, unary, binary, size, Leaf, proposition, Formula}
 use Rattle.formula.specs.Formula as formula
 use Rattle.formula.specs.Nodes.{Node, codes}
-use Rattle.names.specs.Names.{isNameByte, sameBytes}
-use Rattle.names.proofs.Same.{same-eq}
-use Rattle.grammar.specs.Name.{WordBytes, LetterFirst, Name}
+use Rattle.names.specs.Names.{isNameByte, namesIn}
+use Rattle.names.specs.Lookup.{findFrom}
+use Rattle.names.specs.declared.lookup.Found.{Found}
+use Rattle.names.specs.declared.lookup.Found.the-variants.{At, Nothing}
+use Rattle.names.proofs.Finding.{FoundIs, found-is}
+use Rattle.text.specs.Tokens.{Named}
+use Rattle.grammar.specs.Name.{Name}
 use Rattle.grammar.specs.Token.{Atom, name, constant, Typed, Token, pre, mid, atom, opens, closes, spell, Good, isWord, endsAsWord, Apart, Spells, end, gap, token}
 use Rattle.grammar.specs.Grammar.{Derives, alone, prefix, bracket, between, looser, Reads}
 use Rattle.grammar.specs.Naming.{typed}
 use Rattle.grammar.specs.Nodes.{node, nodesOf}
-use Rattle.grammar.proofs.Words.{true-false, letter-word}
+use Rattle.reading.proofs.Lists.{true-false}
+use Rattle.grammar.proofs.Words.{WordBytes, LetterFirst, letter-first, letter-word}
 use Rattle.reader.specs.Words.{WordAt, UnknownAt}
-use Rattle.reader.specs.Parsing.{Under, LeafUnder}
-use Rattle.reader.specs.Inner.{namesIn, indexOf, codesBy}
+use Rattle.reader.specs.Inner.{numberOf, codesBy}
 use Rattle.reader.specs.Answers.{AllKnown}
-use Rattle.reader.proofs.Unknowns.{in-index}
+use Rattle.reader.proofs.Lookup.{number-at}
 
 -- ---- the leaves of a tree are the atoms of its tokens
 
@@ -84,7 +87,7 @@ byte-of [] more b j h = absurd (omega arith)
 byte-of (x ∷ w) more b zero h = b .0
 byte-of (x ∷ w) more b (suc j) h = byte-of w more (b .1) j (omega arith)
 
-word-bytes : (w : List ℕ) → LetterFirst w → WordBytes w
+pub word-bytes : (w : List ℕ) → LetterFirst w → WordBytes w
 word-bytes [] l = absurd l
 word-bytes (b ∷ w) l = (letter-word b (l .0), l .1)
 
@@ -124,15 +127,15 @@ at-word before w more l c a =
 module _ (file : List ℕ) where
   -- a name that is one of the names
   abbrev Listed : Atom → Type 0
-  Listed (name w) = indexOf w (namesIn file) < length (namesIn file)
+  Listed (name w) = List·Memᴰ w (namesIn file)
   Listed (constant b) = Unit
 
-  known-word : {text : List ℕ} → AllKnown file text → {k e : ℕ} (w : List ℕ) → WordAt text k e → take (e - k) (drop k text) ≡ w → Name w → indexOf w (namesIn file) < length (namesIn file)
-  known-word {text} known {k} {e} w at q n =
-      elim (decLt (indexOf w (namesIn file)) (length (namesIn file))) [
-        | yes h ↦ h
-        | no h ↦ absurd (known k (record { end = e; word = at; free = rw q (n .free); new = rw q (λ m. h (in-index w (namesIn file) m)) }))
-      ]
+  known-word : {text : List ℕ} → AllKnown file text → {k e : ℕ} (w : List ℕ) → WordAt text k e → take (e - k) (drop k text) ≡ w → Name w → List·Memᴰ w (namesIn file)
+  known-word {text} known {k} {e} w at q n = by-found (findFrom 0 w (namesIn file)) (found-is w (namesIn file) 0)
+    where
+      by-found : (f : Found) → FoundIs w (namesIn file) 0 f → List·Memᴰ w (namesIn file)
+      by-found (At i) h = h .3
+      by-found Nothing h = absurd (known k (record { end = e; word = at; free = rw q (n .free); new = rw q h }))
 
   -- ---- token by token
 
@@ -172,7 +175,7 @@ module _ (file : List ℕ) where
   at-token before text (atom (name w)) g a c known =
       let m : (length before + length w) - length before ≡ length w = omega arith in
       let q : take ((length before + length w) - length before) (drop (length before) (before ++ (w ++ text))) ≡ w = rw (m, drop-at before (w ++ text) (length before) refl) (take-at w text (length w) refl) in
-      known-word known w (at-word before w text (g .letters) c (a refl)) q g
+      known-word known w (at-word before w text (letter-first w g) c (a refl)) q g
   at-token before text (atom (constant b)) g a c known = tt
   at-token before text opens g a c known = tt
   at-token before text closes g a c known = tt
@@ -192,17 +195,8 @@ module _ (file : List ℕ) where
 
 -- ---- the formula
 
-index-at : (w : List ℕ) (names : List (List ℕ)) → indexOf w names < length names → getD names (indexOf w names) [] ≡ w
-unfolding indexOf
-index-at w [] h = absurd (omega arith)
-index-at w (x ∷ names) h = by-test (sameBytes x w) refl (index-at w names) h
-  where
-    by-test : (b : Bool) → sameBytes x w ≡ b → (indexOf w names < length names → getD names (indexOf w names) [] ≡ w) → cond b 0 (suc (indexOf w names)) < length (x ∷ names) → getD (x ∷ names) (cond b 0 (suc (indexOf w names))) [] ≡ w
-    by-test true e ih h = same-eq x w e
-    by-test false e ih h = ih (omega arith)
-
 abbrev leafOf : List (List ℕ) → Atom → Leaf
-leafOf names (name w) = proposition (indexOf w names)
+leafOf names (name w) = proposition (numberOf (findFrom 0 w names))
 leafOf names (constant b) = formula.constant b
 
 pub resolved : List (List ℕ) → Typed → Formula
@@ -219,14 +213,14 @@ resolved-size names (binary o l r) = ap₂ (λ m n. 1 + m + n) (resolved-size na
 module _ (file : List ℕ) where
   pub resolved-typed : (t : Typed) → Leaves (Listed file) t → typed (namesIn file) (resolved (namesIn file) t) ≡ t
   unfolding resolved typed Leaves
-  resolved-typed (leaf (name w)) h = ap (λ (v : List ℕ). leaf (name v)) (index-at w (namesIn file) h)
+  resolved-typed (leaf (name w)) h = ap (λ (v : List ℕ). leaf (name v)) (number-at w (namesIn file) h .1)
   resolved-typed (leaf (constant b)) h = refl
   resolved-typed (unary u t) h = ap (λ (x : Typed). unary u x) (resolved-typed t h)
   resolved-typed (binary o l r) h = ap₂ (λ x y. binary o x y) (resolved-typed l (h .0)) (resolved-typed r (h .1))
 
-  pub resolved-under : (t : Typed) → Leaves (Listed file) t → Under (length (namesIn file)) (resolved (namesIn file) t)
-  unfolding resolved Leaves Under
-  resolved-under (leaf (name w)) h = h
+  pub resolved-under : (t : Typed) → Leaves (Listed file) t → Named (length (namesIn file)) (resolved (namesIn file) t)
+  unfolding resolved Leaves
+  resolved-under (leaf (name w)) h = number-at w (namesIn file) h .0
   resolved-under (leaf (constant b)) h = tt
   resolved-under (unary u t) h = resolved-under t h
   resolved-under (binary o l r) h = (resolved-under l (h .0), resolved-under r (h .1))

@@ -25,7 +25,8 @@ use Rattle.reader.specs.declared.Got.{Got}
 use Rattle.reader.specs.declared.Got.the-variants.{Val, Bad}
 use Rattle.reader.specs.declared.operator.End.{End}
 use Rattle.reader.specs.declared.operator.End.the-variants.{At, Bad as NoEnd}
-use Rattle.reader.specs.Inner.{namesIn, GoodNames, codesBy, pack, packs, LeafFields, mostField}
+use Rattle.names.specs.Names.{namesIn, GoodNames}
+use Rattle.reader.specs.Inner.{codesBy, pack, packs, LeafFields, mostField}
 use Rattle.reader.specs.Answers.{Said, Operator, Closing, Fronts, Room, Infix, More, Prefix, Bracket, Ending, Fits, Whole}
 use Rattle.reader.proofs.Lookup.{field-small}
 use Rattle.reader.proofs.Scratch.{nodes-length, written-length, written-then, written-leaf, written-unary, written-more}

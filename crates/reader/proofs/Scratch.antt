@@ -7,13 +7,14 @@ use native.Mathlib.Omega.{arith}
 use lib.ListN.{length, set, length-append, length-map}
 use lib.Seq.{sets, length-sets}
 use Rattle.sequence.specs.Operators.{Unary, Binary, unaryCode, binaryCode}
-use Rattle.formula.specs.Formula.{leaf, unary, binary, size}
+use Rattle.formula.specs.Formula.{Tree, leaf, unary, binary, size}
 use Rattle.formula.specs.Nodes.{Node, Codes}
 use Rattle.writing.proofs.Writing.{sets-both}
 use Rattle.grammar.specs.Token.{Atom, Typed}
 use Rattle.grammar.specs.Nodes.{node, nodesOf}
 use Rattle.grammar.proofs.Passage.{behindLeft}
-use Rattle.reader.specs.Inner.{namesIn, codesBy, pack, packs, atomCode, atomField}
+use Rattle.names.specs.Names.{namesIn}
+use Rattle.reader.specs.Inner.{codesBy, pack, packs, atomCode, atomField}
 use Rattle.reader.specs.Answers.{Written, Room}
 
 packs-both : (xs ys : List Node) → packs (xs ++ ys) ≡ packs xs ++ packs ys
@@ -23,7 +24,7 @@ packs-length : (xs : List Node) → length (packs xs) ≡ length xs
 packs-length xs = length-map xs pack
 
 -- as many nodes as the size says
-pub nodes-length : (C : Codes Atom Unary Binary) (p : ℕ) (t : Typed) → length (nodesOf C p t) ≡ size t
+pub nodes-length : {L U B : Type 0} (C : Codes L U B) (p : ℕ) (t : Tree L U B) → length (nodesOf C p t) ≡ size t
 unfolding nodesOf
 nodes-length C p (leaf l) = refl
 nodes-length C p (unary u t) = let n = nodes-length C p t in simp length-append (omega arith)

@@ -13,7 +13,7 @@ use Rattle.formula.specs.Formula.{leaf, unary, binary, size, Leaf, proposition,
 use Rattle.formula.specs.Formula as formula
 use Rattle.formula.specs.Nodes.{codes}
 use Rattle.rules.specs.Limits.{mostPropositions as propositions}
-use Rattle.names.specs.Names.{GoodName, namesUpTo, wholeNames}
+use Rattle.names.specs.Names.{GoodName, namesUpTo, wholeNames, listed, namesIn}
 use Rattle.reading.specs.Reading.{Got, got, bad}
 use Rattle.reading.proofs.Ends.{each-at, end-sound}
 use Rattle.names.proofs.NameLaws.{names-sound}
@@ -23,8 +23,9 @@ use Rattle.grammar.specs.Nodes.{nodesOf}
 use Rattle.grammar.proofs.Theorems.{one-tree, one-offset}
 use Rattle.reader.specs.declared.Parsed.{Parsed}
 use Rattle.reader.specs.declared.Parsed.the-variants.{Nodes, Broken, Stops, Unknown, Refused}
-use Rattle.reader.specs.Words.{FirstUnknown}
-use Rattle.reader.specs.Parsing.{saidParsed, Row, Decides, Columns, written, namesOf, LeafUnder, Under, names, brokenNames, longText, noFormula, unknownName, largeFormula, shortRoom, parseRows, Taken, Parses}
+use Rattle.typed.proofs.Unique.{first-one}
+use Rattle.text.specs.Tokens.{Named}
+use Rattle.reader.specs.Parsing.{saidParsed, Row, Decides, Columns, written, brokenNames, longText, noFormula, unknownName, largeFormula, shortRoom, parseRows, Taken, Parses}
 
 -- ---- one formula for a tree
 
@@ -37,13 +38,13 @@ member (a ∷ l) (suc i) (suc j) h k = List·Memᴰ·tail (member l i j (omega a
 
 module _ (file : List ℕ) where
   abbrev all : List (List ℕ)
-  all = namesOf (wholeNames file)
+  all = namesIn file
 
   -- no name stands twice
   once : (i j : ℕ) → i < j → j < length all → getD all i [] ≡ getD all j [] → ⊥
   once i j h k e = by-names (wholeNames file) refl h k e
     where
-      by-names : (w : Got (List (List ℕ))) → wholeNames file ≡ w → i < j → j < length (namesOf w) → getD (namesOf w) i [] ≡ getD (namesOf w) j [] → ⊥
+      by-names : (w : Got (List (List ℕ))) → wholeNames file ≡ w → i < j → j < length (listed w) → getD (listed w) i [] ≡ getD (listed w) j [] → ⊥
       by-names (got ns next) q h k e =
           let s = names-sound file propositions 0 (end-sound file (namesUpTo propositions file 0) q .0) in
           let g = each-at GoodName [] ns [] (s .fits) j k in
@@ -57,14 +58,14 @@ module _ (file : List ℕ) where
     | no l ↦ elim (decLt q p) [ yes m ↦ absurd (once q p m h (sym e)) | no m ↦ omega arith ]
   ]
 
-  same-leaf : (a b : Leaf) → LeafUnder (length all) a → LeafUnder (length all) b → atomOf all a ≡ atomOf all b → a ≡ b
+  same-leaf : (a b : Leaf) → Named (length all) (leaf a) → Named (length all) (leaf b) → atomOf all a ≡ atomOf all b → a ≡ b
   same-leaf (proposition p) (proposition q) h k e = let n : getD all p [] ≡ getD all q [] = cc in ap proposition (same-place p q h k n)
   same-leaf (proposition p) (formula.constant b) h k e = absurd (let z : _≡_ {A = ℕ} 0 1 = cc in omega arith)
   same-leaf (formula.constant a) (proposition q) h k e = absurd (let z : _≡_ {A = ℕ} 0 1 = cc in omega arith)
   same-leaf (formula.constant a) (formula.constant b) h k e = cc
 
-  one-formula : (s t : Formula) → Under (length all) s → Under (length all) t → typed all s ≡ typed all t → s ≡ t
-  unfolding typed Under
+  pub one-formula : (s t : Formula) → Named (length all) s → Named (length all) t → typed all s ≡ typed all t → s ≡ t
+  unfolding typed
   one-formula (leaf a) (leaf b) h k e = ap leaf (same-leaf a b h k (let q : atomOf all a ≡ atomOf all b = cc in q))
   one-formula (leaf a) (unary u t) h k e = absurd (let z : _≡_ {A = ℕ} 0 1 = cc in omega arith)
   one-formula (leaf a) (binary o l r) h k e = absurd (let z : _≡_ {A = ℕ} 0 1 = cc in omega arith)
@@ -109,12 +110,6 @@ decides-one (row ∷ rows) o P Q s r f (inr a) (inl b) = absurd (a .0 (r .values
 decides-one (row ∷ rows) o P Q s r f (inr a) (inr b) = decides-one rows (o .1) P Q s r f (a .1) (b .1)
 
 module _ (file text : List ℕ) (old : Columns) where
-  first-one : (j k : ℕ) → FirstUnknown (names file text old) text j → FirstUnknown (names file text old) text k → j ≡ k
-  first-one j k a b = elim (decLt j k) [
-    | yes h ↦ absurd (b .before j h (a .here))
-    | no h ↦ elim (decLt k j) [ yes g ↦ absurd (a .before k g (b .here)) | no g ↦ omega arith ]
-  ]
-
   rows-one : AllOne (parseRows file text old)
   unfolding AllOne
   rows-one = (

@@ -17,7 +17,8 @@ use Rattle.formula.specs.Nodes.{Node}
 use Rattle.writing.proofs.Writing.{sets-both}
 use Rattle.grammar.specs.Token.{Atom, name, constant, Typed}
 use Rattle.grammar.specs.Nodes.{nodesOf}
-use Rattle.reader.specs.Inner.{namesIn, GoodNames, codesBy, atomCode, pack, packs}
+use Rattle.names.specs.Names.{namesIn, GoodNames}
+use Rattle.reader.specs.Inner.{codesBy, atomCode, pack, packs}
 use Rattle.reader.proofs.Lookup.{field-small}
 
 module _ (f : ℕ → ℕ) (scratch : List ℕ) where

@@ -13,7 +13,7 @@ use Rattle.formula.specs.Formula.{size}
 use Rattle.formula.specs.Nodes.{Node}
 use Rattle.grammar.specs.Nodes.{nodesOf}
 use Rattle.grammar.specs.Token.{Typed, Atom, Token, pre, atom, opens, closes}
-use Rattle.names.specs.Names.{isNameByte}
+use Rattle.names.specs.Names.{isNameByte, namesIn, GoodNames}
 use Rattle.grammar.specs.Grammar.{operand, level, rightLevel, Derives, Reads, Refused11}
 use Rattle.sequence.specs.Operators.Unary.{strongNext}
 use Rattle.grammar.specs.Scan.{leafy, classify, ready, after, rest, word as inWord}
@@ -29,7 +29,7 @@ use Rattle.reader.specs.declared.Got.the-variants.{Val, Bad}
 use Rattle.reader.specs.declared.judge.Judged.{Judged}
 use Rattle.reader.specs.declared.judge.Judged.the-variants.{Nodes as Sized, Long, Stops as StopsAt, Unknown as UnknownName, Large}
 use Rattle.reader.specs.Words.{mostBytes, UnknownAt, FirstUnknown, Deep}
-use Rattle.reader.specs.Inner.{namesIn, GoodNames, codesBy, packs, mostField}
+use Rattle.reader.specs.Inner.{codesBy, packs, mostField}
 
 -- the next operator, with offsets of the whole text
 abbrev pub Said : ℕ → Peek → Op → Type 0
@@ -47,12 +47,13 @@ abbrev pub Operator : List ℕ → ℕ → Op → Type 0
 Operator text at r = Said at (peek (drop at text)) r
 
 -- the last byte of `->` or `<->`
-abbrev pub Arrow : List ℕ → ℕ → ℕ → Op → Type 0
-Arrow text at code r = (o : Binary) → level o ≡ 0 → rightLevel o ≡ 0 → binaryCode o ≡ code → Said at (expect (62 ∷ []) o (drop at text)) r
+abbrev pub Arrow : List ℕ → ℕ → ℕ → ℕ → Op → Type 0
+Arrow text at code right r = (o : Binary) → level o ≡ 0 → rightLevel o ≡ right → binaryCode o ≡ code → Said at (expect (62 ∷ []) o (drop at text)) r
 
 -- behind `U` or `R`
-abbrev pub word : List ℕ → ℕ → ℕ → Op
-word text at code = cond (isNameByte (getD text at 0)) (Cut at) (Is 3 3 at code)
+abbrev pub Word : List ℕ → ℕ → ℕ → ℕ → Op → Type 0
+Word text at code right r =
+    (o : Binary) → level o ≡ 3 → rightLevel o ≡ right → binaryCode o ≡ code → Said at (cond (isNameByte (getD text at 0)) (cut 0) (op o 0)) r
 
 -- a closing bracket, after an expression with which nothing goes on
 abbrev pub Closing : List ℕ → ℕ → End → Type 0

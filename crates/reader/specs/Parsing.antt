@@ -7,12 +7,12 @@ use Prim.Native.Nat.{ℕ, _<_}
 use lib.ListN.{length}
 use Rattle.rules.specs.Limits.{mostSize}
 use Rattle.rules.specs.Answers.{Said, over}
-use Rattle.formula.specs.Formula.{leaf, unary, binary, size, Leaf, proposition, Formula}
-use Rattle.formula.specs.Formula as formula
+use Rattle.formula.specs.Formula.{size, Formula}
 use Rattle.formula.specs.Nodes.{Node, codes}
 use Rattle.formula.specs.Kinds.{countOf}
-use Rattle.reading.specs.Reading.{Got, got, bad}
-use Rattle.names.specs.Names.{wholeNames}
+use Rattle.reading.specs.Reading.{bad}
+use Rattle.names.specs.Names.{wholeNames, namesIn}
+use Rattle.text.specs.Tokens.{Named}
 use Rattle.grammar.specs.Token.{Typed}
 use Rattle.grammar.specs.Grammar.{Reads, Refused11}
 use Rattle.grammar.specs.Naming.{typed}
@@ -75,24 +75,9 @@ written ns c =
 
 -- ---- the contract
 
--- the names of a section, where it is one
-abbrev pub namesOf : Got (List (List ℕ)) → List (List ℕ)
-namesOf (got names next) = names
-namesOf (bad o) = []
-
-abbrev pub LeafUnder : ℕ → Leaf → Type 0
-LeafUnder m (proposition p) = p < m
-LeafUnder m (formula.constant b) = Unit
-
--- the formula's propositions are below the count of names
-unfoldable pub Under : ℕ → Formula → Type 0
-Under m (leaf c) = LeafUnder m c
-Under m (unary u t) = Under m t
-Under m (binary o l r) = Under m l × Under m r
-
 module _ (file text : List ℕ) (old : Columns) where
   abbrev pub names : List (List ℕ)
-  names = namesOf (wholeNames file)
+  names = namesIn file
 
   -- "the names' 8"
   abbrev pub brokenNames : Row
@@ -122,11 +107,11 @@ module _ (file text : List ℕ) (old : Columns) where
   parseRows = brokenNames ∷ longText ∷ noFormula ∷ unknownName ∷ largeFormula ∷ shortRoom ∷ []
 
   -- "A text that isn't refused gives the one tree of the grammar, its nodes written left child, right child, parent, nothing shared": the formula
-  -- whose text, typed with these names, has that tree
+  -- whose text, typed with these names, has that tree; each of its propositions has a name
   pub record Taken (new : Columns) (s : Said) : Type 0 where
     pub number : s .number ≡ 0
     pub formula : Formula
-    pub under : Under (length names) formula
+    pub under : Named (length names) formula
     pub reads : Reads text (typed names formula)
     pub values : s .values ≡ size formula ∷ []
     pub nodes : new ≡ written (nodesOf codes 0 formula) old

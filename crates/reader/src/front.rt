@@ -1,5 +1,7 @@
 // What stands where an operand is awaited.
 use crate::bytes;
+use names::letter::is_letter;
+use names::letter::is_name_byte;
 ghost use mathlib.Core.Path.{_≡_};
 ghost use mathlib.Core.Bool.{true};
 ghost use Prim.Native.Nat.{_≤_, _<_, _+_};
@@ -24,7 +26,7 @@ fn run(text: &[u8], start: usize, i: usize) -> usize
         return i;
     }
     let b = bytes::byte(text, i);
-    if bytes::is_word(b) {
+    if is_name_byte(b) {
         return run(text, start, i + 1);
     }
     i
@@ -56,7 +58,7 @@ fn word(text: &[u8], at: usize, b: u8) -> First
 {
     let end = run(text, at, at + 1);
     let c = bytes::byte(text, end);
-    if bytes::is_word(c) {
+    if is_name_byte(c) {
         return First::Bad(end);
     }
     if end == at + 1 {
@@ -109,7 +111,7 @@ pub(crate) fn front(text: &[u8], at: usize) -> First
     if b == b'(' {
         return First::Open(at + 1);
     }
-    if bytes::is_letter(b) {
+    if is_letter(b) {
         return word(text, at, b);
     }
     First::Bad(at)

@@ -1,13 +1,13 @@
 // The text judged, in the order of the refusals; its tree's nodes are then in the scratch.
 use crate::Got;
-use crate::depth::deep;
 use crate::read_text;
-use crate::unknown::Missing;
-use crate::unknown::unknown;
+use typed::depth::deep;
+use typed::unknown::Missing;
+use typed::unknown::unknown;
 ghost use Prim.Native.Nat.{_≤_};
 ghost use lib.ListN.{length};
 ghost use Rattle.reader.specs.Words.{mostBytes};
-ghost use Rattle.reader.specs.Inner.{GoodNames};
+ghost use Rattle.names.specs.Names.{GoodNames};
 ghost use Rattle.reader.specs.Answers.{JudgedIs};
 
 // "4,096 bytes"

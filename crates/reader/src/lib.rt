@@ -1,25 +1,25 @@
 // Formulas read from text: names looked up, the text judged, the tree's nodes written.
 mod bytes;
-mod depth;
 mod fill;
 mod front;
 mod judge;
 mod leaves;
 mod nodes;
 mod operator;
-mod unknown;
 mod write;
 
 use front::First;
 use judge::Judged;
 use names::NamesAnswer;
 use nodes::put;
+use nodes::put_one;
+use nodes::put_two;
 use operator::End;
 use operator::Op;
 use write::least;
 ghost use Prim.Native.Nat.{_+_, _≤_};
 ghost use Rattle.reader.specs.Parsing.{saidParsed, columns, Parses};
-ghost use Rattle.reader.specs.Inner.{GoodNames};
+ghost use Rattle.names.specs.Names.{GoodNames};
 ghost use Rattle.reader.specs.Answers.{Room, Infix, More, Prefix, Bracket, Whole};
 ghost use Rattle.reader.specs.Lent.{ReadsGood};
 
@@ -105,14 +105,7 @@ fn read_more(
             let Got::Val { next: end, size: r } = t else {
                 return t;
             };
-            put(
-                scratch,
-                behind + r,
-                code,
-                behind - 1,
-                behind + r - 1,
-                1 + size + r,
-            );
+            put_two(scratch, code, behind, size, r);
             read_more(names, text, end, level, 1 + (size + r), place, scratch)
         }
     }
@@ -130,10 +123,11 @@ fn read_prefix(names: &[u8], text: &[u8], at: usize, place: usize, scratch: &mut
             let Got::Val { next: end, size } = t else {
                 return t;
             };
-            put(scratch, place + size, code, place + size - 1, 0, 1 + size);
+            put_one(scratch, code, place, size);
+            let whole = 1 + size;
             Got::Val {
                 next: end,
-                size: 1 + size,
+                size: whole,
             }
         }
         First::Open(next) => read_bracket(names, text, next, place, scratch),
@@ -172,7 +166,9 @@ fn read_good(
     sizes: &mut [u8],
 ) -> Parsed
     requires { ⌜ GoodNames (now names) ⌝ }
-    ensures { λ p. ⌜ ReadsGood (now (names .entry)) (now (text .entry)) (columns (now (codes .entry)) (now (lefts .entry)) (now (rights .entry)) (now (sizes .entry))) (columns (now (codes .exit)) (now (lefts .exit)) (now (rights .exit)) (now (sizes .exit))) (saidParsed p) ⌝ }
+    ensures { λ p. ⌜ ReadsGood (now (names .entry)) (now (text .entry))
+        (columns (now (codes .entry)) (now (lefts .entry)) (now (rights .entry)) (now (sizes .entry)))
+        (columns (now (codes .exit)) (now (lefts .exit)) (now (rights .exit)) (now (sizes .exit))) (saidParsed p) ⌝ }
 {
     let mut scratch = [0u64; 4096];
     let j = judge::judge(names, text, &mut scratch);
@@ -200,7 +196,9 @@ pub fn parse(
     rights: &mut [u16],
     sizes: &mut [u8],
 ) -> Parsed
-    ensures { λ p. ⌜ Parses (now (names .entry)) (now (text .entry)) (columns (now (codes .entry)) (now (lefts .entry)) (now (rights .entry)) (now (sizes .entry))) (columns (now (codes .exit)) (now (lefts .exit)) (now (rights .exit)) (now (sizes .exit))) (saidParsed p) ⌝ }
+    ensures { λ p. ⌜ Parses (now (names .entry)) (now (text .entry))
+        (columns (now (codes .entry)) (now (lefts .entry)) (now (rights .entry)) (now (sizes .entry)))
+        (columns (now (codes .exit)) (now (lefts .exit)) (now (rights .exit)) (now (sizes .exit))) (saidParsed p) ⌝ }
 {
     let judged = names::judge(names);
     match judged {

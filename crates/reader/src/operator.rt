@@ -1,9 +1,9 @@
 // The infix operator that comes next, and the closing bracket.
 use crate::bytes;
-ghost use mathlib.Core.Path.{_≡_};
+use names::letter::is_name_byte;
 ghost use Prim.Native.Nat.{_≤_, _<_};
 ghost use lib.ListN.{length};
-ghost use Rattle.reader.specs.Answers.{Operator, Closing, Ending, Arrow, word};
+ghost use Rattle.reader.specs.Answers.{Operator, Closing, Ending, Arrow, Word};
 
 // An operator has its level, the lowest level at its right, and its end.
 pub(crate) enum Op {
@@ -23,16 +23,16 @@ pub(crate) enum End {
     Bad(usize),
 }
 
-// `>`, the last byte of an operator.
-fn arrow(text: &[u8], at: usize, code: u8) -> Op
+// `>`, the last byte of an operator; which levels may stand at its right.
+fn arrow(text: &[u8], at: usize, code: u8, right: u8) -> Op
     requires { ⌜ at ≤ length (now text) ⌝ }
-    ensures { λ r. ⌜ Arrow (now (text .entry)) at code r ⌝ }
+    ensures { λ r. ⌜ Arrow (now (text .entry)) at code right r ⌝ }
 {
     let b = bytes::byte(text, at);
     if b == b'>' {
         return Op::Is {
             level: 0,
-            right: 0,
+            right,
             next: at + 1,
             code,
         };
@@ -40,17 +40,17 @@ fn arrow(text: &[u8], at: usize, code: u8) -> Op
     Op::Cut(at)
 }
 
-// Behind `U` and `R`, after which no word's byte may come.
-fn word_op(text: &[u8], at: usize, code: u8) -> Op
-    ensures { λ r. ⌜ r ≡ word (now (text .entry)) at code ⌝ }
+// Behind `U` and `R`, after which no word's byte may come; which levels may stand at their right.
+fn word_op(text: &[u8], at: usize, code: u8, right: u8) -> Op
+    ensures { λ r. ⌜ Word (now (text .entry)) at code right r ⌝ }
 {
     let b = bytes::byte(text, at);
-    if bytes::is_word(b) {
+    if is_name_byte(b) {
         return Op::Cut(at);
     }
     Op::Is {
         level: 3,
-        right: 3,
+        right,
         next: at,
         code,
     }
@@ -84,20 +84,20 @@ pub(crate) fn operator(text: &[u8], at: usize) -> Op
         };
     }
     if b == b'-' {
-        return arrow(text, at + 1, 9);
+        return arrow(text, at + 1, 9, 0);
     }
     if b == b'<' {
         let c = bytes::byte(text, at + 1);
         if c == b'-' {
-            return arrow(text, at + 2, 10);
+            return arrow(text, at + 2, 10, 0);
         }
         return Op::Cut(at + 1);
     }
     if b == b'U' {
-        return word_op(text, at + 1, 7);
+        return word_op(text, at + 1, 7, 3);
     }
     if b == b'R' {
-        return word_op(text, at + 1, 8);
+        return word_op(text, at + 1, 8, 3);
     }
     Op::Nothing(at)
 }

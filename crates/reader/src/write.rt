@@ -30,7 +30,9 @@ pub(crate) fn write(
     sizes: &mut [u8],
 )
     requires { ⌜ Enough n (now scratch) (now codes) (now lefts) (now rights) (now sizes) ⌝ }
-    ensures { λ _. ⌜ Unpacked n (now (scratch .entry)) (now (codes .entry)) (now (lefts .entry)) (now (rights .entry)) (now (sizes .entry)) (now (codes .exit)) (now (lefts .exit)) (now (rights .exit)) (now (sizes .exit)) ⌝ }
+    ensures { λ _. ⌜ Unpacked n (now (scratch .entry))
+        (now (codes .entry)) (now (lefts .entry)) (now (rights .entry)) (now (sizes .entry))
+        (now (codes .exit)) (now (lefts .exit)) (now (rights .exit)) (now (sizes .exit)) ⌝ }
 {
     fill_bytes(scratch, n, 1, codes);
     fill_places(scratch, n, 256, lefts);

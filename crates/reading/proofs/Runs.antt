@@ -1,11 +1,11 @@
--- Runs of bytes from an offset on: one byte more at either end, and their length.
+-- Runs of bytes from an offset on: one byte more at either end.
 -- Assumes nothing.
 use mathlib.Core.Path.{_≡_}
 use mathlib.Core.List.{List, [], _∷_, _++_}
-use Prim.Native.Nat.{ℕ, suc, _+_, _≤_, _<_}
+use Prim.Native.Nat.{ℕ, suc, _+_, _<_}
 use native.Mathlib.Omega.{arith}
 use native.Mathlib.Numerals.{add-one}
-use lib.ListN.{length, getD, take, drop, length-take, length-drop}
+use lib.ListN.{length, getD, take, drop, length-drop}
 use lib.Seq.{drop-cons, take-suc, getD-drop}
 
 module _ (file : List ℕ) where
@@ -14,6 +14,3 @@ module _ (file : List ℕ) where
 
   pub run-more : (from i : ℕ) → from + i < length file → take (i + 1) (drop from file) ≡ take i (drop from file) ++ (getD file (from + i) 0 ∷ [])
   run-more from i h = rw (add-one, take-suc (drop from file) i 0 (omega (arith, length-drop from file)), getD-drop from file i 0)
-
-  pub run-length : (n x : ℕ) → x + n ≤ length file → length (take n (drop x file)) ≡ n
-  run-length n x h = omega (arith, length-take n (drop x file), length-drop x file)

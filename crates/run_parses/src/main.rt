@@ -105,6 +105,11 @@ fn example(text: &[u8]) {
     answer(text);
 }
 
+fn named(what: &[u8], text: &[u8]) {
+    say(what);
+    answer(text);
+}
+
 fn longest(what: &[u8], b: u8) {
     say(what);
     let text = [b; 4096];
@@ -138,6 +143,14 @@ fn main() {
     example(b"Xp");
     example(b"p & zz & yy");
     example(b"zz (");
+    named(
+        b"nesting-64: ",
+        b"((((((((((((((((((((((((((((((((((((((((((((((((((((((((((((((((p))))))))))))))))))))))))))))))))))))))))))))))))))))))))))))))))",
+    );
+    named(
+        b"nesting-65: ",
+        b"(((((((((((((((((((((((((((((((((((((((((((((((((((((((((((((((((p)))))))))))))))))))))))))))))))))))))))))))))))))))))))))))))))))",
+    );
     longest(b"4,096 times `(`: ", b'(');
     longest(b"4,096 times `!`: ", b'!');
     longest(b"4,096 times `p`: ", b'p');

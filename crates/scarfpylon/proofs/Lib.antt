@@ -3,6 +3,7 @@ pub mod Operating
 pub mod Searching
 pub mod Checking
 pub mod Printing
+pub mod Parsing
 pub mod Reading
 pub mod Unique
 pub mod Promises

@@ -26,12 +26,16 @@ use Rattle.text.proofs.Unique.{print-unique}
 use Rattle.search.specs.declared.SearchAnswer.{SearchAnswer}
 use Rattle.search.specs.Table.{Cols}
 use Rattle.search.proofs.Promises.{search-unique}
-use Rattle.scarfpylon.specs.Out.{word, written, saidWords}
+use Rattle.reader.specs.declared.Parsed.{Parsed}
+use Rattle.reader.specs.Parsing.{Columns, saidParsed}
+use Rattle.scarfpylon.specs.Out.{word, written, returnedOf, saidWords}
 use Rattle.scarfpylon.specs.Operators.{OperatorDone, UnaryDone, BinaryDone}
 use Rattle.scarfpylon.specs.Search.{searchWords, SearchDone}
 use Rattle.scarfpylon.specs.Check.{CheckDone}
 use Rattle.scarfpylon.specs.Print.{PrintNumber, PrintDone}
+use Rattle.scarfpylon.specs.Parse.{ParseDone}
 use Rattle.scarfpylon.specs.Read.{ReadDone, done, readDone}
+use Rattle.scarfpylon.proofs.Parsing.{same-parsed}
 
 -- ---- the operators
 
@@ -115,7 +119,18 @@ print-done-unique names k root room old m n u v x y p q =
           (o, a .0 ∙ sym (b .0), a .1 ∙ sym (b .1))
     ]
 
--- ---- the reader: its contract is the equation itself
+-- ---- formulas read from text
+
+pub parse-done-unique : (names text : List ℕ) (lent : Columns) (old : List ℕ) (k l : ℕ) (u v : Columns) (x y : List ℕ)
+    → ParseDone names text lent old k u x → ParseDone names text lent old l v y → (k ≡ l) × (u ≡ v) × (x ≡ y)
+parse-done-unique names text lent old k l u v x y p q =
+    let e = same-parsed names text lent old p q in (
+      p .number ∙ ap (λ (w : Parsed). returnedOf (saidParsed w)) (e .0) ∙ sym (q .number),
+      e .1,
+      p .words ∙ ap (λ (w : Parsed). written (saidWords (saidParsed w)) old) (e .0) ∙ sym (q .words),
+    )
+
+-- ---- the reader of session files: its contract is the equation itself
 
 pub read-done-unique : (file : List ℕ) (l : Lent) (old : List ℕ) (m n : ℕ) (u v : Lent) (x y : List ℕ) → done m u x ≡ readDone file l old → done n v y ≡ readDone file l old
     → (m ≡ n) × (u ≡ v) × (x ≡ y)

@@ -16,7 +16,9 @@ use Rattle.formula.specs.Nodes.{Node}
 use Rattle.formula.specs.Rule.{brokenList}
 use Rattle.checks.specs.Refusals.{settingWrong}
 use Rattle.walk.specs.Input.{inputOf}
-use Rattle.scarfpylon.specs.Out.{outWords, word, written, brokenAt}
+use Rattle.reader.specs.declared.Parsed.{Parsed}
+use Rattle.reader.specs.Parsing.{Columns, columns, saidParsed, Parses}
+use Rattle.scarfpylon.specs.Out.{outWords, word, written, brokenAt, returnedOf}
 
 -- ---- where `out` is too short: what comes before 3 decides, and else 3
 
@@ -32,6 +34,10 @@ CheckUnanswered r m k = Decided (outsideNumbers r m ∷ noAnswer ∷ []) k
 abbrev pub PrintUnanswered : Got (List (List ℕ)) → List Node → Node → ℕ → Type 0
 PrintUnanswered (bad o) k root returned = returned ≡ brokenAt o
 PrintUnanswered (got names next) k root returned = Decided (brokenList (length names) k root ∷ noAnswer ∷ []) returned
+
+abbrev pub ParseUnanswered : List ℕ → List ℕ → ℕ → Type 0
+ParseUnanswered names text k =
+    (p : Parsed) × (left : Columns) × Parses names text (columns [] [] [] []) left (saidParsed p) × (k ≡ returnedOf (saidParsed p))
 
 abbrev pub readUnanswered : Got Parts → ℕ
 readUnanswered (bad o) = brokenAt o

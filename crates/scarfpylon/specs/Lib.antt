@@ -6,6 +6,7 @@ pub mod Operators
 pub mod Search
 pub mod Check
 pub mod Print
+pub mod Parse
 pub mod Read
 pub mod Promises
 pub mod Inner

@@ -34,15 +34,18 @@ abbrev pub inOrder : ℕ → List ℕ → List Named
 inOrder at [] = []
 inOrder at (v ∷ vs) = word at v ∷ inOrder (suc at) vs
 
--- ---- an answer in document 01's terms: its number, and its values (of number 8 the offset)
+-- ---- an answer in document 01's terms: its number, and its values (of numbers 8, 11 and 13 the offset)
 
--- "0 where it answered, else the refusal number, with 256 x offset added for number 8"
+-- "0 where it answered, else the refusal number, with 256 x offset added for numbers 8, 11 and 13": those that carry one
+abbrev pub refusedAt : ℕ → ℕ → ℕ
+refusedAt number offset = number + 256 * offset
+
 abbrev pub brokenAt : ℕ → ℕ
-brokenAt offset = 8 + 256 * offset
+brokenAt offset = refusedAt 8 offset
 
 abbrev pub numberWith : ℕ → List ℕ → ℕ
 numberWith k [] = k
-numberWith k (v ∷ vs) = cond (eqb k 8) (brokenAt v) k
+numberWith k (v ∷ vs) = cond (eqb k 0) 0 (refusedAt k v)
 
 abbrev pub returnedOf : Said → ℕ
 returnedOf s = numberWith (s .number) (s .values)

@@ -1,4 +1,4 @@
-// The C boundary: operators, search, check, print and reader on numbers and slices of numbers. Every function returns 0 where it answered, else a refusal's number, and
+// The C boundary: operators, search, check, print and the readers of formulas and files on numbers and slices of numbers. Every function returns 0 where it answered, else a refusal's number, and
 // answers in the slice `out`.
 mod out;
 mod short;
@@ -9,6 +9,7 @@ use sequence::CharSeq;
 ghost use mathlib.Core.Path.{_≡_};
 ghost use Rattle.file.specs.Reading.{lent};
 ghost use Rattle.formula.specs.Kinds.{node, nodes};
+ghost use Rattle.reader.specs.Parsing.{columns};
 ghost use Rattle.session.specs.Recording.{recording};
 ghost use Rattle.search.specs.Table.{cols};
 ghost use Rattle.walk.specs.Input.{inputOf};
@@ -16,6 +17,7 @@ ghost use Rattle.scarfpylon.specs.Operators.{UnaryDone, BinaryDone};
 ghost use Rattle.scarfpylon.specs.Search.{SearchDone};
 ghost use Rattle.scarfpylon.specs.Check.{CheckDone};
 ghost use Rattle.scarfpylon.specs.Print.{PrintDone};
+ghost use Rattle.scarfpylon.specs.Parse.{ParseDone};
 ghost use Rattle.scarfpylon.specs.Read.{done, readDone};
 
 // The unary operator of a code on a sequence.
@@ -195,6 +197,34 @@ pub extern "C" fn scarfpylon_print(
     let answer = text::print(names, codes, lefts, rights, sizes, root, text);
     out::put_printed(answer, out);
     out::printed_number(answer)
+}
+
+// The nodes of a formula that is typed, in the lent slices, the root last.
+#[no_mangle]
+pub extern "C" fn scarfpylon_parse(
+    names: &[u8],
+    text: &[u8],
+    codes: &mut [u8],
+    lefts: &mut [u16],
+    rights: &mut [u16],
+    sizes: &mut [u8],
+    out: &mut [u64],
+) -> u64
+    ensures { λ k. ⌜ ParseDone
+        (now (names .entry))
+        (now (text .entry))
+        (columns (now (codes .entry)) (now (lefts .entry)) (now (rights .entry)) (now (sizes .entry)))
+        (now (out .entry))
+        k
+        (columns (now (codes .exit)) (now (lefts .exit)) (now (rights .exit)) (now (sizes .exit)))
+        (now (out .exit)) ⌝ }
+{
+    if out.len() < out::WORDS {
+        return short::parse(names, text);
+    }
+    let answer = reader::parse(names, text, codes, lefts, rights, sizes);
+    out::put_parsed(answer, out);
+    out::parsed_number(answer)
 }
 
 // A session file's parts, in the lent slices.

@@ -1,6 +1,7 @@
 // The number of an answer, and the words of `out` that it names.
 use file::ReadAnswer;
 use formula::Verdict;
+use reader::Parsed;
 use search::SearchAnswer;
 use sequence::Answer;
 use text::Printed;
@@ -9,21 +10,22 @@ ghost use Prim.Native.Nat.{_^_, _≤_, _<_};
 ghost use lib.ListN.{length};
 ghost use Rattle.file.specs.Reading as reading;
 ghost use Rattle.formula.specs.Check.{saidVerdict};
+ghost use Rattle.reader.specs.Parsing.{saidParsed};
 ghost use Rattle.text.specs.Print.{saidPrinted};
 ghost use Rattle.search.specs.Search.{said};
-ghost use Rattle.scarfpylon.specs.Out.{outWords, written, brokenAt, returnedOf, saidWords};
+ghost use Rattle.scarfpylon.specs.Out.{outWords, written, refusedAt, returnedOf, saidWords};
 ghost use Rattle.scarfpylon.specs.Search.{searchWords};
 ghost use Rattle.scarfpylon.specs.Inner.{Fits, SequencePut};
 
 // The words that `out` has to have.
 pub const WORDS: usize = 8;
 
-// Number 8 with its offset.
-fn broken_at(offset: usize) -> u64
-    requires { ⌜ brokenAt offset < 2 ^ 64 ⌝ }
-    ensures { λ k. ⌜ k ≡ brokenAt offset ⌝ }
+// A refusal's number with its offset.
+fn refused_at(number: u64, offset: usize) -> u64
+    requires { ⌜ refusedAt number offset < 2 ^ 64 ⌝ }
+    ensures { λ k. ⌜ k ≡ refusedAt number offset ⌝ }
 {
-    8 + 256 * (offset as u64)
+    number + 256 * (offset as u64)
 }
 
 // An operator's answer. It is the one whose `out` is looked at last.
@@ -115,7 +117,7 @@ pub(crate) fn printed_number(answer: Printed) -> u64
 {
     match answer {
         Printed::Text(_) => 0,
-        Printed::Broken(offset) => broken_at(offset),
+        Printed::Broken(offset) => refused_at(8, offset),
         Printed::Refused(number) => number as u64,
     }
 }
@@ -133,6 +135,34 @@ pub(crate) fn put_printed(answer: Printed, out: &mut [u64])
     }
 }
 
+pub(crate) fn parsed_number(answer: Parsed) -> u64
+    requires { ⌜ returnedOf (saidParsed answer) < 2 ^ 64 ⌝ }
+    ensures { λ k. ⌜ k ≡ returnedOf (saidParsed answer) ⌝ }
+{
+    match answer {
+        Parsed::Nodes(_) => 0,
+        Parsed::Broken(offset) => refused_at(8, offset),
+        Parsed::Stops(offset) => refused_at(11, offset),
+        Parsed::Unknown(offset) => refused_at(13, offset),
+        Parsed::Refused(number) => number as u64,
+    }
+}
+
+pub(crate) fn put_parsed(answer: Parsed, out: &mut [u64])
+    requires { ⌜ outWords ≤ length (now out) ⌝ }
+    ensures { λ u. ⌜ now (out .exit) ≡ written (saidWords (saidParsed answer)) (now (out .entry)) ⌝ }
+{
+    match answer {
+        Parsed::Nodes(count) => {
+            out[0] = count as u64;
+        }
+        Parsed::Broken(_) => {}
+        Parsed::Stops(_) => {}
+        Parsed::Unknown(_) => {}
+        Parsed::Refused(_) => {}
+    }
+}
+
 pub(crate) fn read_number(answer: ReadAnswer) -> u64
     requires { ⌜ Fits (reading.said answer) ⌝ }
     ensures { λ k. ⌜ k ≡ returnedOf (reading.said answer) ⌝ }
@@ -147,7 +177,7 @@ pub(crate) fn read_number(answer: ReadAnswer) -> u64
             constants: _,
             bound: _,
         } => 0,
-        ReadAnswer::Broken(offset) => broken_at(offset),
+        ReadAnswer::Broken(offset) => refused_at(8, offset),
         ReadAnswer::Room => 3,
     }
 }

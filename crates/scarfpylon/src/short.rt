@@ -1,5 +1,6 @@
 // Where `out` is too short for an answer: the number that the core gives when nothing is lent to it. It has to refuse then, with 3 at the latest,
 // and in its own order, so that none of its tests is repeated here.
+use crate::out::parsed_number;
 use crate::out::printed_number;
 use crate::out::read_number;
 use crate::out::search_number;
@@ -8,7 +9,7 @@ ghost use mathlib.Core.Path.{_≡_};
 ghost use Rattle.file.specs.Offence.{wholeFile};
 ghost use Rattle.names.specs.Names.{wholeNames};
 ghost use Rattle.formula.specs.Kinds.{nodeOf, nodes};
-ghost use Rattle.scarfpylon.specs.Inner.{SearchUnanswered, CheckUnanswered, PrintUnanswered, readUnanswered};
+ghost use Rattle.scarfpylon.specs.Inner.{SearchUnanswered, CheckUnanswered, PrintUnanswered, ParseUnanswered, readUnanswered};
 
 pub(crate) fn search(r: usize, m: usize, bound: usize, room: usize, constants: u8) -> u64
     ensures { λ k. ⌜ SearchUnanswered r m bound room constants k ⌝ }
@@ -52,6 +53,13 @@ pub(crate) fn print(
 {
     let answer = text::print(names, codes, lefts, rights, sizes, root, &mut []);
     printed_number(answer)
+}
+
+pub(crate) fn parse(names: &[u8], text: &[u8]) -> u64
+    ensures { λ k. ⌜ ParseUnanswered (now (names .entry)) (now (text .entry)) k ⌝ }
+{
+    let answer = reader::parse(names, text, &mut [], &mut [], &mut [], &mut []);
+    parsed_number(answer)
 }
 
 pub(crate) fn read(file: &[u8]) -> u64

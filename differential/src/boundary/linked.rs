@@ -9,7 +9,7 @@ use crate::program::root;
 
 /// The functions that the library has, each at its place in `FUNCTIONS`.
 pub struct Linked {
-    functions: [*mut c_void; 6],
+    functions: [*mut c_void; 7],
 }
 
 // A slice is pointer and count.
@@ -27,6 +27,7 @@ type Check = unsafe extern "C" fn(N, N, P, N, P, N, P, N, P, N, P, N, P, N, P, N
 type Print = unsafe extern "C" fn(P, N, P, N, P, N, P, N, P, N,
     u8, u16, u16, u8, P, N, P, N) -> u64;
 type Read = unsafe extern "C" fn(P, N, P, N, P, N, P, N, P, N, P, N, P, N) -> u64;
+type Parse = unsafe extern "C" fn(P, N, P, N, P, N, P, N, P, N, P, N, P, N) -> u64;
 
 impl Linked {
     pub fn load() -> Result<Self, String> {
@@ -75,6 +76,10 @@ impl Boundary for Linked {
                     x[0] as u8, x[1] as u16, x[2] as u16, x[3] as u8, s[5].0, s[5].1, s[6].0, s[6].1,
                 ),
                 Function::Read => transmute::<P, Read>(address)(
+                    s[0].0, s[0].1, s[1].0, s[1].1, s[2].0, s[2].1, s[3].0, s[3].1, s[4].0, s[4].1, s[5].0, s[5].1,
+                    s[6].0, s[6].1,
+                ),
+                Function::Parse => transmute::<P, Parse>(address)(
                     s[0].0, s[0].1, s[1].0, s[1].1, s[2].0, s[2].1, s[3].0, s[3].1, s[4].0, s[4].1, s[5].0, s[5].1,
                     s[6].0, s[6].1,
                 ),

@@ -18,15 +18,17 @@ pub enum Function {
     Check = 4,
     Print = 5,
     Read = 6,
+    Parse = 7,
 }
 
-pub const FUNCTIONS: [(Function, &str); 6] = [
+pub const FUNCTIONS: [(Function, &str); 7] = [
     (Function::Search, "scarfpylon_search"),
     (Function::Unary, "scarfpylon_unary"),
     (Function::Binary, "scarfpylon_binary"),
     (Function::Check, "scarfpylon_check"),
     (Function::Print, "scarfpylon_print"),
     (Function::Read, "scarfpylon_read"),
+    (Function::Parse, "scarfpylon_parse"),
 ];
 
 /// A lent slice: what may be written, and what may not.

@@ -25,6 +25,8 @@ use Rattle.reader.proofs.+read_bracket+read_infix+read_more+read_prefix
 use Rattle.reader.proofs.front.front.Reads as front-reads
 use Rattle.reader.proofs.leaves.leaf_of.Reads as leaf-of-reads
 use Rattle.reader.proofs.nodes.put.Reads as put-reads
+use Rattle.reader.proofs.nodes.put_one.Reads as put-one-reads
+use Rattle.reader.proofs.nodes.put_two.Reads as put-two-reads
 use Rattle.reader.proofs.operator.closing.Reads as closing-reads
 use Rattle.reader.proofs.operator.operator.Reads as operator-reads
 use Rattle.reader.proofs.+read_bracket+read_infix+read_more+read_prefix.{statement}
@@ -77,990 +79,405 @@ abbrev read-prefix-below : ℕ → In 3 read-prefix-kinds.ps
 read-prefix-below t =
     and 3 read-prefix-kinds.ps (falls 3 read-prefix-kinds.ps _<_ μ-read-prefix t) read-prefix.Pre
 
-read-bracket-read-infix-requires : (t : ℕ) → read-bracket-lts.Need-read-infix-requires (
+-- what its calls ask and promise, at a measure
+abbrev read-bracket-calls : ℕ → read-bracket-lts.Claims
+read-bracket-calls t = (
   read-infix-below t,
   read-infix.Post,
   closing-reads.Asked,
   closing-reads.Learnt,
-) (read-bracket-at t) read-bracket.Post
+)
+
+read-bracket-read-infix-requires : (t : ℕ) → read-bracket-lts.Need-read-infix-requires (read-bracket-calls t) (read-bracket-at t) read-bracket.Post
 read-bracket-read-infix-requires t c κs =
     let s = (c .before .before .before .before) in
     (omega arith, (room-on (s .pre .1) refl (s .pre .1 .within) (s .pre .1 .before), omega arith))
 
-read-bracket-enum-known-t : (t : ℕ) → read-bracket-lts.Need-enum-known-t (
-  read-infix-below t,
-  read-infix.Post,
-  closing-reads.Asked,
-  closing-reads.Learnt,
-) (read-bracket-at t) read-bracket.Post
+read-bracket-enum-known-t : (t : ℕ) → read-bracket-lts.Need-enum-known-t (read-bracket-calls t) (read-bracket-at t) read-bracket.Post
 read-bracket-enum-known-t t c = search needs
 
-read-bracket-enum-told : (t : ℕ) → read-bracket-lts.Need-enum-told (
-  read-infix-below t,
-  read-infix.Post,
-  closing-reads.Asked,
-  closing-reads.Learnt,
-) (read-bracket-at t) read-bracket.Post
+read-bracket-enum-told : (t : ℕ) → read-bracket-lts.Need-enum-told (read-bracket-calls t) (read-bracket-at t) read-bracket.Post
 read-bracket-enum-told t c = search needs
 
-read-bracket-same-length : (t : ℕ) → read-bracket-lts.Need-same-length (
-  read-infix-below t,
-  read-infix.Post,
-  closing-reads.Asked,
-  closing-reads.Learnt,
-) (read-bracket-at t) read-bracket.Post
+read-bracket-same-length : (t : ℕ) → read-bracket-lts.Need-same-length (read-bracket-calls t) (read-bracket-at t) read-bracket.Post
 read-bracket-same-length t c = search needs
 
-read-bracket-returns : (t : ℕ) → read-bracket-lts.Need-returns (
-  read-infix-below t,
-  read-infix.Post,
-  closing-reads.Asked,
-  closing-reads.Learnt,
-) (read-bracket-at t) read-bracket.Post
+read-bracket-returns : (t : ℕ) → read-bracket-lts.Need-returns (read-bracket-calls t) (read-bracket-at t) read-bracket.Post
 read-bracket-returns t c =
     let s = (c .before .before .before .before .before .before .before .before .before) in
-    bracket-refused (s .args .names .now) (s .args .text .now) (s .args .place) (s .args .scratch .now) _ (s .args .at) (c .enum-told .given .1) (c .before .before .before .before .read-infix .ensures)
+    bracket-refused (s .args .names .now) (s .args .text .now) (s .args .place) (s .args .scratch .now) _ (s .args .at) (c .enum-told .given .1)
+    (c .before .before .before .before .read-infix .ensures)
 
-read-bracket-closing-requires : (t : ℕ) → read-bracket-lts.Need-closing-requires (
-  read-infix-below t,
-  read-infix.Post,
-  closing-reads.Asked,
-  closing-reads.Learnt,
-) (read-bracket-at t) read-bracket.Post
+read-bracket-closing-requires : (t : ℕ) → read-bracket-lts.Need-closing-requires (read-bracket-calls t) (read-bracket-at t) read-bracket.Post
 read-bracket-closing-requires t c κs =
     let s = (c .before .before .before .before .before .before .before .before .before .before) in
-    infix-val (s .args .names .now) (s .args .text .now) (s .args .place) (s .args .scratch .now) _ 0 (s .args .at) (c .before .t .given .1) (c .before .before .before .before .before .read-infix .ensures) .0 .2
+    infix-val (s .args .names .now) (s .args .text .now) (s .args .place) (s .args .scratch .now) _ 0 (s .args .at) (c .before .t .given .1)
+    (c .before .before .before .before .before .read-infix .ensures) .0 .2
 
-read-bracket-enum-known-e : (t : ℕ) → read-bracket-lts.Need-enum-known-e (
-  read-infix-below t,
-  read-infix.Post,
-  closing-reads.Asked,
-  closing-reads.Learnt,
-) (read-bracket-at t) read-bracket.Post
+read-bracket-enum-known-e : (t : ℕ) → read-bracket-lts.Need-enum-known-e (read-bracket-calls t) (read-bracket-at t) read-bracket.Post
 read-bracket-enum-known-e t c = search needs
 
-read-bracket-enum-known-e-2 : (t : ℕ) → read-bracket-lts.Need-enum-known-e-2 (
-  read-infix-below t,
-  read-infix.Post,
-  closing-reads.Asked,
-  closing-reads.Learnt,
-) (read-bracket-at t) read-bracket.Post
+read-bracket-enum-known-e-2 : (t : ℕ) → read-bracket-lts.Need-enum-known-e-2 (read-bracket-calls t) (read-bracket-at t) read-bracket.Post
 read-bracket-enum-known-e-2 t c = search needs
 
-read-bracket-same-length-2 : (t : ℕ) → read-bracket-lts.Need-same-length-2 (
-  read-infix-below t,
-  read-infix.Post,
-  closing-reads.Asked,
-  closing-reads.Learnt,
-) (read-bracket-at t) read-bracket.Post
+read-bracket-same-length-2 : (t : ℕ) → read-bracket-lts.Need-same-length-2 (read-bracket-calls t) (read-bracket-at t) read-bracket.Post
 read-bracket-same-length-2 t c = search needs
 
-read-bracket-returns-2 : (t : ℕ) → read-bracket-lts.Need-returns-2 (
-  read-infix-below t,
-  read-infix.Post,
-  closing-reads.Asked,
-  closing-reads.Learnt,
-) (read-bracket-at t) read-bracket.Post
+read-bracket-returns-2 : (t : ℕ) → read-bracket-lts.Need-returns-2 (read-bracket-calls t) (read-bracket-at t) read-bracket.Post
 read-bracket-returns-2 t c =
     let s = (c .before .before .before .before .before .before .before .before .before .before .before .before .before .before) in
-    bracket-closed (s .args .names .now) (s .args .text .now) (s .args .place) (s .args .scratch .now) _ (s .args .at) (c .before .before .before .before .before .t .given .1) (c .before .before .before .before .before .before .before .before .before .read-infix .ensures) (c .before .e .given .1) (c .before .before .before .closing .ensures)
+    bracket-closed (s .args .names .now) (s .args .text .now) (s .args .place) (s .args .scratch .now) _ (s .args .at)
+    (c .before .before .before .before .before .t .given .1)
+    (c .before .before .before .before .before .before .before .before .before .read-infix .ensures) (c .before .e .given .1)
+    (c .before .before .before .closing .ensures)
 
-read-bracket-same-length-3 : (t : ℕ) → read-bracket-lts.Need-same-length-3 (
-  read-infix-below t,
-  read-infix.Post,
-  closing-reads.Asked,
-  closing-reads.Learnt,
-) (read-bracket-at t) read-bracket.Post
+read-bracket-same-length-3 : (t : ℕ) → read-bracket-lts.Need-same-length-3 (read-bracket-calls t) (read-bracket-at t) read-bracket.Post
 read-bracket-same-length-3 t c = search needs
 
-read-bracket-returns-3 : (t : ℕ) → read-bracket-lts.Need-returns-3 (
-  read-infix-below t,
-  read-infix.Post,
-  closing-reads.Asked,
-  closing-reads.Learnt,
-) (read-bracket-at t) read-bracket.Post
+read-bracket-returns-3 : (t : ℕ) → read-bracket-lts.Need-returns-3 (read-bracket-calls t) (read-bracket-at t) read-bracket.Post
 read-bracket-returns-3 t c =
     let s = (c .before .before .before .before .before .before .before .before .before .before .before .before .before .before) in
-    bracket-open (s .args .names .now) (s .args .text .now) (s .args .place) (s .args .scratch .now) _ (s .args .at) (c .before .before .before .before .before .t .given .1) (c .before .before .before .before .before .before .before .before .before .read-infix .ensures) (c .before .e2 .given .1) (c .before .before .before .closing .ensures)
+    bracket-open (s .args .names .now) (s .args .text .now) (s .args .place) (s .args .scratch .now) _ (s .args .at)
+    (c .before .before .before .before .before .t .given .1)
+    (c .before .before .before .before .before .before .before .before .before .read-infix .ensures) (c .before .e2 .given .1)
+    (c .before .before .before .closing .ensures)
 
-read-infix-read-prefix-requires : (t : ℕ) → read-infix-lts.Need-read-prefix-requires (
+-- what its calls ask and promise, at a measure
+abbrev read-infix-calls : ℕ → read-infix-lts.Claims
+read-infix-calls t = (
   read-prefix-below t,
   read-prefix.Post,
   read-more-below t,
   read-more.Post,
-) (read-infix-at t) read-infix.Post
+)
+
+read-infix-read-prefix-requires : (t : ℕ) → read-infix-lts.Need-read-prefix-requires (read-infix-calls t) (read-infix-at t) read-infix.Post
 read-infix-read-prefix-requires t c κs =
     let s = (c .before .before .before .before) in
     (omega arith, room-on (s .pre .1 .0) refl (s .pre .1 .0 .within) (s .pre .1 .0 .before))
 
-read-infix-enum-known-t : (t : ℕ) → read-infix-lts.Need-enum-known-t (
-  read-prefix-below t,
-  read-prefix.Post,
-  read-more-below t,
-  read-more.Post,
-) (read-infix-at t) read-infix.Post
+read-infix-enum-known-t : (t : ℕ) → read-infix-lts.Need-enum-known-t (read-infix-calls t) (read-infix-at t) read-infix.Post
 read-infix-enum-known-t t c = search needs
 
-read-infix-enum-told : (t : ℕ) → read-infix-lts.Need-enum-told (
-  read-prefix-below t,
-  read-prefix.Post,
-  read-more-below t,
-  read-more.Post,
-) (read-infix-at t) read-infix.Post
+read-infix-enum-told : (t : ℕ) → read-infix-lts.Need-enum-told (read-infix-calls t) (read-infix-at t) read-infix.Post
 read-infix-enum-told t c = search needs
 
-read-infix-same-length : (t : ℕ) → read-infix-lts.Need-same-length (
-  read-prefix-below t,
-  read-prefix.Post,
-  read-more-below t,
-  read-more.Post,
-) (read-infix-at t) read-infix.Post
+read-infix-same-length : (t : ℕ) → read-infix-lts.Need-same-length (read-infix-calls t) (read-infix-at t) read-infix.Post
 read-infix-same-length t c = search needs
 
-read-infix-returns : (t : ℕ) → read-infix-lts.Need-returns (
-  read-prefix-below t,
-  read-prefix.Post,
-  read-more-below t,
-  read-more.Post,
-) (read-infix-at t) read-infix.Post
+read-infix-returns : (t : ℕ) → read-infix-lts.Need-returns (read-infix-calls t) (read-infix-at t) read-infix.Post
 read-infix-returns t c =
     let s = (c .before .before .before .before .before .before .before .before .before) in
-    infix-refused (s .args .names .now) (s .args .text .now) (s .args .place) (s .args .scratch .now) _ (s .args .level) (s .args .at) (c .enum-told .given .1) (c .before .before .before .before .read-prefix .ensures)
+    infix-refused (s .args .names .now) (s .args .text .now) (s .args .place) (s .args .scratch .now) _ (s .args .level) (s .args .at)
+    (c .enum-told .given .1) (c .before .before .before .before .read-prefix .ensures)
 
-read-infix-read-more-requires : (t : ℕ) → read-infix-lts.Need-read-more-requires (
-  read-prefix-below t,
-  read-prefix.Post,
-  read-more-below t,
-  read-more.Post,
-) (read-infix-at t) read-infix.Post
+read-infix-read-more-requires : (t : ℕ) → read-infix-lts.Need-read-more-requires (read-infix-calls t) (read-infix-at t) read-infix.Post
 read-infix-read-more-requires t c κs =
     let s = (c .before .before .before .before .before .before .before .before .before .before .before) in
-    let x = prefix-val (s .args .names .now) (s .args .text .now) (s .args .place) (s .args .scratch .now) _ (s .args .at) (c .before .before .t .given .1) (c .before .before .before .before .before .before .read-prefix .ensures) in
+    let x = prefix-val (s .args .names .now) (s .args .text .now) (s .args .place) (s .args .scratch .now) _ (s .args .at) (c .before .before .t .given .1)
+    (c .before .before .before .before .before .before .read-prefix .ensures) in
     let r = s .pre .1 .0 in
     (omega (arith, x .0 .0, x .0 .1, x .0 .2), (room-on r (x .1) (x .0 .2) (omega (arith, x .0 .1, r .before)), x .0 .0))
 
-read-infix-same-length-2 : (t : ℕ) → read-infix-lts.Need-same-length-2 (
-  read-prefix-below t,
-  read-prefix.Post,
-  read-more-below t,
-  read-more.Post,
-) (read-infix-at t) read-infix.Post
+read-infix-same-length-2 : (t : ℕ) → read-infix-lts.Need-same-length-2 (read-infix-calls t) (read-infix-at t) read-infix.Post
 read-infix-same-length-2 t c = search needs
 
-read-infix-returns-2 : (t : ℕ) → read-infix-lts.Need-returns-2 (
-  read-prefix-below t,
-  read-prefix.Post,
-  read-more-below t,
-  read-more.Post,
-) (read-infix-at t) read-infix.Post
+read-infix-returns-2 : (t : ℕ) → read-infix-lts.Need-returns-2 (read-infix-calls t) (read-infix-at t) read-infix.Post
 read-infix-returns-2 t c =
     let s = (c .before .before .before .before .before .before .before .before .before .before .before .before .before .before) in
-    infix-more (s .args .names .now) (s .args .text .now) (s .args .place) (s .args .scratch .now) _ (s .args .level) (s .args .at) _ (c .before .before .read-more .result) (s .pre .1 .1) (c .before .before .before .before .before .t .given .1) (c .before .before .before .before .before .before .before .before .before .read-prefix .ensures) (c .before .before .read-more .ensures)
+    infix-more (s .args .names .now) (s .args .text .now) (s .args .place) (s .args .scratch .now) _ (s .args .level) (s .args .at) _
+    (c .before .before .read-more .result) (s .pre .1 .1) (c .before .before .before .before .before .t .given .1)
+    (c .before .before .before .before .before .before .before .before .before .read-prefix .ensures) (c .before .before .read-more .ensures)
 
-read-more-operator-requires : (t : ℕ) → read-more-lts.Need-operator-requires (
+-- what its calls ask and promise, at a measure
+abbrev read-more-calls : ℕ → read-more-lts.Claims
+read-more-calls t = (
   operator-reads.Asked,
   operator-reads.Learnt,
   read-infix-below t,
   read-infix.Post,
-  put-reads.Asked,
-  put-reads.Learnt,
+  put-two-reads.Asked,
+  put-two-reads.Learnt,
   read-more-below t,
   read-more.Post,
-) (read-more-at t) read-more.Post
+)
+
+read-more-operator-requires : (t : ℕ) → read-more-lts.Need-operator-requires (read-more-calls t) (read-more-at t) read-more.Post
 read-more-operator-requires t c κs = search needs
 
-read-more-enum-told : (t : ℕ) → read-more-lts.Need-enum-told (
-  operator-reads.Asked,
-  operator-reads.Learnt,
-  read-infix-below t,
-  read-infix.Post,
-  put-reads.Asked,
-  put-reads.Learnt,
-  read-more-below t,
-  read-more.Post,
-) (read-more-at t) read-more.Post
+read-more-enum-told : (t : ℕ) → read-more-lts.Need-enum-told (read-more-calls t) (read-more-at t) read-more.Post
 read-more-enum-told t c = search needs
 
-read-more-enum-known-o : (t : ℕ) → read-more-lts.Need-enum-known-o (
-  operator-reads.Asked,
-  operator-reads.Learnt,
-  read-infix-below t,
-  read-infix.Post,
-  put-reads.Asked,
-  put-reads.Learnt,
-  read-more-below t,
-  read-more.Post,
-) (read-more-at t) read-more.Post
+read-more-enum-known-o : (t : ℕ) → read-more-lts.Need-enum-known-o (read-more-calls t) (read-more-at t) read-more.Post
 read-more-enum-known-o t c = search needs
 
-read-more-enum-known-o-2 : (t : ℕ) → read-more-lts.Need-enum-known-o-2 (
-  operator-reads.Asked,
-  operator-reads.Learnt,
-  read-infix-below t,
-  read-infix.Post,
-  put-reads.Asked,
-  put-reads.Learnt,
-  read-more-below t,
-  read-more.Post,
-) (read-more-at t) read-more.Post
+read-more-enum-known-o-2 : (t : ℕ) → read-more-lts.Need-enum-known-o-2 (read-more-calls t) (read-more-at t) read-more.Post
 read-more-enum-known-o-2 t c = search needs
 
-read-more-returns : (t : ℕ) → read-more-lts.Need-returns (
-  operator-reads.Asked,
-  operator-reads.Learnt,
-  read-infix-below t,
-  read-infix.Post,
-  put-reads.Asked,
-  put-reads.Learnt,
-  read-more-below t,
-  read-more.Post,
-) (read-more-at t) read-more.Post
+read-more-returns : (t : ℕ) → read-more-lts.Need-returns (read-more-calls t) (read-more-at t) read-more.Post
 read-more-returns t c =
     let s = (c .before .before .before .before .before .before .before .before) in
-    more-low (s .args .names .now) (s .args .text .now) (s .args .place) (s .args .at) (s .pre .1 .0 .within) (s .args .level) (s .args .size) _ (c .before .before .o2 .given .1) (c .before .before .before .before .operator .ensures) (c .if1 .taken)
+    more-low (s .args .names .now) (s .args .text .now) (s .args .place) (s .args .at) (s .pre .1 .0 .within) (s .args .level) (s .args .size) _
+    (c .before .before .o2 .given .1) (c .before .before .before .before .operator .ensures) (c .if1 .taken)
 
-read-more-add-behind : (t : ℕ) → read-more-lts.Need-add-behind (
-  operator-reads.Asked,
-  operator-reads.Learnt,
-  read-infix-below t,
-  read-infix.Post,
-  put-reads.Asked,
-  put-reads.Learnt,
-  read-more-below t,
-  read-more.Post,
-) (read-more-at t) read-more.Post
+read-more-add-behind : (t : ℕ) → read-more-lts.Need-add-behind (read-more-calls t) (read-more-at t) read-more.Post
 read-more-add-behind t c =
     let s = (c .before .before .before .before .before .before .before .before) in
     let r = s .pre .1 .0 in
     omega (arith, r .before, r .within)
 
-read-more-read-infix-requires : (t : ℕ) → read-more-lts.Need-read-infix-requires (
-  operator-reads.Asked,
-  operator-reads.Learnt,
-  read-infix-below t,
-  read-infix.Post,
-  put-reads.Asked,
-  put-reads.Learnt,
-  read-more-below t,
-  read-more.Post,
-) (read-more-at t) read-more.Post
+read-more-read-infix-requires : (t : ℕ) → read-more-lts.Need-read-infix-requires (read-more-calls t) (read-more-at t) read-more.Post
 read-more-read-infix-requires t c κs =
     let s = (c .before .before .before .before .before .before .before .before .before) in
     let r = s .pre .1 .0 in
-    let x = op-next (s .args .names .now) (s .args .text .now) (s .args .place) (s .args .at) (s .pre .1 .0 .within) (c .before .before .before .o2 .given .1) (c .before .before .before .before .before .operator .ensures) in
+    let x = op-next (s .args .names .now) (s .args .text .now) (s .args .place) (s .args .at) (s .pre .1 .0 .within) (c .before .before .before .o2 .given .1)
+    (c .before .before .before .before .before .operator .ensures) in
     (omega (arith, x .0, x .1), (room-on r refl (x .1) (omega (arith, x .0, r .before)), x .2))
 
-read-more-enum-known-t : (t : ℕ) → read-more-lts.Need-enum-known-t (
-  operator-reads.Asked,
-  operator-reads.Learnt,
-  read-infix-below t,
-  read-infix.Post,
-  put-reads.Asked,
-  put-reads.Learnt,
-  read-more-below t,
-  read-more.Post,
-) (read-more-at t) read-more.Post
+read-more-enum-known-t : (t : ℕ) → read-more-lts.Need-enum-known-t (read-more-calls t) (read-more-at t) read-more.Post
 read-more-enum-known-t t c = search needs
 
-read-more-enum-told-2 : (t : ℕ) → read-more-lts.Need-enum-told-2 (
-  operator-reads.Asked,
-  operator-reads.Learnt,
-  read-infix-below t,
-  read-infix.Post,
-  put-reads.Asked,
-  put-reads.Learnt,
-  read-more-below t,
-  read-more.Post,
-) (read-more-at t) read-more.Post
+read-more-enum-told-2 : (t : ℕ) → read-more-lts.Need-enum-told-2 (read-more-calls t) (read-more-at t) read-more.Post
 read-more-enum-told-2 t c = search needs
 
-read-more-same-length : (t : ℕ) → read-more-lts.Need-same-length (
-  operator-reads.Asked,
-  operator-reads.Learnt,
-  read-infix-below t,
-  read-infix.Post,
-  put-reads.Asked,
-  put-reads.Learnt,
-  read-more-below t,
-  read-more.Post,
-) (read-more-at t) read-more.Post
+read-more-same-length : (t : ℕ) → read-more-lts.Need-same-length (read-more-calls t) (read-more-at t) read-more.Post
 read-more-same-length t c = search needs
 
-read-more-returns-2 : (t : ℕ) → read-more-lts.Need-returns-2 (
-  operator-reads.Asked,
-  operator-reads.Learnt,
-  read-infix-below t,
-  read-infix.Post,
-  put-reads.Asked,
-  put-reads.Learnt,
-  read-more-below t,
-  read-more.Post,
-) (read-more-at t) read-more.Post
+read-more-returns-2 : (t : ℕ) → read-more-lts.Need-returns-2 (read-more-calls t) (read-more-at t) read-more.Post
 read-more-returns-2 t c =
     let s = (c .before .before .before .before .before .before .before .before .before .before .before .before .before .before) in
-    more-refused (s .args .names .now) (s .args .text .now) (s .args .place) (s .args .at) (s .pre .1 .0 .within) (s .args .scratch .now) _ (s .args .level) (s .args .size) (s .args .place + s .args .size) (c .before .before .before .before .before .before .before .before .o2 .given .1) (c .before .before .before .before .before .before .before .before .before .before .operator .ensures) (c .enum-told2 .given .1) (c .before .before .before .before .read-infix .ensures)
+    more-refused (s .args .names .now) (s .args .text .now) (s .args .place) (s .args .at) (s .pre .1 .0 .within) (s .args .scratch .now) _
+    (s .args .level) (s .args .size) (s .args .place + s .args .size)
+    (c .before .before .before .before .before .before .before .before .o2 .given .1)
+    (c .before .before .before .before .before .before .before .before .before .before .operator .ensures) (c .enum-told2 .given .1)
+    (c .before .before .before .before .read-infix .ensures)
 
-read-more-add-put : (t : ℕ) → read-more-lts.Need-add-put (
-  operator-reads.Asked,
-  operator-reads.Learnt,
-  read-infix-below t,
-  read-infix.Post,
-  put-reads.Asked,
-  put-reads.Learnt,
-  read-more-below t,
-  read-more.Post,
-) (read-more-at t) read-more.Post
-read-more-add-put t c =
+read-more-put-two-requires : (t : ℕ) → read-more-lts.Need-put-two-requires (read-more-calls t) (read-more-at t) read-more.Post
+read-more-put-two-requires t c κs =
     let s = (c .before .before .before .before .before .before .before .before .before .before .before .before .before .before .before .before) in
     let r = s .pre .1 .0 in
-    let x = op-next (s .args .names .now) (s .args .text .now) (s .args .place) (s .args .at) (s .pre .1 .0 .within) (c .before .before .before .before .before .before .before .before .before .before .o2 .given .1) (c .before .before .before .before .before .before .before .before .before .before .before .before .operator .ensures) in
-    let y = infix-val (s .args .names .now) (s .args .text .now) (s .args .place + s .args .size) (s .args .scratch .now) _ _ _ (c .before .before .t .given .1) (c .before .before .before .before .before .before .read-infix .ensures) in
-    omega (arith, r .before, r .within, s .pre .1 .1, x .0, y .0 .0, y .0 .1, y .0 .2)
+    let x = op-next (s .args .names .now) (s .args .text .now) (s .args .place) (s .args .at) (s .pre .1 .0 .within)
+    (c .before .before .before .before .before .before .before .before .before .before .o2 .given .1)
+    (c .before .before .before .before .before .before .before .before .before .before .before .before .operator .ensures) in
+    let y = infix-val (s .args .names .now) (s .args .text .now) (s .args .place + s .args .size) (s .args .scratch .now) _ _ _ (c .before .before .t .given .1) (c .before .before .before .before .before .before .read-infix .ensures) in (
+      omega (arith, s .pre .1 .1),
+      omega (arith, r .before, r .room, x .0, y .0 .1, y .0 .2, y .1),
+      omega (arith, r .before, r .short, x .0, y .0 .1, y .0 .2),
+      omega (arith, r .before, r .short, x .0, y .0 .1, y .0 .2),
+    )
 
-read-more-sub-put : (t : ℕ) → read-more-lts.Need-sub-put (
-  operator-reads.Asked,
-  operator-reads.Learnt,
-  read-infix-below t,
-  read-infix.Post,
-  put-reads.Asked,
-  put-reads.Learnt,
-  read-more-below t,
-  read-more.Post,
-) (read-more-at t) read-more.Post
-read-more-sub-put t c =
-    let s = (c .before .before .before .before .before .before .before .before .before .before .before .before .before .before .before .before) in
-    let r = s .pre .1 .0 in
-    let x = op-next (s .args .names .now) (s .args .text .now) (s .args .place) (s .args .at) (s .pre .1 .0 .within) (c .before .before .before .before .before .before .before .before .before .before .o2 .given .1) (c .before .before .before .before .before .before .before .before .before .before .before .before .operator .ensures) in
-    let y = infix-val (s .args .names .now) (s .args .text .now) (s .args .place + s .args .size) (s .args .scratch .now) _ _ _ (c .before .before .t .given .1) (c .before .before .before .before .before .before .read-infix .ensures) in
-    omega (arith, r .before, r .within, s .pre .1 .1, x .0, y .0 .0, y .0 .1, y .0 .2)
-
-read-more-add-put-2 : (t : ℕ) → read-more-lts.Need-add-put-2 (
-  operator-reads.Asked,
-  operator-reads.Learnt,
-  read-infix-below t,
-  read-infix.Post,
-  put-reads.Asked,
-  put-reads.Learnt,
-  read-more-below t,
-  read-more.Post,
-) (read-more-at t) read-more.Post
-read-more-add-put-2 t c =
-    let s = (c .before .before .before .before .before .before .before .before .before .before .before .before .before .before .before .before) in
-    let r = s .pre .1 .0 in
-    let x = op-next (s .args .names .now) (s .args .text .now) (s .args .place) (s .args .at) (s .pre .1 .0 .within) (c .before .before .before .before .before .before .before .before .before .before .o2 .given .1) (c .before .before .before .before .before .before .before .before .before .before .before .before .operator .ensures) in
-    let y = infix-val (s .args .names .now) (s .args .text .now) (s .args .place + s .args .size) (s .args .scratch .now) _ _ _ (c .before .before .t .given .1) (c .before .before .before .before .before .before .read-infix .ensures) in
-    omega (arith, r .before, r .within, s .pre .1 .1, x .0, y .0 .0, y .0 .1, y .0 .2)
-
-read-more-sub-put-2 : (t : ℕ) → read-more-lts.Need-sub-put-2 (
-  operator-reads.Asked,
-  operator-reads.Learnt,
-  read-infix-below t,
-  read-infix.Post,
-  put-reads.Asked,
-  put-reads.Learnt,
-  read-more-below t,
-  read-more.Post,
-) (read-more-at t) read-more.Post
-read-more-sub-put-2 t c =
-    let s = (c .before .before .before .before .before .before .before .before .before .before .before .before .before .before .before .before) in
-    let r = s .pre .1 .0 in
-    let x = op-next (s .args .names .now) (s .args .text .now) (s .args .place) (s .args .at) (s .pre .1 .0 .within) (c .before .before .before .before .before .before .before .before .before .before .o2 .given .1) (c .before .before .before .before .before .before .before .before .before .before .before .before .operator .ensures) in
-    let y = infix-val (s .args .names .now) (s .args .text .now) (s .args .place + s .args .size) (s .args .scratch .now) _ _ _ (c .before .before .t .given .1) (c .before .before .before .before .before .before .read-infix .ensures) in
-    omega (arith, r .before, r .within, s .pre .1 .1, x .0, y .0 .0, y .0 .1, y .0 .2)
-
-read-more-add-put-3 : (t : ℕ) → read-more-lts.Need-add-put-3 (
-  operator-reads.Asked,
-  operator-reads.Learnt,
-  read-infix-below t,
-  read-infix.Post,
-  put-reads.Asked,
-  put-reads.Learnt,
-  read-more-below t,
-  read-more.Post,
-) (read-more-at t) read-more.Post
-read-more-add-put-3 t c =
-    let s = (c .before .before .before .before .before .before .before .before .before .before .before .before .before .before .before .before) in
-    let r = s .pre .1 .0 in
-    let x = op-next (s .args .names .now) (s .args .text .now) (s .args .place) (s .args .at) (s .pre .1 .0 .within) (c .before .before .before .before .before .before .before .before .before .before .o2 .given .1) (c .before .before .before .before .before .before .before .before .before .before .before .before .operator .ensures) in
-    let y = infix-val (s .args .names .now) (s .args .text .now) (s .args .place + s .args .size) (s .args .scratch .now) _ _ _ (c .before .before .t .given .1) (c .before .before .before .before .before .before .read-infix .ensures) in
-    omega (arith, r .before, r .within, s .pre .1 .1, x .0, y .0 .0, y .0 .1, y .0 .2)
-
-read-more-add-put-4 : (t : ℕ) → read-more-lts.Need-add-put-4 (
-  operator-reads.Asked,
-  operator-reads.Learnt,
-  read-infix-below t,
-  read-infix.Post,
-  put-reads.Asked,
-  put-reads.Learnt,
-  read-more-below t,
-  read-more.Post,
-) (read-more-at t) read-more.Post
-read-more-add-put-4 t c =
-    let s = (c .before .before .before .before .before .before .before .before .before .before .before .before .before .before .before .before) in
-    let r = s .pre .1 .0 in
-    let x = op-next (s .args .names .now) (s .args .text .now) (s .args .place) (s .args .at) (s .pre .1 .0 .within) (c .before .before .before .before .before .before .before .before .before .before .o2 .given .1) (c .before .before .before .before .before .before .before .before .before .before .before .before .operator .ensures) in
-    let y = infix-val (s .args .names .now) (s .args .text .now) (s .args .place + s .args .size) (s .args .scratch .now) _ _ _ (c .before .before .t .given .1) (c .before .before .before .before .before .before .read-infix .ensures) in
-    omega (arith, r .before, r .within, s .pre .1 .1, x .0, y .0 .0, y .0 .1, y .0 .2)
-
-read-more-put-requires : (t : ℕ) → read-more-lts.Need-put-requires (
-  operator-reads.Asked,
-  operator-reads.Learnt,
-  read-infix-below t,
-  read-infix.Post,
-  put-reads.Asked,
-  put-reads.Learnt,
-  read-more-below t,
-  read-more.Post,
-) (read-more-at t) read-more.Post
-read-more-put-requires t c κs =
-    let s = (c .before .before .before .before .before .before .before .before .before .before .before .before .before .before .before .before) in
-    let r = s .pre .1 .0 in
-    let x = op-next (s .args .names .now) (s .args .text .now) (s .args .place) (s .args .at) (s .pre .1 .0 .within) (c .before .before .before .before .before .before .before .before .before .before .o2 .given .1) (c .before .before .before .before .before .before .before .before .before .before .before .before .operator .ensures) in
-    let y = infix-val (s .args .names .now) (s .args .text .now) (s .args .place + s .args .size) (s .args .scratch .now) _ _ _ (c .before .before .t .given .1) (c .before .before .before .before .before .before .read-infix .ensures) in
-    (omega (arith, r .before, r .room, x .0, y .0 .1, y .0 .2, y .1), omega (arith, r .before, r .within, r .short), omega (arith, r .before, r .short, x .0, y .0 .1, y .0 .2), omega (arith, r .before, r .short, x .0, y .0 .1, y .0 .2))
-
-read-more-add-read-more : (t : ℕ) → read-more-lts.Need-add-read-more (
-  operator-reads.Asked,
-  operator-reads.Learnt,
-  read-infix-below t,
-  read-infix.Post,
-  put-reads.Asked,
-  put-reads.Learnt,
-  read-more-below t,
-  read-more.Post,
-) (read-more-at t) read-more.Post
+read-more-add-read-more : (t : ℕ) → read-more-lts.Need-add-read-more (read-more-calls t) (read-more-at t) read-more.Post
 read-more-add-read-more t c =
     let s = (c .before .before .before .before .before .before .before .before .before .before .before .before .before .before .before .before .before .before .before) in
     let r = s .pre .1 .0 in
-    let x = op-next (s .args .names .now) (s .args .text .now) (s .args .place) (s .args .at) (s .pre .1 .0 .within) (c .before .before .before .before .before .before .before .before .before .before .before .before .before .o2 .given .1) (c .before .before .before .before .before .before .before .before .before .before .before .before .before .before .before .operator .ensures) in
-    let y = infix-val (s .args .names .now) (s .args .text .now) (s .args .place + s .args .size) (s .args .scratch .now) _ _ _ (c .before .before .before .before .before .t .given .1) (c .before .before .before .before .before .before .before .before .before .read-infix .ensures) in
+    let x = op-next (s .args .names .now) (s .args .text .now) (s .args .place) (s .args .at) (s .pre .1 .0 .within)
+    (c .before .before .before .before .before .before .before .before .before .before .before .before .before .o2 .given .1)
+    (c .before .before .before .before .before .before .before .before .before .before .before .before .before .before .before .operator .ensures) in
+    let y = infix-val (s .args .names .now) (s .args .text .now) (s .args .place + s .args .size) (s .args .scratch .now) _ _ _
+    (c .before .before .before .before .before .t .given .1)
+    (c .before .before .before .before .before .before .before .before .before .read-infix .ensures) in
     omega (arith, r .before, r .within, x .0, y .0 .1, y .0 .2)
 
-read-more-add-read-more-2 : (t : ℕ) → read-more-lts.Need-add-read-more-2 (
-  operator-reads.Asked,
-  operator-reads.Learnt,
-  read-infix-below t,
-  read-infix.Post,
-  put-reads.Asked,
-  put-reads.Learnt,
-  read-more-below t,
-  read-more.Post,
-) (read-more-at t) read-more.Post
+read-more-add-read-more-2 : (t : ℕ) → read-more-lts.Need-add-read-more-2 (read-more-calls t) (read-more-at t) read-more.Post
 read-more-add-read-more-2 t c =
     let s = (c .before .before .before .before .before .before .before .before .before .before .before .before .before .before .before .before .before .before .before) in
     let r = s .pre .1 .0 in
-    let x = op-next (s .args .names .now) (s .args .text .now) (s .args .place) (s .args .at) (s .pre .1 .0 .within) (c .before .before .before .before .before .before .before .before .before .before .before .before .before .o2 .given .1) (c .before .before .before .before .before .before .before .before .before .before .before .before .before .before .before .operator .ensures) in
-    let y = infix-val (s .args .names .now) (s .args .text .now) (s .args .place + s .args .size) (s .args .scratch .now) _ _ _ (c .before .before .before .before .before .t .given .1) (c .before .before .before .before .before .before .before .before .before .read-infix .ensures) in
+    let x = op-next (s .args .names .now) (s .args .text .now) (s .args .place) (s .args .at) (s .pre .1 .0 .within)
+    (c .before .before .before .before .before .before .before .before .before .before .before .before .before .o2 .given .1)
+    (c .before .before .before .before .before .before .before .before .before .before .before .before .before .before .before .operator .ensures) in
+    let y = infix-val (s .args .names .now) (s .args .text .now) (s .args .place + s .args .size) (s .args .scratch .now) _ _ _
+    (c .before .before .before .before .before .t .given .1)
+    (c .before .before .before .before .before .before .before .before .before .read-infix .ensures) in
     omega (arith, r .before, r .within, x .0, y .0 .1, y .0 .2)
 
-read-more-read-more-requires : (t : ℕ) → read-more-lts.Need-read-more-requires (
-  operator-reads.Asked,
-  operator-reads.Learnt,
-  read-infix-below t,
-  read-infix.Post,
-  put-reads.Asked,
-  put-reads.Learnt,
-  read-more-below t,
-  read-more.Post,
-) (read-more-at t) read-more.Post
+read-more-read-more-requires : (t : ℕ) → read-more-lts.Need-read-more-requires (read-more-calls t) (read-more-at t) read-more.Post
 read-more-read-more-requires t c κs =
     let s = (c .before .before .before .before .before .before .before .before .before .before .before .before .before .before .before .before .before .before .before .before) in
     let r = s .pre .1 .0 in
-    let x = op-next (s .args .names .now) (s .args .text .now) (s .args .place) (s .args .at) (s .pre .1 .0 .within) (c .before .before .before .before .before .before .before .before .before .before .before .before .before .before .o2 .given .1) (c .before .before .before .before .before .before .before .before .before .before .before .before .before .before .before .before .operator .ensures) in
-    let y = infix-val (s .args .names .now) (s .args .text .now) (s .args .place + s .args .size) (s .args .scratch .now) _ _ _ (c .before .before .before .before .before .before .t .given .1) (c .before .before .before .before .before .before .before .before .before .before .read-infix .ensures) in
-    let l = simp length-set at (ap length (c .before .before .before .put .ensures)) in
+    let x = op-next (s .args .names .now) (s .args .text .now) (s .args .place) (s .args .at) (s .pre .1 .0 .within)
+    (c .before .before .before .before .before .before .before .before .before .before .before .before .before .before .o2 .given .1)
+    (c .before .before .before .before .before .before .before .before .before .before .before .before .before .before .before .before .operator .ensures) in
+    let y = infix-val (s .args .names .now) (s .args .text .now) (s .args .place + s .args .size) (s .args .scratch .now) _ _ _
+    (c .before .before .before .before .before .before .t .given .1)
+    (c .before .before .before .before .before .before .before .before .before .before .read-infix .ensures) in
+    let l = simp length-set at (ap length (c .before .before .before .put-two .ensures)) in
     (omega (arith, x .0, y .0 .0, y .0 .1, y .0 .2), (room-on r (l ∙ y .1) (y .0 .2) (omega (arith, r .before, x .0, y .0 .1)), omega arith))
 
-read-more-returns-3 : (t : ℕ) → read-more-lts.Need-returns-3 (
-  operator-reads.Asked,
-  operator-reads.Learnt,
-  read-infix-below t,
-  read-infix.Post,
-  put-reads.Asked,
-  put-reads.Learnt,
-  read-more-below t,
-  read-more.Post,
-) (read-more-at t) read-more.Post
+read-more-returns-3 : (t : ℕ) → read-more-lts.Need-returns-3 (read-more-calls t) (read-more-at t) read-more.Post
 read-more-returns-3 t c =
     let s = (c .before .before .before .before .before .before) in
-    more-nothing (s .args .names .now) (s .args .text .now) (s .args .place) (s .args .at) (s .pre .1 .0 .within) (s .args .level) (s .args .size) _ (c .enum-told .given .1) (c .before .before .operator .ensures)
+    more-nothing (s .args .names .now) (s .args .text .now) (s .args .place) (s .args .at) (s .pre .1 .0 .within) (s .args .level) (s .args .size) _
+    (c .enum-told .given .1) (c .before .before .operator .ensures)
 
-read-more-returns-4 : (t : ℕ) → read-more-lts.Need-returns-4 (
-  operator-reads.Asked,
-  operator-reads.Learnt,
-  read-infix-below t,
-  read-infix.Post,
-  put-reads.Asked,
-  put-reads.Learnt,
-  read-more-below t,
-  read-more.Post,
-) (read-more-at t) read-more.Post
+read-more-returns-4 : (t : ℕ) → read-more-lts.Need-returns-4 (read-more-calls t) (read-more-at t) read-more.Post
 read-more-returns-4 t c =
     let s = (c .before .before .before .before .before .before .before) in
     more-cut (s .args .names .now) (s .args .text .now) (s .args .place) (s .args .at) (s .pre .1 .0 .within) (c .before .o .given .1) (c .before .before .before .operator .ensures)
 
-read-more-same-length-2 : (t : ℕ) → read-more-lts.Need-same-length-2 (
-  operator-reads.Asked,
-  operator-reads.Learnt,
-  read-infix-below t,
-  read-infix.Post,
-  put-reads.Asked,
-  put-reads.Learnt,
-  read-more-below t,
-  read-more.Post,
-) (read-more-at t) read-more.Post
+read-more-same-length-2 : (t : ℕ) → read-more-lts.Need-same-length-2 (read-more-calls t) (read-more-at t) read-more.Post
 read-more-same-length-2 t c = search needs
 
-read-more-returns-5 : (t : ℕ) → read-more-lts.Need-returns-5 (
-  operator-reads.Asked,
-  operator-reads.Learnt,
-  read-infix-below t,
-  read-infix.Post,
-  put-reads.Asked,
-  put-reads.Learnt,
-  read-more-below t,
-  read-more.Post,
-) (read-more-at t) read-more.Post
+read-more-returns-5 : (t : ℕ) → read-more-lts.Need-returns-5 (read-more-calls t) (read-more-at t) read-more.Post
 read-more-returns-5 t c =
     let s = (c .before .before .before .before .before .before .before .before .before .before .before .before .before .before .before .before .before .before .before .before .before .before .before) in
-    more-on (s .args .names .now) (s .args .text .now) (s .args .place) (s .args .at) (s .pre .1 .0 .within) (s .args .scratch .now) _ (s .args .level) (s .args .size) _ _ (c .before .before .read-more .result) (c .before .before .before .before .before .before .before .before .before .before .before .before .before .before .before .before .before .o2 .given .1) (c .before .before .before .before .before .before .before .before .before .before .before .before .before .before .before .before .before .before .before .operator .ensures) (c .before .before .before .before .before .before .before .before .before .before .before .before .before .before .before .if1 .left) (c .before .before .before .before .before .before .before .before .before .t .given .1) (c .before .before .before .before .before .before .before .before .before .before .before .before .before .read-infix .ensures) (c .before .before .before .before .before .before .put .ensures) (c .before .before .read-more .ensures)
+    more-on (s .args .names .now) (s .args .text .now) (s .args .place) (s .args .at) (s .pre .1 .0 .within) (s .args .scratch .now) _
+    (s .args .level) (s .args .size) _ _ (c .before .before .read-more .result)
+    (c .before .before .before .before .before .before .before .before .before .before .before .before .before .before .before .before .before .o2 .given .1)
+    (c .before .before .before .before .before .before .before .before .before .before .before .before .before .before .before .before .before .before .before .operator .ensures)
+    (c .before .before .before .before .before .before .before .before .before .before .before .before .before .before .before .if1 .left)
+    (c .before .before .before .before .before .before .before .before .before .t .given .1)
+    (c .before .before .before .before .before .before .before .before .before .before .before .before .before .read-infix .ensures)
+    (c .before .before .before .before .before .before .put-two .ensures) (c .before .before .read-more .ensures)
 
-read-prefix-front-requires : (t : ℕ) → read-prefix-lts.Need-front-requires (
+-- what its calls ask and promise, at a measure
+abbrev read-prefix-calls : ℕ → read-prefix-lts.Claims
+read-prefix-calls t = (
   front-reads.Asked,
   front-reads.Learnt,
   read-prefix-below t,
   read-prefix.Post,
-  put-reads.Asked,
-  put-reads.Learnt,
+  put-one-reads.Asked,
+  put-one-reads.Learnt,
   read-bracket-below t,
   read-bracket.Post,
   leaf-of-reads.Asked,
   leaf-of-reads.Learnt,
-) (read-prefix-at t) read-prefix.Post
+  put-reads.Asked,
+  put-reads.Learnt,
+)
+
+read-prefix-front-requires : (t : ℕ) → read-prefix-lts.Need-front-requires (read-prefix-calls t) (read-prefix-at t) read-prefix.Post
 read-prefix-front-requires t c κs = search needs
 
-read-prefix-enum-known-f : (t : ℕ) → read-prefix-lts.Need-enum-known-f (
-  front-reads.Asked,
-  front-reads.Learnt,
-  read-prefix-below t,
-  read-prefix.Post,
-  put-reads.Asked,
-  put-reads.Learnt,
-  read-bracket-below t,
-  read-bracket.Post,
-  leaf-of-reads.Asked,
-  leaf-of-reads.Learnt,
-) (read-prefix-at t) read-prefix.Post
+read-prefix-enum-known-f : (t : ℕ) → read-prefix-lts.Need-enum-known-f (read-prefix-calls t) (read-prefix-at t) read-prefix.Post
 read-prefix-enum-known-f t c = search needs
 
-read-prefix-read-prefix-requires : (t : ℕ) → read-prefix-lts.Need-read-prefix-requires (
-  front-reads.Asked,
-  front-reads.Learnt,
-  read-prefix-below t,
-  read-prefix.Post,
-  put-reads.Asked,
-  put-reads.Learnt,
-  read-bracket-below t,
-  read-bracket.Post,
-  leaf-of-reads.Asked,
-  leaf-of-reads.Learnt,
-) (read-prefix-at t) read-prefix.Post
+read-prefix-read-prefix-requires : (t : ℕ) → read-prefix-lts.Need-read-prefix-requires (read-prefix-calls t) (read-prefix-at t) read-prefix.Post
 read-prefix-read-prefix-requires t c κs =
     let s = (c .before .before .before .before .before .before .before .before) in
     let r = s .pre .1 in
-    let x = operator-next (s .args .names .now) (s .args .text .now) (s .args .place) (s .args .scratch .now) (s .args .scratch .now) (s .args .at) (c .before .before .f .given .1) (c .before .before .before .before .front .ensures) in
+    let x = operator-next (s .args .names .now) (s .args .text .now) (s .args .place) (s .args .scratch .now) (s .args .scratch .now) (s .args .at)
+    (c .before .before .f .given .1) (c .before .before .before .before .front .ensures) in
     (omega (arith, x .0, x .1), room-on r refl (x .1) (omega (arith, x .0, r .before)))
 
-read-prefix-enum-known-t : (t : ℕ) → read-prefix-lts.Need-enum-known-t (
-  front-reads.Asked,
-  front-reads.Learnt,
-  read-prefix-below t,
-  read-prefix.Post,
-  put-reads.Asked,
-  put-reads.Learnt,
-  read-bracket-below t,
-  read-bracket.Post,
-  leaf-of-reads.Asked,
-  leaf-of-reads.Learnt,
-) (read-prefix-at t) read-prefix.Post
+read-prefix-enum-known-t : (t : ℕ) → read-prefix-lts.Need-enum-known-t (read-prefix-calls t) (read-prefix-at t) read-prefix.Post
 read-prefix-enum-known-t t c = search needs
 
-read-prefix-enum-told : (t : ℕ) → read-prefix-lts.Need-enum-told (
-  front-reads.Asked,
-  front-reads.Learnt,
-  read-prefix-below t,
-  read-prefix.Post,
-  put-reads.Asked,
-  put-reads.Learnt,
-  read-bracket-below t,
-  read-bracket.Post,
-  leaf-of-reads.Asked,
-  leaf-of-reads.Learnt,
-) (read-prefix-at t) read-prefix.Post
+read-prefix-enum-told : (t : ℕ) → read-prefix-lts.Need-enum-told (read-prefix-calls t) (read-prefix-at t) read-prefix.Post
 read-prefix-enum-told t c = search needs
 
-read-prefix-same-length : (t : ℕ) → read-prefix-lts.Need-same-length (
-  front-reads.Asked,
-  front-reads.Learnt,
-  read-prefix-below t,
-  read-prefix.Post,
-  put-reads.Asked,
-  put-reads.Learnt,
-  read-bracket-below t,
-  read-bracket.Post,
-  leaf-of-reads.Asked,
-  leaf-of-reads.Learnt,
-) (read-prefix-at t) read-prefix.Post
+read-prefix-same-length : (t : ℕ) → read-prefix-lts.Need-same-length (read-prefix-calls t) (read-prefix-at t) read-prefix.Post
 read-prefix-same-length t c = search needs
 
-read-prefix-returns : (t : ℕ) → read-prefix-lts.Need-returns (
-  front-reads.Asked,
-  front-reads.Learnt,
-  read-prefix-below t,
-  read-prefix.Post,
-  put-reads.Asked,
-  put-reads.Learnt,
-  read-bracket-below t,
-  read-bracket.Post,
-  leaf-of-reads.Asked,
-  leaf-of-reads.Learnt,
-) (read-prefix-at t) read-prefix.Post
+read-prefix-returns : (t : ℕ) → read-prefix-lts.Need-returns (read-prefix-calls t) (read-prefix-at t) read-prefix.Post
 read-prefix-returns t c =
     let s = (c .before .before .before .before .before .before .before .before .before .before .before .before .before) in
-    prefix-operator-refused (s .args .names .now) (s .args .text .now) (s .args .place) (s .args .scratch .now) _ (s .args .at) (c .before .before .before .before .before .before .before .f .given .1) (c .before .before .before .before .before .before .before .before .before .front .ensures) (c .enum-told .given .1) (c .before .before .before .before .read-prefix .ensures)
+    prefix-operator-refused (s .args .names .now) (s .args .text .now) (s .args .place) (s .args .scratch .now) _ (s .args .at)
+    (c .before .before .before .before .before .before .before .f .given .1)
+    (c .before .before .before .before .before .before .before .before .before .front .ensures) (c .enum-told .given .1)
+    (c .before .before .before .before .read-prefix .ensures)
 
-read-prefix-add-put : (t : ℕ) → read-prefix-lts.Need-add-put (
-  front-reads.Asked,
-  front-reads.Learnt,
-  read-prefix-below t,
-  read-prefix.Post,
-  put-reads.Asked,
-  put-reads.Learnt,
-  read-bracket-below t,
-  read-bracket.Post,
-  leaf-of-reads.Asked,
-  leaf-of-reads.Learnt,
-) (read-prefix-at t) read-prefix.Post
-read-prefix-add-put t c =
+read-prefix-put-one-requires : (t : ℕ) → read-prefix-lts.Need-put-one-requires (read-prefix-calls t) (read-prefix-at t) read-prefix.Post
+read-prefix-put-one-requires t c κs =
     let s = (c .before .before .before .before .before .before .before .before .before .before .before .before .before .before .before) in
     let r = s .pre .1 in
-    let x = operator-next (s .args .names .now) (s .args .text .now) (s .args .place) (s .args .scratch .now) (s .args .scratch .now) (s .args .at) (c .before .before .before .before .before .before .before .before .before .f .given .1) (c .before .before .before .before .before .before .before .before .before .before .before .front .ensures) in
-    let y = prefix-val (s .args .names .now) (s .args .text .now) (s .args .place) (s .args .scratch .now) _ _ (c .before .before .t .given .1) (c .before .before .before .before .before .before .read-prefix .ensures) in
-    omega (arith, r .before, x .0, y .0 .0, y .0 .1, y .0 .2)
+    let x = operator-next (s .args .names .now) (s .args .text .now) (s .args .place) (s .args .scratch .now) (s .args .scratch .now) (s .args .at)
+    (c .before .before .before .before .before .before .before .before .before .f .given .1)
+    (c .before .before .before .before .before .before .before .before .before .before .before .front .ensures) in
+    let y = prefix-val (s .args .names .now) (s .args .text .now) (s .args .place) (s .args .scratch .now) _ _ (c .before .before .t .given .1)
+    (c .before .before .before .before .before .before .read-prefix .ensures) in
+    (y .0 .0, omega (arith, r .before, r .room, x .0, y .0 .1, y .0 .2, y .1), omega (arith, r .before, r .short, x .0, y .0 .1, y .0 .2))
 
-read-prefix-add-put-2 : (t : ℕ) → read-prefix-lts.Need-add-put-2 (
-  front-reads.Asked,
-  front-reads.Learnt,
-  read-prefix-below t,
-  read-prefix.Post,
-  put-reads.Asked,
-  put-reads.Learnt,
-  read-bracket-below t,
-  read-bracket.Post,
-  leaf-of-reads.Asked,
-  leaf-of-reads.Learnt,
-) (read-prefix-at t) read-prefix.Post
-read-prefix-add-put-2 t c =
-    let s = (c .before .before .before .before .before .before .before .before .before .before .before .before .before .before .before) in
-    let r = s .pre .1 in
-    let x = operator-next (s .args .names .now) (s .args .text .now) (s .args .place) (s .args .scratch .now) (s .args .scratch .now) (s .args .at) (c .before .before .before .before .before .before .before .before .before .f .given .1) (c .before .before .before .before .before .before .before .before .before .before .before .front .ensures) in
-    let y = prefix-val (s .args .names .now) (s .args .text .now) (s .args .place) (s .args .scratch .now) _ _ (c .before .before .t .given .1) (c .before .before .before .before .before .before .read-prefix .ensures) in
-    omega (arith, r .before, x .0, y .0 .0, y .0 .1, y .0 .2)
-
-read-prefix-sub-put : (t : ℕ) → read-prefix-lts.Need-sub-put (
-  front-reads.Asked,
-  front-reads.Learnt,
-  read-prefix-below t,
-  read-prefix.Post,
-  put-reads.Asked,
-  put-reads.Learnt,
-  read-bracket-below t,
-  read-bracket.Post,
-  leaf-of-reads.Asked,
-  leaf-of-reads.Learnt,
-) (read-prefix-at t) read-prefix.Post
-read-prefix-sub-put t c =
-    let s = (c .before .before .before .before .before .before .before .before .before .before .before .before .before .before .before) in
-    let r = s .pre .1 in
-    let x = operator-next (s .args .names .now) (s .args .text .now) (s .args .place) (s .args .scratch .now) (s .args .scratch .now) (s .args .at) (c .before .before .before .before .before .before .before .before .before .f .given .1) (c .before .before .before .before .before .before .before .before .before .before .before .front .ensures) in
-    let y = prefix-val (s .args .names .now) (s .args .text .now) (s .args .place) (s .args .scratch .now) _ _ (c .before .before .t .given .1) (c .before .before .before .before .before .before .read-prefix .ensures) in
-    omega (arith, r .before, x .0, y .0 .0, y .0 .1, y .0 .2)
-
-read-prefix-add-put-3 : (t : ℕ) → read-prefix-lts.Need-add-put-3 (
-  front-reads.Asked,
-  front-reads.Learnt,
-  read-prefix-below t,
-  read-prefix.Post,
-  put-reads.Asked,
-  put-reads.Learnt,
-  read-bracket-below t,
-  read-bracket.Post,
-  leaf-of-reads.Asked,
-  leaf-of-reads.Learnt,
-) (read-prefix-at t) read-prefix.Post
-read-prefix-add-put-3 t c =
-    let s = (c .before .before .before .before .before .before .before .before .before .before .before .before .before .before .before) in
-    let r = s .pre .1 in
-    let x = operator-next (s .args .names .now) (s .args .text .now) (s .args .place) (s .args .scratch .now) (s .args .scratch .now) (s .args .at) (c .before .before .before .before .before .before .before .before .before .f .given .1) (c .before .before .before .before .before .before .before .before .before .before .before .front .ensures) in
-    let y = prefix-val (s .args .names .now) (s .args .text .now) (s .args .place) (s .args .scratch .now) _ _ (c .before .before .t .given .1) (c .before .before .before .before .before .before .read-prefix .ensures) in
-    omega (arith, r .before, x .0, y .0 .0, y .0 .1, y .0 .2)
-
-read-prefix-put-requires : (t : ℕ) → read-prefix-lts.Need-put-requires (
-  front-reads.Asked,
-  front-reads.Learnt,
-  read-prefix-below t,
-  read-prefix.Post,
-  put-reads.Asked,
-  put-reads.Learnt,
-  read-bracket-below t,
-  read-bracket.Post,
-  leaf-of-reads.Asked,
-  leaf-of-reads.Learnt,
-) (read-prefix-at t) read-prefix.Post
-read-prefix-put-requires t c κs =
-    let s = (c .before .before .before .before .before .before .before .before .before .before .before .before .before .before .before) in
-    let r = s .pre .1 in
-    let x = operator-next (s .args .names .now) (s .args .text .now) (s .args .place) (s .args .scratch .now) (s .args .scratch .now) (s .args .at) (c .before .before .before .before .before .before .before .before .before .f .given .1) (c .before .before .before .before .before .before .before .before .before .before .before .front .ensures) in
-    let y = prefix-val (s .args .names .now) (s .args .text .now) (s .args .place) (s .args .scratch .now) _ _ (c .before .before .t .given .1) (c .before .before .before .before .before .before .read-prefix .ensures) in
-    (omega (arith, r .before, r .room, x .0, y .0 .1, y .0 .2, y .1), omega (arith, r .before, r .short, x .0, y .0 .1, y .0 .2), omega arith, omega (arith, r .before, r .short, x .0, y .0 .1, y .0 .2))
-
-read-prefix-add-t23 : (t : ℕ) → read-prefix-lts.Need-add-t23 (
-  front-reads.Asked,
-  front-reads.Learnt,
-  read-prefix-below t,
-  read-prefix.Post,
-  put-reads.Asked,
-  put-reads.Learnt,
-  read-bracket-below t,
-  read-bracket.Post,
-  leaf-of-reads.Asked,
-  leaf-of-reads.Learnt,
-) (read-prefix-at t) read-prefix.Post
-read-prefix-add-t23 t c =
+read-prefix-add-whole : (t : ℕ) → read-prefix-lts.Need-add-whole (read-prefix-calls t) (read-prefix-at t) read-prefix.Post
+read-prefix-add-whole t c =
     let s = (c .before .before .before .before .before .before .before .before .before .before .before .before .before .before .before .before .before .before) in
     let r = s .pre .1 in
-    let x = operator-next (s .args .names .now) (s .args .text .now) (s .args .place) (s .args .scratch .now) (s .args .scratch .now) (s .args .at) (c .before .before .before .before .before .before .before .before .before .before .before .before .f .given .1) (c .before .before .before .before .before .before .before .before .before .before .before .before .before .before .front .ensures) in
-    let y = prefix-val (s .args .names .now) (s .args .text .now) (s .args .place) (s .args .scratch .now) _ _ (c .before .before .before .before .before .t .given .1) (c .before .before .before .before .before .before .before .before .before .read-prefix .ensures) in
+    let x = operator-next (s .args .names .now) (s .args .text .now) (s .args .place) (s .args .scratch .now) (s .args .scratch .now) (s .args .at)
+    (c .before .before .before .before .before .before .before .before .before .before .before .before .f .given .1)
+    (c .before .before .before .before .before .before .before .before .before .before .before .before .before .before .front .ensures) in
+    let y = prefix-val (s .args .names .now) (s .args .text .now) (s .args .place) (s .args .scratch .now) _ _
+    (c .before .before .before .before .before .t .given .1)
+    (c .before .before .before .before .before .before .before .before .before .read-prefix .ensures) in
     omega (arith, r .before, x .0, y .0 .0, y .0 .1, y .0 .2)
 
-read-prefix-enum-known-f-2 : (t : ℕ) → read-prefix-lts.Need-enum-known-f-2 (
-  front-reads.Asked,
-  front-reads.Learnt,
-  read-prefix-below t,
-  read-prefix.Post,
-  put-reads.Asked,
-  put-reads.Learnt,
-  read-bracket-below t,
-  read-bracket.Post,
-  leaf-of-reads.Asked,
-  leaf-of-reads.Learnt,
-) (read-prefix-at t) read-prefix.Post
+read-prefix-enum-known-f-2 : (t : ℕ) → read-prefix-lts.Need-enum-known-f-2 (read-prefix-calls t) (read-prefix-at t) read-prefix.Post
 read-prefix-enum-known-f-2 t c = search needs
 
-read-prefix-read-bracket-requires : (t : ℕ) → read-prefix-lts.Need-read-bracket-requires (
-  front-reads.Asked,
-  front-reads.Learnt,
-  read-prefix-below t,
-  read-prefix.Post,
-  put-reads.Asked,
-  put-reads.Learnt,
-  read-bracket-below t,
-  read-bracket.Post,
-  leaf-of-reads.Asked,
-  leaf-of-reads.Learnt,
-) (read-prefix-at t) read-prefix.Post
+read-prefix-read-bracket-requires : (t : ℕ) → read-prefix-lts.Need-read-bracket-requires (read-prefix-calls t) (read-prefix-at t) read-prefix.Post
 read-prefix-read-bracket-requires t c κs =
     let s = (c .before .before .before .before .before .before .before .before) in
     let r = s .pre .1 in
-    let x = open-next (s .args .names .now) (s .args .text .now) (s .args .place) (s .args .scratch .now) (s .args .scratch .now) (s .args .at) (c .before .before .f2 .given .1) (c .before .before .before .before .front .ensures) in
+    let x = open-next (s .args .names .now) (s .args .text .now) (s .args .place) (s .args .scratch .now) (s .args .scratch .now) (s .args .at)
+    (c .before .before .f2 .given .1) (c .before .before .before .before .front .ensures) in
     (omega (arith, x .0, x .1), room-on r refl (x .1) (omega (arith, x .0, r .before)))
 
-read-prefix-enum-known-f-3 : (t : ℕ) → read-prefix-lts.Need-enum-known-f-3 (
-  front-reads.Asked,
-  front-reads.Learnt,
-  read-prefix-below t,
-  read-prefix.Post,
-  put-reads.Asked,
-  put-reads.Learnt,
-  read-bracket-below t,
-  read-bracket.Post,
-  leaf-of-reads.Asked,
-  leaf-of-reads.Learnt,
-) (read-prefix-at t) read-prefix.Post
+read-prefix-enum-known-f-3 : (t : ℕ) → read-prefix-lts.Need-enum-known-f-3 (read-prefix-calls t) (read-prefix-at t) read-prefix.Post
 read-prefix-enum-known-f-3 t c = search needs
 
-read-prefix-sub-leaf-of : (t : ℕ) → read-prefix-lts.Need-sub-leaf-of (
-  front-reads.Asked,
-  front-reads.Learnt,
-  read-prefix-below t,
-  read-prefix.Post,
-  put-reads.Asked,
-  put-reads.Learnt,
-  read-bracket-below t,
-  read-bracket.Post,
-  leaf-of-reads.Asked,
-  leaf-of-reads.Learnt,
-) (read-prefix-at t) read-prefix.Post
+read-prefix-sub-leaf-of : (t : ℕ) → read-prefix-lts.Need-sub-leaf-of (read-prefix-calls t) (read-prefix-at t) read-prefix.Post
 read-prefix-sub-leaf-of t c =
     let s = (c .before .before .before .before .before .before .before) in
-    let x = word-next (s .args .names .now) (s .args .text .now) (s .args .place) (s .args .scratch .now) (s .args .scratch .now) (s .args .at) (c .before .f3 .given .1) (c .before .before .before .front .ensures) in
+    let x = word-next (s .args .names .now) (s .args .text .now) (s .args .place) (s .args .scratch .now) (s .args .scratch .now) (s .args .at)
+    (c .before .f3 .given .1) (c .before .before .before .front .ensures) in
     omega (arith, x .1)
 
-read-prefix-leaf-of-requires : (t : ℕ) → read-prefix-lts.Need-leaf-of-requires (
-  front-reads.Asked,
-  front-reads.Learnt,
-  read-prefix-below t,
-  read-prefix.Post,
-  put-reads.Asked,
-  put-reads.Learnt,
-  read-bracket-below t,
-  read-bracket.Post,
-  leaf-of-reads.Asked,
-  leaf-of-reads.Learnt,
-) (read-prefix-at t) read-prefix.Post
+read-prefix-leaf-of-requires : (t : ℕ) → read-prefix-lts.Need-leaf-of-requires (read-prefix-calls t) (read-prefix-at t) read-prefix.Post
 read-prefix-leaf-of-requires t c κs =
     let s = (c .before .before .before .before .before .before .before) in
     let r = s .pre .1 in
-    let x = word-next (s .args .names .now) (s .args .text .now) (s .args .place) (s .args .scratch .now) (s .args .scratch .now) (s .args .at) (c .before .f3 .given .1) (c .before .before .before .front .ensures) in
+    let x = word-next (s .args .names .now) (s .args .text .now) (s .args .place) (s .args .scratch .now) (s .args .scratch .now) (s .args .at)
+    (c .before .f3 .given .1) (c .before .before .before .front .ensures) in
     (r .names, omega (arith, x .1, x .2))
 
-read-prefix-put-requires-2 : (t : ℕ) → read-prefix-lts.Need-put-requires-2 (
-  front-reads.Asked,
-  front-reads.Learnt,
-  read-prefix-below t,
-  read-prefix.Post,
-  put-reads.Asked,
-  put-reads.Learnt,
-  read-bracket-below t,
-  read-bracket.Post,
-  leaf-of-reads.Asked,
-  leaf-of-reads.Learnt,
-) (read-prefix-at t) read-prefix.Post
-read-prefix-put-requires-2 t c κs =
+read-prefix-put-requires : (t : ℕ) → read-prefix-lts.Need-put-requires (read-prefix-calls t) (read-prefix-at t) read-prefix.Post
+read-prefix-put-requires t c κs =
     let s = (c .before .before .before .before .before .before .before .before .before) in
     let r = s .pre .1 in
-    let x = word-next (s .args .names .now) (s .args .text .now) (s .args .place) (s .args .scratch .now) (s .args .scratch .now) (s .args .at) (c .before .before .before .f3 .given .1) (c .before .before .before .before .before .front .ensures) in
+    let x = word-next (s .args .names .now) (s .args .text .now) (s .args .place) (s .args .scratch .now) (s .args .scratch .now) (s .args .at)
+    (c .before .before .before .f3 .given .1) (c .before .before .before .before .before .front .ensures) in
     (omega (arith, r .before, r .room, x .0, x .2), leaf-small (s .args .names .now) (s .args .text .now) (s .args .place) (s .args .scratch .now) (s .args .scratch .now) (s .args .at) (r .names) (c .before .before .before .f3 .given .1) (c .before .before .before .before .before .front .ensures) (c .before .leaf-of .ensures), omega arith, omega arith)
 
-read-prefix-enum-known-f-4 : (t : ℕ) → read-prefix-lts.Need-enum-known-f-4 (
-  front-reads.Asked,
-  front-reads.Learnt,
-  read-prefix-below t,
-  read-prefix.Post,
-  put-reads.Asked,
-  put-reads.Learnt,
-  read-bracket-below t,
-  read-bracket.Post,
-  leaf-of-reads.Asked,
-  leaf-of-reads.Learnt,
-) (read-prefix-at t) read-prefix.Post
+read-prefix-enum-known-f-4 : (t : ℕ) → read-prefix-lts.Need-enum-known-f-4 (read-prefix-calls t) (read-prefix-at t) read-prefix.Post
 read-prefix-enum-known-f-4 t c = search needs
 
-read-prefix-same-length-2 : (t : ℕ) → read-prefix-lts.Need-same-length-2 (
-  front-reads.Asked,
-  front-reads.Learnt,
-  read-prefix-below t,
-  read-prefix.Post,
-  put-reads.Asked,
-  put-reads.Learnt,
-  read-bracket-below t,
-  read-bracket.Post,
-  leaf-of-reads.Asked,
-  leaf-of-reads.Learnt,
-) (read-prefix-at t) read-prefix.Post
+read-prefix-same-length-2 : (t : ℕ) → read-prefix-lts.Need-same-length-2 (read-prefix-calls t) (read-prefix-at t) read-prefix.Post
 read-prefix-same-length-2 t c = search needs
 
-read-prefix-returns-2 : (t : ℕ) → read-prefix-lts.Need-returns-2 (
-  front-reads.Asked,
-  front-reads.Learnt,
-  read-prefix-below t,
-  read-prefix.Post,
-  put-reads.Asked,
-  put-reads.Learnt,
-  read-bracket-below t,
-  read-bracket.Post,
-  leaf-of-reads.Asked,
-  leaf-of-reads.Learnt,
-) (read-prefix-at t) read-prefix.Post
+read-prefix-returns-2 : (t : ℕ) → read-prefix-lts.Need-returns-2 (read-prefix-calls t) (read-prefix-at t) read-prefix.Post
 read-prefix-returns-2 t c =
     let s = (c .before .before .before .before .before .before .before .before .before .before .before .before .before .before .before .before .before .before) in
-    prefix-operator (s .args .names .now) (s .args .text .now) (s .args .place) (s .args .scratch .now) _ (s .args .at) _ (c .before .before .before .before .before .before .before .before .before .before .before .before .f .given .1) (c .before .before .before .before .before .before .before .before .before .before .before .before .before .before .front .ensures) (c .before .before .before .before .before .t .given .1) (c .before .before .before .before .before .before .before .before .before .read-prefix .ensures) (c .before .before .put .ensures)
+    prefix-operator (s .args .names .now) (s .args .text .now) (s .args .place) (s .args .scratch .now) _ (s .args .at) _
+    (c .before .before .before .before .before .before .before .before .before .before .before .before .f .given .1)
+    (c .before .before .before .before .before .before .before .before .before .before .before .before .before .before .front .ensures)
+    (c .before .before .before .before .before .t .given .1)
+    (c .before .before .before .before .before .before .before .before .before .read-prefix .ensures) (c .before .before .put-one .ensures)
 
-read-prefix-same-length-3 : (t : ℕ) → read-prefix-lts.Need-same-length-3 (
-  front-reads.Asked,
-  front-reads.Learnt,
-  read-prefix-below t,
-  read-prefix.Post,
-  put-reads.Asked,
-  put-reads.Learnt,
-  read-bracket-below t,
-  read-bracket.Post,
-  leaf-of-reads.Asked,
-  leaf-of-reads.Learnt,
-) (read-prefix-at t) read-prefix.Post
+read-prefix-same-length-3 : (t : ℕ) → read-prefix-lts.Need-same-length-3 (read-prefix-calls t) (read-prefix-at t) read-prefix.Post
 read-prefix-same-length-3 t c = search needs
 
-read-prefix-returns-3 : (t : ℕ) → read-prefix-lts.Need-returns-3 (
-  front-reads.Asked,
-  front-reads.Learnt,
-  read-prefix-below t,
-  read-prefix.Post,
-  put-reads.Asked,
-  put-reads.Learnt,
-  read-bracket-below t,
-  read-bracket.Post,
-  leaf-of-reads.Asked,
-  leaf-of-reads.Learnt,
-) (read-prefix-at t) read-prefix.Post
+read-prefix-returns-3 : (t : ℕ) → read-prefix-lts.Need-returns-3 (read-prefix-calls t) (read-prefix-at t) read-prefix.Post
 read-prefix-returns-3 t c =
     let s = (c .before .before .before .before .before .before .before .before .before .before .before) in
-    prefix-bracket (s .args .names .now) (s .args .text .now) (s .args .place) (s .args .scratch .now) _ (s .args .at) (c .before .before .read-bracket .result) (c .before .before .before .before .before .f2 .given .1) (c .before .before .before .before .before .before .before .front .ensures) (c .before .before .read-bracket .ensures)
+    prefix-bracket (s .args .names .now) (s .args .text .now) (s .args .place) (s .args .scratch .now) _ (s .args .at)
+    (c .before .before .read-bracket .result) (c .before .before .before .before .before .f2 .given .1)
+    (c .before .before .before .before .before .before .before .front .ensures) (c .before .before .read-bracket .ensures)
 
-read-prefix-same-length-4 : (t : ℕ) → read-prefix-lts.Need-same-length-4 (
-  front-reads.Asked,
-  front-reads.Learnt,
-  read-prefix-below t,
-  read-prefix.Post,
-  put-reads.Asked,
-  put-reads.Learnt,
-  read-bracket-below t,
-  read-bracket.Post,
-  leaf-of-reads.Asked,
-  leaf-of-reads.Learnt,
-) (read-prefix-at t) read-prefix.Post
+read-prefix-same-length-4 : (t : ℕ) → read-prefix-lts.Need-same-length-4 (read-prefix-calls t) (read-prefix-at t) read-prefix.Post
 read-prefix-same-length-4 t c = search needs
 
-read-prefix-returns-4 : (t : ℕ) → read-prefix-lts.Need-returns-4 (
-  front-reads.Asked,
-  front-reads.Learnt,
-  read-prefix-below t,
-  read-prefix.Post,
-  put-reads.Asked,
-  put-reads.Learnt,
-  read-bracket-below t,
-  read-bracket.Post,
-  leaf-of-reads.Asked,
-  leaf-of-reads.Learnt,
-) (read-prefix-at t) read-prefix.Post
+read-prefix-returns-4 : (t : ℕ) → read-prefix-lts.Need-returns-4 (read-prefix-calls t) (read-prefix-at t) read-prefix.Post
 read-prefix-returns-4 t c =
     let s = (c .before .before .before .before .before .before .before .before .before .before .before .before) in
-    prefix-leaf (s .args .names .now) (s .args .text .now) (s .args .place) (s .args .scratch .now) _ (s .args .at) (c .before .before .before .before .before .before .f3 .given .1) (c .before .before .before .before .before .before .before .before .front .ensures) (c .before .before .before .before .leaf-of .ensures) (c .before .before .put2 .ensures)
+    prefix-leaf (s .args .names .now) (s .args .text .now) (s .args .place) (s .args .scratch .now) _ (s .args .at)
+    (c .before .before .before .before .before .before .f3 .given .1)
+    (c .before .before .before .before .before .before .before .before .front .ensures) (c .before .before .before .before .leaf-of .ensures)
+    (c .before .before .put .ensures)
 
-read-prefix-returns-5 : (t : ℕ) → read-prefix-lts.Need-returns-5 (
-  front-reads.Asked,
-  front-reads.Learnt,
-  read-prefix-below t,
-  read-prefix.Post,
-  put-reads.Asked,
-  put-reads.Learnt,
-  read-bracket-below t,
-  read-bracket.Post,
-  leaf-of-reads.Asked,
-  leaf-of-reads.Learnt,
-) (read-prefix-at t) read-prefix.Post
+read-prefix-returns-5 : (t : ℕ) → read-prefix-lts.Need-returns-5 (read-prefix-calls t) (read-prefix-at t) read-prefix.Post
 read-prefix-returns-5 t c =
     let s = (c .before .before .before .before .before .before .before) in
-    prefix-refused (s .args .names .now) (s .args .text .now) (s .args .place) (s .args .scratch .now) (s .args .scratch .now) (s .args .at) (c .before .f4 .given .1) (c .before .before .before .front .ensures)
+    prefix-refused (s .args .names .now) (s .args .text .now) (s .args .place) (s .args .scratch .now) (s .args .scratch .now) (s .args .at)
+    (c .before .f4 .given .1) (c .before .before .before .front .ensures)
 
 pub +read-bracket+read-infix+read-more+read-prefix-spec : {M : Type 1} → statement M
 +read-bracket+read-infix+read-more+read-prefix-spec =
@@ -1105,8 +522,8 @@ pub +read-bracket+read-infix+read-more+read-prefix-spec : {M : Type 1} → state
       operator-reads.Learnt,
       read-infix-below t,
       read-infix.Post,
-      put-reads.Asked,
-      put-reads.Learnt,
+      put-two-reads.Asked,
+      put-two-reads.Learnt,
       read-more-below t,
       read-more.Post,
     )
@@ -1123,13 +540,7 @@ pub +read-bracket+read-infix+read-more+read-prefix-spec : {M : Type 1} → state
     (read-more-enum-told-2 t)
     (read-more-same-length t)
     (read-more-returns-2 t)
-    (read-more-add-put t)
-    (read-more-sub-put t)
-    (read-more-add-put-2 t)
-    (read-more-sub-put-2 t)
-    (read-more-add-put-3 t)
-    (read-more-add-put-4 t)
-    (read-more-put-requires t)
+    (read-more-put-two-requires t)
     (read-more-add-read-more t)
     (read-more-add-read-more-2 t)
     (read-more-read-more-requires t)
@@ -1142,12 +553,14 @@ pub +read-bracket+read-infix+read-more+read-prefix-spec : {M : Type 1} → state
       front-reads.Learnt,
       read-prefix-below t,
       read-prefix.Post,
-      put-reads.Asked,
-      put-reads.Learnt,
+      put-one-reads.Asked,
+      put-one-reads.Learnt,
       read-bracket-below t,
       read-bracket.Post,
       leaf-of-reads.Asked,
       leaf-of-reads.Learnt,
+      put-reads.Asked,
+      put-reads.Learnt,
     )
     (read-prefix-at t)
     read-prefix.Post
@@ -1158,18 +571,14 @@ pub +read-bracket+read-infix+read-more+read-prefix-spec : {M : Type 1} → state
     (read-prefix-enum-told t)
     (read-prefix-same-length t)
     (read-prefix-returns t)
-    (read-prefix-add-put t)
-    (read-prefix-add-put-2 t)
-    (read-prefix-sub-put t)
-    (read-prefix-add-put-3 t)
-    (read-prefix-put-requires t)
-    (read-prefix-add-t23 t)
+    (read-prefix-put-one-requires t)
+    (read-prefix-add-whole t)
     (read-prefix-enum-known-f-2 t)
     (read-prefix-read-bracket-requires t)
     (read-prefix-enum-known-f-3 t)
     (read-prefix-sub-leaf-of t)
     (read-prefix-leaf-of-requires t)
-    (read-prefix-put-requires-2 t)
+    (read-prefix-put-requires t)
     (read-prefix-enum-known-f-4 t)
     (read-prefix-same-length-2 t)
     (read-prefix-returns-2 t)

@@ -12,7 +12,7 @@ use Rattle.reader.proofs.front.front.Reads as front
 use Rattle.reader.proofs.front.front.Kinds as front-kinds
 use Rattle.reader.proofs.front.+front.Lts-front as front-lts
 use Rattle.reader.proofs.bytes.byte.Reads as byte-reads
-use Rattle.reader.proofs.bytes.is_letter.Reads as is-letter-reads
+use Rattle.names.proofs.letter.is_letter.Reads as is-letter-reads
 use Rattle.reader.proofs.front.word.Reads as word-reads
 use Rattle.reader.proofs.front.+front.{statement}
 use Rattle.reader.proofs.front.+front.Tie.{close}
@@ -26,179 +26,9 @@ front-at t = and 1 front-kinds.ps (is 1 front-kinds.ps μ-front t) front.Pre
 abbrev front-below : ℕ → In 1 front-kinds.ps
 front-below t = and 1 front-kinds.ps (falls 1 front-kinds.ps _<_ μ-front t) front.Pre
 
-front-returns : (t : ℕ) → front-lts.Need-returns (
-  byte-reads.Asked,
-  byte-reads.Learnt,
-  front-below t,
-  front.Post,
-  is-letter-reads.Asked,
-  is-letter-reads.Learnt,
-  word-reads.Asked,
-  word-reads.Learnt,
-) (front-at t) front.Post
-front-returns t c = let s = c .before .before in front-end _ (s .args .at) (s .pre .1) (c .if1 .taken)
-
-front-byte-requires : (t : ℕ) → front-lts.Need-byte-requires (
-  byte-reads.Asked,
-  byte-reads.Learnt,
-  front-below t,
-  front.Post,
-  is-letter-reads.Asked,
-  is-letter-reads.Learnt,
-  word-reads.Asked,
-  word-reads.Learnt,
-) (front-at t) front.Post
-front-byte-requires t c κs = search needs
-
-front-add-front : (t : ℕ) → front-lts.Need-add-front (
-  byte-reads.Asked,
-  byte-reads.Learnt,
-  front-below t,
-  front.Post,
-  is-letter-reads.Asked,
-  is-letter-reads.Learnt,
-  word-reads.Asked,
-  word-reads.Learnt,
-) (front-at t) front.Post
-front-add-front t c = search needs
-
-front-front-requires : (t : ℕ) → front-lts.Need-front-requires (
-  byte-reads.Asked,
-  byte-reads.Learnt,
-  front-below t,
-  front.Post,
-  is-letter-reads.Asked,
-  is-letter-reads.Learnt,
-  word-reads.Asked,
-  word-reads.Learnt,
-) (front-at t) front.Post
-front-front-requires t c κs = search needs
-
-front-returns-2 : (t : ℕ) → front-lts.Need-returns-2 (
-  byte-reads.Asked,
-  byte-reads.Learnt,
-  front-below t,
-  front.Post,
-  is-letter-reads.Asked,
-  is-letter-reads.Learnt,
-  word-reads.Asked,
-  word-reads.Learnt,
-) (front-at t) front.Post
-front-returns-2 t c =
-    let y = c .before .before in
-    let s = y .before .before .before in
-    front-blank _ (s .args .at) (y .before .if1 .left) (sym (y .byte .ensures) ∙ c .before .if2 .taken) (c .front .result) (c .front .ensures)
-
-front-add-t7 : (t : ℕ) → front-lts.Need-add-t7 (
-  byte-reads.Asked,
-  byte-reads.Learnt,
-  front-below t,
-  front.Post,
-  is-letter-reads.Asked,
-  is-letter-reads.Learnt,
-  word-reads.Asked,
-  word-reads.Learnt,
-) (front-at t) front.Post
-front-add-t7 t c = search needs
-
-front-returns-3 : (t : ℕ) → front-lts.Need-returns-3 (
-  byte-reads.Asked,
-  byte-reads.Learnt,
-  front-below t,
-  front.Post,
-  is-letter-reads.Asked,
-  is-letter-reads.Learnt,
-  word-reads.Asked,
-  word-reads.Learnt,
-) (front-at t) front.Post
-front-returns-3 t c =
-    let y = c .before .before in
-    let s = y .before .before .before in
-    front-bang _ (s .args .at) (y .before .if1 .left) (sym (y .byte .ensures) ∙ c .if3 .taken)
-
-front-add-t8 : (t : ℕ) → front-lts.Need-add-t8 (
-  byte-reads.Asked,
-  byte-reads.Learnt,
-  front-below t,
-  front.Post,
-  is-letter-reads.Asked,
-  is-letter-reads.Learnt,
-  word-reads.Asked,
-  word-reads.Learnt,
-) (front-at t) front.Post
-front-add-t8 t c = search needs
-
-front-returns-4 : (t : ℕ) → front-lts.Need-returns-4 (
-  byte-reads.Asked,
-  byte-reads.Learnt,
-  front-below t,
-  front.Post,
-  is-letter-reads.Asked,
-  is-letter-reads.Learnt,
-  word-reads.Asked,
-  word-reads.Learnt,
-) (front-at t) front.Post
-front-returns-4 t c =
-    let y = c .before .before .before in
-    let s = y .before .before .before in
-    front-open _ (s .args .at) (y .before .if1 .left) (sym (y .byte .ensures) ∙ c .if4 .taken)
-
-front-is-letter-requires : (t : ℕ) → front-lts.Need-is-letter-requires (
-  byte-reads.Asked,
-  byte-reads.Learnt,
-  front-below t,
-  front.Post,
-  is-letter-reads.Asked,
-  is-letter-reads.Learnt,
-  word-reads.Asked,
-  word-reads.Learnt,
-) (front-at t) front.Post
-front-is-letter-requires t c κs = search needs
-
-front-word-requires : (t : ℕ) → front-lts.Need-word-requires (
-  byte-reads.Asked,
-  byte-reads.Learnt,
-  front-below t,
-  front.Post,
-  is-letter-reads.Asked,
-  is-letter-reads.Learnt,
-  word-reads.Asked,
-  word-reads.Learnt,
-) (front-at t) front.Post
-front-word-requires t c κs =
-    let y = c .before .before .before .before .before in
-    let s = y .before .before .before in
-    (y .before .if1 .left, sym (y .byte .ensures), sym (c .before .is-letter .ensures) ∙ c .if5 .taken)
-
-front-returns-5 : (t : ℕ) → front-lts.Need-returns-5 (
-  byte-reads.Asked,
-  byte-reads.Learnt,
-  front-below t,
-  front.Post,
-  is-letter-reads.Asked,
-  is-letter-reads.Learnt,
-  word-reads.Asked,
-  word-reads.Learnt,
-) (front-at t) front.Post
-front-returns-5 t c = c .word .ensures
-
-front-returns-6 : (t : ℕ) → front-lts.Need-returns-6 (
-  byte-reads.Asked,
-  byte-reads.Learnt,
-  front-below t,
-  front.Post,
-  is-letter-reads.Asked,
-  is-letter-reads.Learnt,
-  word-reads.Asked,
-  word-reads.Learnt,
-) (front-at t) front.Post
-front-returns-6 t c =
-    let y = c .before .before .before .before .before in
-    let s = y .before .before .before in
-    front-none _ (s .args .at) (y .before .if1 .left) (λ e. c .before .before .before .before .if2 .left (y .byte .ensures ∙ e)) (λ e. c .before .before .before .if3 .left (y .byte .ensures ∙ e)) (λ e. c .before .before .if4 .left (y .byte .ensures ∙ e)) (of-byte isLetter (c .before .is-letter .ensures) (c .if5 .left) (y .byte .ensures))
-
-pub +front-spec : {M : Type 1} → statement M
-+front-spec = close μ-front λ t. front-lts.spec (
+-- what its calls ask and promise, at a measure
+abbrev calls : ℕ → front-lts.Claims
+calls t = (
   byte-reads.Asked,
   byte-reads.Learnt,
   front-below t,
@@ -208,6 +38,63 @@ pub +front-spec : {M : Type 1} → statement M
   word-reads.Asked,
   word-reads.Learnt,
 )
+
+front-returns : (t : ℕ) → front-lts.Need-returns (calls t) (front-at t) front.Post
+front-returns t c = let s = c .before .before in front-end _ (s .args .at) (s .pre .1) (c .if1 .taken)
+
+front-byte-requires : (t : ℕ) → front-lts.Need-byte-requires (calls t) (front-at t) front.Post
+front-byte-requires t c κs = search needs
+
+front-add-front : (t : ℕ) → front-lts.Need-add-front (calls t) (front-at t) front.Post
+front-add-front t c = search needs
+
+front-front-requires : (t : ℕ) → front-lts.Need-front-requires (calls t) (front-at t) front.Post
+front-front-requires t c κs = search needs
+
+front-returns-2 : (t : ℕ) → front-lts.Need-returns-2 (calls t) (front-at t) front.Post
+front-returns-2 t c =
+    let y = c .before .before in
+    let s = y .before .before .before in
+    front-blank _ (s .args .at) (y .before .if1 .left) (sym (y .byte .ensures) ∙ c .before .if2 .taken) (c .front .result) (c .front .ensures)
+
+front-add-t7 : (t : ℕ) → front-lts.Need-add-t7 (calls t) (front-at t) front.Post
+front-add-t7 t c = search needs
+
+front-returns-3 : (t : ℕ) → front-lts.Need-returns-3 (calls t) (front-at t) front.Post
+front-returns-3 t c =
+    let y = c .before .before in
+    let s = y .before .before .before in
+    front-bang _ (s .args .at) (y .before .if1 .left) (sym (y .byte .ensures) ∙ c .if3 .taken)
+
+front-add-t8 : (t : ℕ) → front-lts.Need-add-t8 (calls t) (front-at t) front.Post
+front-add-t8 t c = search needs
+
+front-returns-4 : (t : ℕ) → front-lts.Need-returns-4 (calls t) (front-at t) front.Post
+front-returns-4 t c =
+    let y = c .before .before .before in
+    let s = y .before .before .before in
+    front-open _ (s .args .at) (y .before .if1 .left) (sym (y .byte .ensures) ∙ c .if4 .taken)
+
+front-is-letter-requires : (t : ℕ) → front-lts.Need-is-letter-requires (calls t) (front-at t) front.Post
+front-is-letter-requires t c κs = search needs
+
+front-word-requires : (t : ℕ) → front-lts.Need-word-requires (calls t) (front-at t) front.Post
+front-word-requires t c κs =
+    let y = c .before .before .before .before .before in
+    let s = y .before .before .before in
+    (y .before .if1 .left, sym (y .byte .ensures), sym (c .before .is-letter .ensures) ∙ c .if5 .taken)
+
+front-returns-5 : (t : ℕ) → front-lts.Need-returns-5 (calls t) (front-at t) front.Post
+front-returns-5 t c = c .word .ensures
+
+front-returns-6 : (t : ℕ) → front-lts.Need-returns-6 (calls t) (front-at t) front.Post
+front-returns-6 t c =
+    let y = c .before .before .before .before .before in
+    let s = y .before .before .before in
+    front-none _ (s .args .at) (y .before .if1 .left) (λ e. c .before .before .before .before .if2 .left (y .byte .ensures ∙ e)) (λ e. c .before .before .before .if3 .left (y .byte .ensures ∙ e)) (λ e. c .before .before .if4 .left (y .byte .ensures ∙ e)) (of-byte isLetter (c .before .is-letter .ensures) (c .if5 .left) (y .byte .ensures))
+
+pub +front-spec : {M : Type 1} → statement M
++front-spec = close μ-front λ t. front-lts.spec (calls t)
     (front-at t)
     front.Post
     (front-returns t)

@@ -30,7 +30,13 @@ same-length : tie.Need-same-length
 same-length c = search needs
 
 returns-2 : tie.Need-returns-2
-returns-2 c = let s = c .before .before .before .before .before .before .before .before .before .before .before .before .before .before .before in judged-size (s .args .names .now) (s .args .text .now) (s .args .scratch .now) _ (c .before .before .before .before .before .before .before .before .before .before .before .if1 .left) (c .before .before .before .before .before .t2 .given .1) (c .before .before .before .before .before .before .before .before .before .read-text .ensures) (c .before .enum-told .given .1) (c .before .before .before .unknown .ensures) (c .if2 .taken)
+returns-2 c =
+    let s = c .before .before .before .before .before .before .before .before .before .before .before .before .before .before .before in
+    judged-size (s .args .names .now) (s .args .text .now) (s .args .scratch .now) _
+    (c .before .before .before .before .before .before .before .before .before .before .before .if1 .left) (s .pre .0)
+    (c .before .before .before .before .before .t2 .given .1)
+    (c .before .before .before .before .before .before .before .before .before .read-text .ensures) (c .before .enum-told .given .1)
+    (c .before .before .before .unknown .ensures) (c .if2 .taken)
 
 deep-requires : tie.Need-deep-requires
 deep-requires c κs = search needs
@@ -39,25 +45,49 @@ same-length-2 : tie.Need-same-length-2
 same-length-2 c = search needs
 
 returns-3 : tie.Need-returns-3
-returns-3 c = let s = c .before .before .before .before .before .before .before .before .before .before .before .before .before .before .before .before .before in judged-deep (s .args .names .now) (s .args .text .now) (s .args .scratch .now) _ (c .before .before .before .before .before .before .before .before .before .before .before .before .before .if1 .left) (c .before .before .before .before .before .before .before .t2 .given .1) (c .before .before .before .before .before .before .before .before .before .before .before .read-text .ensures) (c .before .before .before .enum-told .given .1) (c .before .before .before .before .before .unknown .ensures) (c .if3 .taken) (c .before .deep .ensures)
+returns-3 c =
+    let s = c .before .before .before .before .before .before .before .before .before .before .before .before .before .before .before .before .before in
+    judged-deep (s .args .names .now) (s .args .text .now) (s .args .scratch .now) _
+    (c .before .before .before .before .before .before .before .before .before .before .before .before .before .if1 .left) (s .pre .0)
+    (c .before .before .before .before .before .before .before .t2 .given .1)
+    (c .before .before .before .before .before .before .before .before .before .before .before .read-text .ensures)
+    (c .before .before .before .enum-told .given .1) (c .before .before .before .before .before .unknown .ensures) (c .if3 .taken)
+    (c .before .deep .ensures)
 
 same-length-3 : tie.Need-same-length-3
 same-length-3 c = search needs
 
 returns-4 : tie.Need-returns-4
-returns-4 c = let s = c .before .before .before .before .before .before .before .before .before .before .before in judged-stops (s .args .names .now) (s .args .text .now) (s .args .scratch .now) _ (c .before .before .before .before .before .before .before .if1 .left) (c .before .t .given .1) (c .before .before .before .before .before .read-text .ensures)
+returns-4 c =
+    let s = c .before .before .before .before .before .before .before .before .before .before .before in
+    judged-stops (s .args .names .now) (s .args .text .now) (s .args .scratch .now) _
+    (c .before .before .before .before .before .before .before .if1 .left) (s .pre .0) (c .before .t .given .1)
+    (c .before .before .before .before .before .read-text .ensures)
 
 same-length-4 : tie.Need-same-length-4
 same-length-4 c = search needs
 
 returns-5 : tie.Need-returns-5
-returns-5 c = let s = c .before .before .before .before .before .before .before .before .before .before .before .before .before .before .before in judged-unknown (s .args .names .now) (s .args .text .now) (s .args .scratch .now) _ (c .before .before .before .before .before .before .before .before .before .before .before .if1 .left) (c .before .before .before .before .before .t2 .given .1) (c .before .before .before .before .before .before .before .before .before .read-text .ensures) (c .before .u .given .1) (c .before .before .before .unknown .ensures)
+returns-5 c =
+    let s = c .before .before .before .before .before .before .before .before .before .before .before .before .before .before .before in
+    judged-unknown (s .args .names .now) (s .args .text .now) (s .args .scratch .now) _
+    (c .before .before .before .before .before .before .before .before .before .before .before .if1 .left) (s .pre .0)
+    (c .before .before .before .before .before .t2 .given .1)
+    (c .before .before .before .before .before .before .before .before .before .read-text .ensures) (c .before .u .given .1)
+    (c .before .before .before .unknown .ensures)
 
 same-length-5 : tie.Need-same-length-5
 same-length-5 c = search needs
 
 returns-6 : tie.Need-returns-6
-returns-6 c = let s = c .before .before .before .before .before .before .before .before .before .before .before .before .before .before .before .before .before in judged-nodes (s .args .names .now) (s .args .text .now) (s .args .scratch .now) _ (c .before .before .before .before .before .before .before .before .before .before .before .before .before .if1 .left) (c .before .before .before .before .before .before .before .t2 .given .1) (c .before .before .before .before .before .before .before .before .before .before .before .read-text .ensures) (c .before .before .before .enum-told .given .1) (c .before .before .before .before .before .unknown .ensures) (c .before .before .if2 .left) (c .if3 .left) (c .before .deep .ensures)
+returns-6 c =
+    let s = c .before .before .before .before .before .before .before .before .before .before .before .before .before .before .before .before .before in
+    judged-nodes (s .args .names .now) (s .args .text .now) (s .args .scratch .now) _
+    (c .before .before .before .before .before .before .before .before .before .before .before .before .before .if1 .left) (s .pre .0)
+    (c .before .before .before .before .before .before .before .t2 .given .1)
+    (c .before .before .before .before .before .before .before .before .before .before .before .read-text .ensures)
+    (c .before .before .before .enum-told .given .1) (c .before .before .before .before .before .unknown .ensures) (c .before .before .if2 .left)
+    (c .if3 .left) (c .before .deep .ensures)
 
 pub judge-spec : {M : Type 1} → statement M
 judge-spec =

@@ -12,8 +12,8 @@ enum-told c = search needs
 enum-known-answer : tie.Need-enum-known-answer
 enum-known-answer c = search needs
 
-broken-at-requires : tie.Need-broken-at-requires
-broken-at-requires c κs = c .before .before .before .pre _ (ap said (c .before .answer .given .1))
+refused-at-requires : tie.Need-refused-at-requires
+refused-at-requires c κs = c .before .before .before .pre _ (ap said (c .before .answer .given .1))
 
 enum-told-2 : tie.Need-enum-told-2
 enum-told-2 c = search needs
@@ -22,7 +22,7 @@ returns : tie.Need-returns
 returns c = rw (c .enum-told .given .1)
 
 returns-2 : tie.Need-returns-2
-returns-2 c = rw (c .before .before .answer .given .1) (c .broken-at .ensures)
+returns-2 c = rw (c .before .before .answer .given .1) (c .refused-at .ensures)
 
 returns-3 : tie.Need-returns-3
 returns-3 c = search needs
@@ -33,7 +33,7 @@ read-number-spec =
     (tie.spec
     enum-told
     enum-known-answer
-    broken-at-requires
+    refused-at-requires
     enum-told-2
     returns
     returns-2

@@ -1,0 +1,2 @@
+-- What is promised of printing and reading together: Promises.
+pub mod Promises

@@ -1,0 +1,73 @@
+// The analyst's suspicion: a formula as the first argument, a session file on standard input, and on standard output whether the formula separates the
+// sessions, the first that disagrees, or the refusal.
+use libc::ENAMETOOLONG;
+use libc::STDERR_FILENO;
+use libc::STDIN_FILENO;
+use libc::STDOUT_FILENO;
+ghost use lib.ListN.{length};
+ghost use Rattle.suspect.specs.Input.{Within};
+
+// How many bytes were read, or that a read failed.
+enum Taken {
+    Bytes(usize),
+    Failed,
+}
+
+fn complain(what: &[u8]) {
+    io::write_all(STDERR_FILENO, what);
+}
+
+// Reads until the input ends or the room is full. A file that comes in pieces is read piece by piece.
+fn read_file(file: &mut [u8]) -> Taken
+    ensures { λ r. ⌜ Within r (length (now (file .exit))) ⌝ }
+{
+    let mut at: usize = 0;
+    while at < file.len() {
+        let rest = &mut file[at..];
+        let got = libc::read(STDIN_FILENO, rest);
+        if got < 0 {
+            return Taken::Failed;
+        }
+        let n = io::count(got, rest);
+        if n == 0 {
+            return Taken::Bytes(at);
+        }
+        at += n;
+    }
+    Taken::Bytes(at)
+}
+
+// The answer goes out whole, or a line on standard error says that it didn't.
+fn answer(typed: &[u8], file: &[u8]) {
+    let mut text = [0u8; 8248];
+    let length = suspicion::of_typed(typed, file, &mut text);
+    if !io::write_all(STDOUT_FILENO, &text[..length]) {
+        complain(b"suspect: the answer can't be written to standard output\n");
+    }
+}
+
+fn judge(typed: &[u8]) {
+    // One byte more than the largest good file has: of a longer one these bytes decide (`first-bytes-decide`, in proofs/Prefix of `file`).
+    let mut file = [0u8; 4451];
+    let taken = read_file(&mut file);
+    match taken {
+        Taken::Bytes(size) => answer(typed, &file[..size]),
+        Taken::Failed => complain(b"suspect: standard input can't be read\n"),
+    }
+}
+
+fn main() {
+    // One byte more than a text may have: of a longer one these bytes are refused as the whole is, by their number.
+    let mut typed = [0u8; 4097];
+    let length = os::arg(1, &mut typed);
+    let error = os::errno();
+    if error == ENAMETOOLONG {
+        judge(&typed);
+        return;
+    }
+    if error != 0 {
+        complain(b"suspect: usage: suspect FORMULA <FILE.session\n");
+        return;
+    }
+    judge(&typed[..length]);
+}
