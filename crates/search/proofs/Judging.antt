@@ -155,15 +155,15 @@ module _ {i : Input} (ok : Passes i) {t₀ t : Cols} {k₀ k : Table} {starts : 
     rows-are : take (i .recording .sessions) rows ≡ formula .matrix
     rows-are = rows-made i ok k masks (t .matrices) old rows m stored long code (a .0) (b .0) makes (written .filled) (written .answer) .2 ∙ matrix-is
 
-    separates : (v : Bool) → v ≡ agreeing (i .recording .sessions) (i .recording .marks) (i .recording .lengths) rows → separating i (formula .matrix) ≡ v
+    separates : (v : Bool) → v ≡ agreeing (i .recording .sessions) (i .recording .marks) rows → separating i (formula .matrix) ≡ v
     separates v e = ap (separating i) (sym rows-are) ∙ sym (agrees-separating i ok rows rows-long) ∙ sym e
 
-    pub turn-found : (n : ℕ) → true ≡ agreeing (i .recording .sessions) (i .recording .marks) (i .recording .lengths) rows → walkLeft i k₀ k starts s at n ≡ ended (found (formula .node)) k (n + 1)
+    pub turn-found : (n : ℕ) → true ≡ agreeing (i .recording .sessions) (i .recording .marks) rows → walkLeft i k₀ k starts s at n ≡ ended (found (formula .node)) k (n + 1)
     turn-found n e =
         tries n ∙ ap (sizesLeft i (i .bound + 1 - s) s (map (make i k₀ s) (rest (layerAt i s starts) next))) (con-found i k n formula (separates true e))
         ∙ left-ended i (i .bound + 1 - s) s (map (make i k₀ s) (rest (layerAt i s starts) next)) (found (formula .node)) k (n + 1)
 
-    module _ (e : false ≡ agreeing (i .recording .sessions) (i .recording .marks) (i .recording .lengths) rows) (few : kept ≤ i .room) where
+    module _ (e : false ≡ agreeing (i .recording .sessions) (i .recording .marks) rows) (few : kept ≤ i .room) where
       knows : Repeats (i .recording .sessions) (t .matrices) rows kept → walk.known (offer i) (formula .matrix) k ≡ true
       knows v =
           ap (λ (x : List ℕ). walk.known (offer i) x k) (sym rows-are)

@@ -221,7 +221,7 @@ module _ {g : Given} {marks lengths words unary binary : List ℕ} {from : Point
       in-rows : Passes i → g .sessions ≤ length old
       in-rows ok = omega (arith, ok .sessions-in)
 
-      pub stops-found : true ≡ agreeing (g .sessions) marks lengths rows
+      pub stops-found : true ≡ agreeing (g .sessions) marks rows
           → GoDoes g marks lengths words unary binary from t t′ (Found (record { code = code; left = l; right = q; size = s }) (n + 1) kept)
       stops-found e = record {
         runs = λ t₀ k₀ k ok room w.
@@ -234,7 +234,7 @@ module _ {g : Given} {marks lengths words unary binary : List ℕ} {from : Point
             };
       }
 
-      module _ (e : false ≡ agreeing (g .sessions) marks lengths rows) where
+      module _ (e : false ≡ agreeing (g .sessions) marks rows) where
         pub turn-dropped : Repeats (g .sessions) (t′ .matrices) rows kept
             → Loop g marks lengths words unary binary from t t′ starts s next kept (n + 1)
         turn-dropped y = record {

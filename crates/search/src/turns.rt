@@ -122,7 +122,7 @@ pub(crate) fn go_on(
             right,
             size: s as u8,
         };
-        if table::agrees(r, marks, lengths, &rows) {
+        if table::agrees(r, marks, &rows) {
             return Stand::Found {
                 root: node,
                 tried: n,

@@ -15,7 +15,7 @@ pub mod stored;
 mod tally;
 
 pub use collision::run as collision;
-pub use compare::{run, Extent};
+pub use compare::{due, run, Extent};
 pub use input::Input;
 pub use outside::{beyond, findings};
 pub use speed::run as speed;
