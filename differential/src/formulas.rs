@@ -4,9 +4,9 @@
 //! bit i is set; the empty one exactly where document 02's reading accepts. A wrong mark among them has to be named.
 use std::rc::Rc;
 
+use crate::empty;
 use crate::formula::tree::FormulaTree;
 use crate::ltl::{trace::Trace, AtomicProposition, Constant};
-use crate::empty;
 use crate::oracle;
 use crate::program;
 use crate::query::Seq;
@@ -201,7 +201,8 @@ pub fn compare(rounds: u64) -> Result<(usize, usize), String> {
             input += "\n";
             at += 1;
         }
-        let output = String::from_utf8(program::output("run_formulas", input.into_bytes())?).map_err(|e| e.to_string())?;
+        let output =
+            String::from_utf8(program::output("run_formulas", input.into_bytes())?).map_err(|e| e.to_string())?;
         let answers: Vec<&str> = output.lines().collect();
         if answers.len() != at - from {
             return Err(format!(

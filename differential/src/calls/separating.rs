@@ -139,8 +139,18 @@ pub fn compare(judged: &mut Judged, rounds: u64) {
             };
             let traces: Vec<Trace> = (0..r).map(trace).collect();
             let accepted = f.tree.eval(&traces).accepted_vec();
-            let of_session = |(j, b): (usize, bool)| if given.lengths[j] == 0 { empty::accepts(&f.tree) } else { b };
-            given.marks = accepted.into_iter().enumerate().map(|pair| of_session(pair) as u8).collect();
+            let of_session = |(j, b): (usize, bool)| {
+                if given.lengths[j] == 0 {
+                    empty::accepts(&f.tree)
+                } else {
+                    b
+                }
+            };
+            given.marks = accepted
+                .into_iter()
+                .enumerate()
+                .map(|pair| of_session(pair) as u8)
+                .collect();
 
             let good = call(judged, &given, &f);
             let due = good.lists[7].with(&[1]);

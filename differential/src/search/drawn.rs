@@ -176,7 +176,12 @@ fn mark(random: &mut Random, input: &Input, traces: &[Trace]) -> Vec<u8> {
         _ => 1 + random.below(input.bound as u64),
     };
     let planted = formula(random, input, size);
-    let mut marks: Vec<u8> = planted.eval(traces).accepted_vec().into_iter().map(|b| b as u8).collect();
+    let mut marks: Vec<u8> = planted
+        .eval(traces)
+        .accepted_vec()
+        .into_iter()
+        .map(|b| b as u8)
+        .collect();
     for j in (0..input.r).filter(|j| input.lengths[*j] == 0) {
         marks[j] = empty::accepts(&planted) as u8;
     }

@@ -66,7 +66,10 @@ impl Input {
         input.r = left.len();
         input.marks = left.iter().map(|j| self.marks[*j]).collect();
         input.lengths = left.iter().map(|j| self.lengths[*j]).collect();
-        input.words = left.iter().flat_map(|j| (0..self.m).map(|p| self.word(*j, p))).collect();
+        input.words = left
+            .iter()
+            .flat_map(|j| (0..self.m).map(|p| self.word(*j, p)))
+            .collect();
         (input.r > 0).then_some(input)
     }
 

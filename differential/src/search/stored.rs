@@ -1,7 +1,7 @@
 //! A stored sample of searches with the Rust's answers: a module of our program `searches`, and what it has to print, so that the gate runs them with
 //! no Rust at hand.
-use super::due;
 use super::drawn;
+use super::due;
 use super::input::{Ending, Input};
 use super::lent::Lent;
 
