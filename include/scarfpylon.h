@@ -82,8 +82,8 @@ uint64_t scarfpylon_binary(uint8_t code, uint64_t left_length, uint64_t left_wor
 
 /*
  * The smallest formula of size up to `bound` that separates the sessions, over the propositions, the constants false and true if `constants` is 1, and the
- * operators of the two lists. Candidates are tried in a fixed order, by size. Of those that hold at the same snapshots of every session only the first
- * is kept, and at most `room` are kept.
+ * operators of the two lists. Candidates are tried in a fixed order, by size. Of those that hold at the same snapshots of every session, and that the same
+ * empty sessions accept, only the first is kept, and at most `room` are kept.
  *
  * Reads marks[sessions], lengths[sessions] and words[propositions * sessions], where the word of proposition p in session i is at i * propositions + p;
  * and the whole of unary and binary, which may be empty.
