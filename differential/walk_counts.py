@@ -1,4 +1,4 @@
-"""The walk of document 01 written from its prose alone, to compare counts, nodes and matrices of small runs with crates/walk/proofs/Examples."""
+"""The walk of document 01, with document 02's reading of the empty trace, written from their prose alone, to compare counts, nodes and matrices of small runs with crates/walk/proofs/Examples."""
 import sys
 
 UNARY = {0: "!", 1: "X", 2: "X[!]", 3: "F", 4: "G"}
@@ -7,9 +7,9 @@ COMMUTES = {5, 6, 10}
 
 
 def holds(op, n, i, f, g=None):
-    """The reading at a position i below n; f and g are the positions at which the children hold."""
+    """The reading at a position i below n, or at 0 where n is 0; f and g are the positions at which the children hold."""
     if op == 0: return i not in f
-    if op == 1: return i + 1 == n or i + 1 in f
+    if op == 1: return i + 1 >= n or i + 1 in f
     if op == 2: return i + 1 < n and i + 1 in f
     if op == 3: return any(j in f for j in range(i, n))
     if op == 4: return all(j in f for j in range(i, n))
@@ -21,11 +21,14 @@ def holds(op, n, i, f, g=None):
     if op == 10: return (i in f) == (i in g)
 
 
-def positions(n, word): return {i for i in range(n) if word >> i & 1}
+def places(n): return max(n, 1)
+
+
+def positions(n, word): return {i for i in range(places(n)) if word >> i & 1}
 
 
 def apply(op, lengths, x, y=None):
-    return [sum(1 << i for i in range(n) if holds(op, n, i, positions(n, x[j]), positions(n, y[j]) if y else None))
+    return [sum(1 << i for i in range(places(n)) if holds(op, n, i, positions(n, x[j]), positions(n, y[j]) if y else None))
             for j, n in enumerate(lengths)]
 
 
@@ -40,7 +43,7 @@ def walk(sessions, unary, binary, constants, bound, room):
             for p in range(len(sessions[0][2])): yield (16, p, 0, 1, [w[2][p] for w in sessions])
             if constants:
                 yield (17, 0, 0, 1, [0] * len(sessions))
-                yield (18, 0, 0, 1, [2 ** n - 1 for n in lengths])
+                yield (18, 0, 0, 1, [2 ** places(n) - 1 for n in lengths])
             return
         at = lambda size: [(p, k) for p, k in enumerate(kept) if k[3] == size]
         for p, k in at(s - 1):
@@ -57,7 +60,7 @@ def walk(sessions, unary, binary, constants, bound, room):
     for s in range(1, bound + 1):
         for c in candidates(s):
             tried += 1
-            if [int(n > 0 and x & 1) for n, x in zip(lengths, c[4])] == marks: return ("found",) + c[:4], tried, kept
+            if [x & 1 for x in c[4]] == marks: return ("found",) + c[:4], tried, kept
             if any(c[4] == k[4] for k in kept): continue
             if len(kept) == room: return ("full", s), tried, kept
             kept.append(c)
@@ -73,6 +76,8 @@ RUNS = {
     "S4 B=2": ([(1, 0, [0])], ALL1, ALL2, 0, 2, 4096),
     "S4 B=3": ([(1, 0, [0])], ALL1, ALL2, 0, 3, 4096),
     "S4 mark 0": ([(0, 0, [0])], ALL1, ALL2, 0, 3, 4096),
+    "an empty session beside another": ([(1, 0, [0]), (0, 1, [1])], [2, 3, 1, 0], [], 0, 2, 4096),
+    "an empty session tells duplicates apart": ([(0, 0, [0]), (1, 1, [0])], [4], [], 1, 2, 4096),
     "constants": ([(1, 2, [1]), (0, 2, [1])], [4, 1], [], 1, 2, 4096),
     "the order of the loops": ([(1, 2, [2, 0]), (0, 2, [3, 1])], [2, 1], [5, 9], 0, 4, 10),
     "the left sizes rise": ([(0, 3, [4]), (0, 3, [3]), (1, 3, [0])], [3, 4], [10], 0, 5, 40),

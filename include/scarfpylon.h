@@ -19,7 +19,8 @@
  *              8 `R` f R g: g at every snapshot from here on up to the first with f, that one included; without such a one, to the end
  *     leaves  16 a proposition     17 false             18 true
  *
- * A session accepts a formula if it has a snapshot and the formula holds at the first one. A formula separates the sessions if every good one
+ * A session accepts a formula if the formula holds at its first snapshot. A session without snapshots accepts true, `X`, `G` and `R`, whatever is under
+ * them, and no proposition, false, `X[!]`, `F` or `U`; the other operators follow what is under them. A formula separates the sessions if every good one
  * accepts it and no bad one does.
  *
  * A formula is handed over as a list of nodes and one root node over it. The list is four slices of one length: at each place a code, a left and a right
@@ -40,7 +41,7 @@
  *      2   the bound is not 1 to 31, the room not 1 to 4,096, or the constants mark not 0 or 1
  *      3   a slice is shorter than the function asks. Where it asks for a length, a longer slice is good, and what is beyond is not looked at
  *      4   a length above 64
- *      5   a bit set at or above the length
+ *      5   a bit set at or above the length; the operators take bit 0 at length 0, where it says whether an empty session accepts
  *      6   a mark other than 0 or 1
  *      7   a code that is not of its group, or stands twice in its list
  *      8   a session file or a names section is broken; 256 times the offset of the first offending byte is added
@@ -84,8 +85,8 @@ uint64_t scarfpylon_binary(uint8_t code, uint64_t left_length, uint64_t left_wor
 
 /*
  * The smallest formula of size up to `bound` that separates the sessions, over the propositions, the constants false and true if `constants` is 1, and the
- * operators of the two lists. Candidates are tried in a fixed order, by size. Of those that hold at the same snapshots of every session only the first
- * is kept, and at most `room` are kept.
+ * operators of the two lists. Candidates are tried in a fixed order, by size. Of those that hold at the same snapshots of every session, and that the same
+ * empty sessions accept, only the first is kept, and at most `room` are kept.
  *
  * Reads marks[sessions], lengths[sessions] and words[propositions * sessions], where the word of proposition p in session i is at i * propositions + p;
  * and the whole of unary and binary, which may be empty.

@@ -1,7 +1,8 @@
-//! The comparison: the Rust's answers, and 01's refusals, against what our compiled program answers.
+//! The comparison: the Rust's answers, document 02's on the empty trace, and 01's refusals, against what our compiled program answers.
+use crate::empty;
 use crate::oracle;
 use crate::program;
-use crate::query::{name, ones, Answer, Query, Seq, ANSWER_LINE, BINARY, NO_QUERY, QUERY_LINE, UNARY};
+use crate::query::{name, words, Answer, Query, Seq, ANSWER_LINE, BINARY, NO_QUERY, QUERY_LINE, UNARY};
 use crate::refusals;
 use crate::sample;
 use crate::words::{core, edges, reaching_pairs, Random};
@@ -61,10 +62,10 @@ impl Report {
 }
 
 impl Batch {
-    /// Asks the Rust, and notes its answer as what our program must say.
+    /// Asks the Rust, or document 02's table on the empty trace, and notes the answer as what our program must say.
     fn ask(&mut self, report: &mut Report, what: &str, query: Query) {
         let line = report.line(format!("{what}, {}", name(query.code())));
-        let answer = Answer::Sequence(oracle::answer(query));
+        let answer = Answer::Sequence(empty::due(query));
         self.queries.push((query, answer, line));
     }
 
@@ -115,12 +116,15 @@ impl Batch {
 /// Every word, and every pair of words, at a short length.
 fn exhaustive(report: &mut Report, length: u64) -> Batch {
     let mut batch = Batch { queries: vec![] };
-    let what = "lengths 0 to 4, every word";
-    for word in 0..=ones(length) {
+    let what = match length {
+        0 => "length 0, every word, by document 02",
+        _ => "lengths 1 to 4, every word",
+    };
+    for word in words(length) {
         batch.unary(report, what, length, word);
     }
-    for left in 0..=ones(length) {
-        for right in 0..=ones(length) {
+    for left in words(length) {
+        for right in words(length) {
             batch.binary(report, what, length, left, right);
         }
     }
@@ -215,6 +219,7 @@ fn compared(extent: &Extent) -> Result<bool, String> {
         smallest: None,
     };
     let mut random = Random::new(1);
+    let mut from_02 = 0;
     for length in 0..=64 {
         let batch = if length <= 4 {
             exhaustive(&mut report, length)
@@ -222,8 +227,11 @@ fn compared(extent: &Extent) -> Result<bool, String> {
             chosen(&mut report, length, extent, &mut random)
         };
         batch.run(&mut report, &mut tally)?;
+        if length == 0 {
+            from_02 = tally.compared;
+        }
     }
-    let from_rust = tally.compared;
+    let from_rust = tally.compared - from_02;
     for rows in refusals::all() {
         let line = report.line(rows.what.to_string());
         let refused = |row: &(Query, u8)| (row.0, Answer::Refused(row.1), line);
@@ -235,7 +243,7 @@ fn compared(extent: &Extent) -> Result<bool, String> {
     for (what, count) in &report.lines {
         println!("{what}: {count}");
     }
-    let from_01 = tally.compared - from_rust;
+    let from_01 = tally.compared - from_rust - from_02;
     let own = broken(&mut tally)?;
     println!("lines that are no query, and good ones between them: {own}");
     let stored = sample::is_current();
@@ -245,7 +253,7 @@ fn compared(extent: &Extent) -> Result<bool, String> {
     }
 
     println!(
-        "answers of the Rust: {from_rust}; refusals of document 01: {from_01}; run_replay's own rule for lines: {own}"
+        "answers of the Rust: {from_rust}; of document 02 on the empty trace: {from_02}; refusals of document 01: {from_01}; run_replay's own rule for lines: {own}"
     );
     if let Some((query, answer, wrote)) = &tally.smallest {
         println!("smallest that differs: {query} = {answer}; our program wrote {wrote}");

@@ -1,8 +1,9 @@
 //! What the Rust does outside document 01's domain, each with its smallest input, found by trying all small ones.
+use crate::empty::due;
 use crate::ltl::{cm::CharMatrix, trace::Trace};
 use crate::ops::unary::LtlUnaryOp;
 use crate::oracle::{answer, matrix, sequence, unary};
-use crate::query::{name, ones, Query, Seq, BINARY, UNARY};
+use crate::query::{name, ones, words, Query, Seq, BINARY, UNARY};
 use std::panic::catch_unwind;
 
 /// The longest sequence that is tried.
@@ -158,8 +159,31 @@ fn ill_formed_queries(code: u8, side: &str, mut tries: Vec<Cut>) {
     show("smallest where the bits above change the bits below", leaks.map(shown));
 }
 
+/// Each operator's smallest words of length 0 on which the Rust and document 02 part. A word of 1 is ill formed in the Rust.
+fn empty_trace() {
+    println!("The empty trace (02, E4: bit 0 of a word is its acceptance):");
+    let seqs = || words(0).map(|word| Seq::new(0, word));
+    let mut tries: Vec<Vec<Query>> = vec![];
+    tries.extend(UNARY.map(|(code, _)| seqs().map(|seq| Query::Unary(code, seq)).collect()));
+    for (code, _) in BINARY {
+        let pairs = seqs().flat_map(|left| seqs().map(move |right| (left, right)));
+        tries.push(pairs.map(|(left, right)| Query::Binary(code, left, right)).collect());
+    }
+    for tries in tries {
+        let differs = tries.iter().find(|query| answer(**query) != due(**query));
+        let shown = |query: &Query| {
+            format!(
+                "{query}: the Rust has {}, 02 has {}",
+                answer(*query).word,
+                due(*query).word
+            )
+        };
+        show(&name(tries[0].code()), differs.map(shown));
+    }
+}
+
 fn acceptance() {
-    println!("Acceptance (01: the length is above 0 and bit 0 is set):");
+    println!("Acceptance (bit 0 is set, 02; before it 01: and the length is above 0):");
     for seq in [Seq::new(0, 0), Seq::new(0, 1), Seq::new(1, 0), Seq::new(1, 1)] {
         println!("  {seq}: accepts is {}", sequence(seq).accepts());
     }
@@ -213,9 +237,11 @@ pub fn run() -> i32 {
     unequal_lengths();
     long_sequences();
     ill_formed_words();
+    empty_trace();
     acceptance();
     matrices();
     crate::search::findings();
+    crate::search::empty();
     crate::search::beyond();
     0
 }

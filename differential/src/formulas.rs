@@ -1,9 +1,10 @@
 //! Random formulas: the Rust's `size`, `eval` and `Display` against what our program `formulas` says of the same nodes.
 //!
 //! The check answers by sessions, so a word of the Rust's is asked for bit by bit: the session from snapshot i on has to be accepted exactly where
-//! bit i is set. A wrong mark among them has to be named.
+//! bit i is set; the empty one exactly where document 02's reading accepts. A wrong mark among them has to be named.
 use std::rc::Rc;
 
+use crate::empty;
 use crate::formula::tree::FormulaTree;
 use crate::ltl::{trace::Trace, AtomicProposition, Constant};
 use crate::oracle;
@@ -137,7 +138,10 @@ fn questions(random: &mut Random, size: usize, length: u64) -> Vec<(String, Stri
     let mut asked = Vec::new();
     let starts: Vec<u64> = if length == 0 { vec![0] } else { (0..length).collect() };
     for part in starts.chunks(32) {
-        let good = |i: u64| u64::from(length > 0 && word >> i & 1 == 1);
+        let good = |i: u64| match length {
+            0 => u64::from(empty::accepts(&f.tree)),
+            _ => word >> i & 1,
+        };
         let ask = |wrong: Option<usize>| {
             let marks = part
                 .iter()
@@ -197,7 +201,8 @@ pub fn compare(rounds: u64) -> Result<(usize, usize), String> {
             input += "\n";
             at += 1;
         }
-        let output = String::from_utf8(program::output("run_formulas", input.into_bytes())?).map_err(|e| e.to_string())?;
+        let output =
+            String::from_utf8(program::output("run_formulas", input.into_bytes())?).map_err(|e| e.to_string())?;
         let answers: Vec<&str> = output.lines().collect();
         if answers.len() != at - from {
             return Err(format!(

@@ -1,4 +1,4 @@
-//! What the bench has to write for a file: a reader, a walk and a printer of their own, written from document 01's prose. Nothing here is
+//! What the bench has to write for a file: a reader, a walk and a printer of their own, written from the documents' prose. Nothing here is
 //! fast or shared with the library: a row is a list of truth values, a formula a tree, and every operator its sentence position by position.
 use std::rc::Rc;
 
@@ -29,6 +29,14 @@ pub struct Session {
 impl Session {
     fn length(&self) -> usize {
         self.rows[0].len()
+    }
+
+    /// A proposition's row; at an empty session it isn't accepted.
+    fn places(&self, number: usize) -> Vec<bool> {
+        if self.length() == 0 {
+            return vec![false];
+        }
+        self.rows[number].clone()
     }
 }
 
@@ -176,23 +184,21 @@ impl Tree {
     }
 }
 
-/// One row of truth values a session.
+/// One row of truth values a session: one for each snapshot, and one of an empty session, its acceptance (document 02, E4).
 type Matrix = Vec<Vec<bool>>;
 
-fn unary(code: u8, f: &[bool]) -> Vec<bool> {
-    let n = f.len();
+fn unary(code: u8, n: usize, f: &[bool]) -> Vec<bool> {
     let holds = |i: usize| match code {
         0 => !f[i],
-        1 => i + 1 == n || f[i + 1],
+        1 => i + 1 >= n || f[i + 1],
         2 => i + 1 < n && f[i + 1],
         3 => (i..n).any(|j| f[j]),
         _ => (i..n).all(|j| f[j]),
     };
-    (0..n).map(holds).collect()
+    (0..n.max(1)).map(holds).collect()
 }
 
-fn binary(code: u8, f: &[bool], g: &[bool]) -> Vec<bool> {
-    let n = f.len();
+fn binary(code: u8, n: usize, f: &[bool], g: &[bool]) -> Vec<bool> {
     let holds = |i: usize| match code {
         5 => f[i] || g[i],
         6 => f[i] && g[i],
@@ -201,7 +207,7 @@ fn binary(code: u8, f: &[bool], g: &[bool]) -> Vec<bool> {
         9 => !f[i] || g[i],
         _ => f[i] == g[i],
     };
-    (0..n).map(holds).collect()
+    (0..n.max(1)).map(holds).collect()
 }
 
 /// What the bench answers.
@@ -280,7 +286,7 @@ impl Walk<'_> {
         self.tried += 1;
         self.cost += matrix.len() as u64;
         let sessions = &self.parts.sessions;
-        let accepts = |j: usize| sessions[j].length() > 0 && matrix[j][0];
+        let accepts = |j: usize| matrix[j][0];
         if (0..sessions.len()).all(|j| accepts(j) == sessions[j].mark) {
             let text = tree.text(&self.parts.names);
             return Err(End::Answered(Answer::Found {
@@ -323,7 +329,7 @@ impl Walk<'_> {
                 .parts
                 .sessions
                 .iter()
-                .map(|session| session.rows[number].clone())
+                .map(|session| session.places(number))
                 .collect();
             self.consider(1, Tree::Proposition(number), matrix)?;
         }
@@ -333,7 +339,7 @@ impl Walk<'_> {
                     .parts
                     .sessions
                     .iter()
-                    .map(|session| vec![value; session.length()])
+                    .map(|session| vec![value; session.length().max(1)])
                     .collect();
                 self.consider(1, Tree::Constant(value), matrix)?;
             }
@@ -347,7 +353,8 @@ impl Walk<'_> {
             .matrix
             .iter()
             .zip(&q.matrix)
-            .map(|(f, g)| binary(code, f, g))
+            .zip(&self.parts.sessions)
+            .map(|((f, g), session)| binary(code, session.length(), f, g))
             .collect();
         let tree = Tree::Binary(code, l.tree.clone(), q.tree.clone());
         self.consider(size, tree, matrix)
@@ -357,7 +364,8 @@ impl Walk<'_> {
         let parts = self.parts;
         for child in self.of_size(size - 1) {
             for &code in &parts.unary {
-                let matrix = self.kept[child].matrix.iter().map(|f| unary(code, f)).collect();
+                let rows = self.kept[child].matrix.iter().zip(&parts.sessions);
+                let matrix = rows.map(|(f, session)| unary(code, session.length(), f)).collect();
                 let tree = Tree::Unary(code, self.kept[child].tree.clone());
                 self.consider(size, tree, matrix)?;
             }

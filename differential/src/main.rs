@@ -11,6 +11,7 @@ mod boundary;
 mod calls;
 mod compare;
 mod damage;
+mod empty;
 mod findings;
 mod formulas;
 mod judge;

@@ -40,6 +40,11 @@ pub fn ones(length: u64) -> u64 {
     }
 }
 
+/// The words of a formula at this length: one bit for each snapshot, and the first at length 0 too.
+pub fn words(length: u64) -> std::ops::RangeInclusive<u64> {
+    0..=ones(length.max(1))
+}
+
 impl Seq {
     pub fn new(length: u64, word: u64) -> Self {
         Seq { length, word }

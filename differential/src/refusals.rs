@@ -127,11 +127,11 @@ pub fn lengths() -> Vec<(Query, u8)> {
     rows
 }
 
-/// Each operator, each length below 64, each single bit at or above it, alone and with the bits below.
+/// Each operator, each length below 64, each single bit at or above it, alone and with the bits below. At length 0 bit 0 is a place (document 02, E4).
 pub fn bits() -> Vec<(Query, u8)> {
     let mut rows = vec![];
     for length in 0..64 {
-        for bit in length..64 {
+        for bit in length.max(1)..64 {
             for low in [0, ones(length)] {
                 let high = Seq {
                     length,

@@ -1,8 +1,8 @@
-//! The stored answers of the Rust, so that the gate replays them with no Rust at hand: samples of queries and of
+//! The stored answers of the Rust, and document 02's on the empty trace, so that the gate replays them with no Rust at hand: samples of queries and of
 //! searches, and what `settled` prints.
-use crate::oracle;
+use crate::empty;
 use crate::program::root;
-use crate::query::{ones, Answer, Query, Seq, BINARY, UNARY};
+use crate::query::{ones, words, Answer, Query, Seq, BINARY, UNARY};
 use crate::refusals;
 use crate::search::stored;
 use crate::settled;
@@ -15,9 +15,9 @@ fn queries() -> Vec<Query> {
     let mut unary = vec![];
     let mut binary = vec![];
     for length in 0..=2 {
-        for left in 0..=ones(length) {
+        for left in words(length) {
             unary.push((length, left));
-            binary.extend((0..=ones(length)).map(|right| (length, left, right)));
+            binary.extend(words(length).map(|right| (length, left, right)));
         }
     }
     let mut random = Random::new(2);
@@ -58,7 +58,7 @@ fn sample() -> Sample {
     let queries = queries();
     for query in &queries {
         stdin += &query.line();
-        stdout += &Answer::Sequence(oracle::answer(*query)).line();
+        stdout += &Answer::Sequence(empty::due(*query)).line();
     }
     // The Rust refuses nothing, so these carry 01's own numbers and stand apart at the end.
     let refusals = refusals::order();
@@ -107,7 +107,7 @@ pub fn run() -> i32 {
         }
     }
     println!(
-        "crates/run_replay/stdin and stdout: the first {} lines are the Rust's answers, the last {} document 01's refusals",
+        "crates/run_replay/stdin and stdout: the first {} lines are the Rust's answers (at length 0 document 02's), the last {} document 01's refusals",
         sample.from_rust, sample.from_01
     );
     println!("crates/run_searches: the lines that start with `sample` are the Rust's answers");

@@ -1,6 +1,8 @@
-//! What our program `settled` has to print: P1 to P10 of document 01, and every operator on all words of up to 4 snapshots, by the Rust.
-use crate::oracle::{answer, binary, unary};
-use crate::query::{ones, Query, Seq, BINARY, UNARY};
+//! What our program `settled` has to print: P1 to P10 of document 01, and every operator on all words of up to 4 snapshots, by the Rust; at length 0 by
+//! document 02.
+use crate::empty::due;
+use crate::oracle::{binary, unary};
+use crate::query::{self, Query, Seq, BINARY, UNARY};
 
 fn one(name: &'static str, code: u8, length: u64, word: u64) -> (&'static str, Query) {
     (name, Query::Unary(code, Seq::new(length, word)))
@@ -38,7 +40,7 @@ fn examples() -> [(&'static str, Query); 17] {
 
 /// The answers to a row of queries, as the program prints them.
 fn words(queries: impl Iterator<Item = Query>) -> String {
-    queries.map(|query| format!(" {}", answer(query).word)).collect()
+    queries.map(|query| format!(" {}", due(query).word)).collect()
 }
 
 pub fn lines() -> String {
@@ -48,10 +50,10 @@ pub fn lines() -> String {
             Query::Unary(code, seq) => (seq.length, format!("{} {}", unary(code), seq.word)),
             Query::Binary(code, left, right) => (left.length, format!("{} {} {}", left.word, binary(code), right.word)),
         };
-        text += &format!("{name}, length {length}: {asked} = {}\n", answer(query).word);
+        text += &format!("{name}, length {length}: {asked} = {}\n", due(query).word);
     }
     for length in 0..=4 {
-        let all = || (0..=ones(length)).map(move |word| Seq::new(length, word));
+        let all = || query::words(length).map(move |word| Seq::new(length, word));
         for (code, _) in UNARY {
             text += &format!(
                 "length {length}: {} ={}\n",

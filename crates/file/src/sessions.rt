@@ -20,7 +20,7 @@ pub(crate) fn is_clear(n: usize, w: u64) -> bool
     requires { ⌜ n ≤ width ⌝ }
     ensures { λ r. ⌜ r ≡ ltb w (2 ^ n) ⌝ }
 {
-    let Answer::Sequence(_) = CharSeq::new(n, w) else {
+    let Answer::Sequence(_) = CharSeq::recorded(n, w) else {
         return false;
     };
     true

@@ -50,10 +50,7 @@ module _ (i : Recording) (k : List Node) (root : Node) where
   agrees-seq j from w b e ev a t s =
       let d : Denotes (lengthOf i j) (Holds (markedTrace i j .trace) t) w =
       subst (λ (f : ℕ). Denotes (lengthOf i j) (Holds (traceAt (lengthOf i j) (i .words) f) t) w) e (ev t s) in
-      let same : Accepts w ↔ AcceptsAt (lengthOf i j) (Holds (markedTrace i j .trace) t) = (
-        λ p. let h : 0 < lengthOf i j = omega (arith, d .length, p .0) in (h, d .means .holds 0 h .0 (p .1)),
-        λ p. (omega (arith, d .length, p .0), d .means .holds 0 (p .0) .1 (p .1)),
-      ) in
+      let same : Accepts w ↔ AcceptsAt (Holds (markedTrace i j .trace) t) = d .means .holds 0 (omega arith) in
       Iff·trans a (λ q. (λ n. same .0 (q .0 n), λ p. q .1 (same .1 p)), λ q. (λ n. same .1 (q .0 n), λ p. q .1 (same .0 p)))
 
   pub words-room : Checkable i k root → (j from : ℕ) → j < i .sessions → from ≡ j * i .propositions → from + i .propositions ≤ length (i .words)

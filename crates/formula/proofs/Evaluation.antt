@@ -7,10 +7,11 @@ use Prim.Native.Nat.{ℕ, _+_, _≤_, _<_}
 use native.Mathlib.Omega.{arith}
 use lib.ListN.{getD}
 use Rattle.words.specs.Ltlf.{Reading}
-use Rattle.words.specs.Word.{width, At, Wf, Means}
-use Rattle.words.proofs.At.{means, at-below}
+use Rattle.words.specs.Masked.{Placed}
+use Rattle.words.specs.Word.{width, At, WfComputed, Means}
+use Rattle.words.proofs.At.{means, recorded-computed}
 use Rattle.words.proofs.Bits.{bit-zero}
-use Rattle.words.proofs.Lengths.{Mask}
+use Rattle.words.proofs.Lengths.{Mask, places-cut}
 use Rattle.sequence.specs.Operators.{Unary, Binary, unaryReading, binaryReading}
 use Rattle.sequence.specs.declared.CharSeq.{CharSeq}
 use Rattle.sequence.specs.Sequence.{seq, WellFormed, Denotes}
@@ -34,7 +35,7 @@ module _ (n : ℕ) (words : List ℕ) (from : ℕ) (k : List Node) (nd : Node) w
   pub word-of-proposition : (b : ℕ) → Ready n words from k b nd → nd .code ≡ propositionCode → Evaluated n words from k nd (seq n (getD words (from + nd .left) 0))
   word-of-proposition b r e (leaf (proposition p)) s =
       let here = getD words (from + nd .left) 0 in
-      let w : Means n here (At here) = record { wf = r .clear (nd .left) (proposition-under (r .propositions) k b nd (r .fits) e); holds = λ i h. (λ z. z, λ z. z) } in
+      let w : Means n here (At here) = record { wf = recorded-computed (r .clear (nd .left) (proposition-under (r .propositions) k b nd (r .fits) e)); holds = λ i h. (λ z. z, λ z. z) } in
       record { length = refl; means = subst (λ (q : ℕ). Means n here (At (getD words (from + q) 0))) (s .1) w }
   word-of-proposition b r e (leaf (constant false)) s = absurd (omega (arith, s .0))
   word-of-proposition b r e (leaf (constant true)) s = absurd (omega (arith, s .0))
@@ -49,13 +50,12 @@ module _ (n : ℕ) (words : List ℕ) (from : ℕ) (k : List Node) (nd : Node) w
   word-of-false h e (unary op t) s = absurd (omega (arith, unary-below op, s .0))
   word-of-false h e (binary op l t) s = let x = binary-between op in absurd (omega (arith, s .0))
 
-  pub word-of-true : {r : ℕ} → n ≤ width → nd .code ≡ 18 → Mask n r → Evaluated n words from k nd (seq n r)
-  word-of-true h e m (leaf (proposition p)) s = absurd (omega (arith, s .0))
-  word-of-true h e m (leaf (constant false)) s = absurd (omega (arith, s .0))
-  word-of-true {r} h e m (leaf (constant true)) s =
-      record { length = refl; means = means h (λ i a. (m .holds i (at-below (m .wf) i a) .0 a, refl)) (λ i l a. m .holds i (omega arith) .1 l) }
-  word-of-true h e m (unary op t) s = absurd (omega (arith, unary-below op, s .0))
-  word-of-true h e m (binary op l t) s = let x = binary-between op in absurd (omega (arith, s .0))
+  pub word-of-true : (m : ℕ) {r : ℕ} → n ≤ width → nd .code ≡ 18 → Mask n m → Means width r (Placed (At m)) → Evaluated n words from k nd (seq n r)
+  word-of-true m h e q a (leaf (proposition p)) s = absurd (omega (arith, s .0))
+  word-of-true m h e q a (leaf (constant false)) s = absurd (omega (arith, s .0))
+  word-of-true m h e q a (leaf (constant true)) s = record { length = refl; means = places-cut h q a (λ i. refl) }
+  word-of-true m h e q a (unary op t) s = absurd (omega (arith, unary-below op, s .0))
+  word-of-true m h e q a (binary op l t) s = let x = binary-between op in absurd (omega (arith, s .0))
 
   -- a child is evaluated over the places below its own
   pub ready-at : {b : ℕ} → Ready n words from k b nd → (p : ℕ) → p < b → {child : Node} → child ≡ nodeAt k p → Ready n words from k p child
@@ -76,7 +76,7 @@ module _ (n : ℕ) (words : List ℕ) (from : ℕ) (k : List Node) (nd : Node) w
 
   -- a child's sequence is well formed, and of the session's length
   child : {f : Reading} (x : CharSeq) → Denotes n f x → WellFormed x
-  child x d = subst (λ (l : ℕ). Wf l (x .values)) (sym (d .length)) (d .means .wf)
+  child x d = subst (λ (l : ℕ). WfComputed l (x .values)) (sym (d .length)) (d .means .wf)
 
   pub word-of-unary : {x r : CharSeq} → IsUnary (nd .code) → {a : Node} → a ≡ nodeAt k (nd .left) → Evaluated n words from k a x
       → UnaryBy (nd .code) x r → Evaluated n words from k nd r
@@ -99,7 +99,7 @@ module _ (n : ℕ) (words : List ℕ) (from : ℕ) (k : List Node) (nd : Node) w
   word-of-binary {x} {y} {r} u q ev z ew (by-binary op′ e p) (binary op l t) s =
       let a = ev l (subst (λ (c : Node). Spells codes k c l) (sym q) (s .3)) in
       let b = ew t (subst (λ (c : Node). Spells codes k c t) (sym z) (s .5)) in
-      let right : Wf (x .length) (y .values) = subst (λ (i : ℕ). Wf i (y .values)) (sym (a .length)) (b .means .wf) in
+      let right : WfComputed (x .length) (y .values) = subst (λ (i : ℕ). WfComputed i (y .values)) (sym (a .length)) (b .means .wf) in
       let d : Denotes n (binaryReading op′ n (At (x .values)) (At (y .values))) r =
       subst (λ (i : ℕ). Denotes i (binaryReading op′ i (At (x .values)) (At (y .values))) r) (a .length) (binary-reads op′ x y r (child x a) right p) in
       let τ = traceAt n words from in

@@ -4,5 +4,6 @@ pub mod Faults
 pub mod Tests
 pub mod Spelled
 pub mod Evaluation
+pub mod Empty
 pub mod Checking
 pub mod Unique

@@ -50,9 +50,9 @@ Holds τ (leaf c) = LeafHolds τ c
 Holds τ (unary op t) = unaryReading op (τ .length) (Holds τ t)
 Holds τ (binary op l r) = binaryReading op (τ .length) (Holds τ l) (Holds τ r)
 
--- "A session accepts a formula if n > 0 and the formula holds at 0."
+-- "A session accepts a formula if .. the formula holds at 0.": an empty session too (document 02, E4)
 abbrev pub Accepts : Trace → Formula → Type 0
-Accepts τ t = AcceptsAt (τ .length) (Holds τ t)
+Accepts τ t = AcceptsAt (Holds τ t)
 
 -- a recorded session and its mark, 1 for good and 0 for bad
 pub record MarkedTrace : Type 1 where

@@ -7,4 +7,5 @@ pub mod Kinds
 pub mod Rule
 pub mod Check
 pub mod Promises
+pub mod Empty
 pub mod Inner

@@ -13,7 +13,7 @@ ghost use Rattle.formula.specs.Kinds.{nodeOf, nodes};
 ghost use Rattle.formula.specs.Rule.{IsUnary, IsBinary};
 ghost use Rattle.formula.specs.Inner.{Ready, Evaluated};
 
-// A leaf's sequence: a proposition's as it was recorded, none for false, and all snapshots for true.
+// A leaf's sequence: a proposition's as it was recorded, no place for false, and every place for true.
 fn leaf(
     length: usize,
     words: &[u64],
@@ -41,7 +41,7 @@ fn leaf(
     }
     CharSeq {
         length,
-        values: CharSeq::mask(length),
+        values: words::places(CharSeq::mask(length)),
     }
 }
 

@@ -6,6 +6,7 @@ use mathlib.Core.List.{List, []}
 use Prim.Native.Nat.{ℕ, _+_, _*_, _≤_, _<_, min}
 use native.Mathlib.Omega.{arith}
 use lib.ListN.{length, getD}
+use Rattle.words.specs.Masked.{Placed}
 use Rattle.words.specs.Word.{width, At, Means}
 use Rattle.sequence.specs.Operators.{Unary, Binary, unaryCode, binaryCode}
 use Rattle.sequence.specs.Masked.{unaryMasked, binaryMasked}
@@ -20,11 +21,11 @@ use Rattle.rows.proofs.Filling.{filled-as}
 use Rattle.rows.proofs.Parts.{part-at}
 use Rattle.rows.proofs.Groups.{unary-or-binary, unary-or-leaf, binary-or-leaf, unary-same, binary-same}
 
--- a leaf's word of session j
-abbrev pub leafWord : ℕ → List ℕ → List ℕ → ℕ → ℕ → Leaf → ℕ
-leafWord m masks words left j (Leaf.proposition p) = getD words (j * m + left) 0
-leafWord m masks words left j (Leaf.constant false) = 0
-leafWord m masks words left j (Leaf.constant true) = getD masks j 0
+-- w is a leaf's word of session j
+abbrev pub LeafWord : ℕ → List ℕ → List ℕ → ℕ → ℕ → Leaf → ℕ → Type 0
+LeafWord m masks words left j (Leaf.proposition p) w = w ≡ getD words (j * m + left) 0
+LeafWord m masks words left j (Leaf.constant false) w = w ≡ 0
+LeafWord m masks words left j (Leaf.constant true) w = Means width w (Placed (At (getD masks j 0)))
 
 module _ {r m : ℕ} {masks words matrices : List ℕ} {code left right : ℕ} where
   -- ---- what is read
@@ -78,7 +79,7 @@ module _ {r m : ℕ} {masks words matrices : List ℕ} {code left right : ℕ} w
     binary-is op e (RowIs.none f p) = absurd (binary-or-leaf op (Leaf.constant false) (e ∙ sym f))
     binary-is op e (RowIs.all f p) = absurd (binary-or-leaf op (Leaf.constant true) (e ∙ sym f))
 
-    pub leaf-is : (c : Leaf) → leafCode c ≡ code → RowIs r m masks words matrices code left right j w → w ≡ leafWord m masks words left j c
+    pub leaf-is : (c : Leaf) → leafCode c ≡ code → RowIs r m masks words matrices code left right j w → LeafWord m masks words left j c w
     leaf-is c e (RowIs.unary o f p) = absurd (unary-or-leaf o c (f ∙ sym e))
     leaf-is c e (RowIs.binary o f p) = absurd (binary-or-leaf o c (f ∙ sym e))
     leaf-is (Leaf.proposition q) e (RowIs.proposition f p) = p
@@ -103,7 +104,7 @@ module _ {r m : ℕ} {masks words matrices : List ℕ} {code left right : ℕ} w
     pub false-told : code ≡ 17 → Filled r old (λ j w. w ≡ 0) new → Told (Reads r m masks words matrices code left right) (Filled r old (RowIs r m masks words matrices code left right) new) (new ≡ old) true
     false-told e f = (Reads.constant false (sym e), filled-as (λ j w l h. RowIs.none (sym e) h) f)
 
-    pub true-told : code ≡ 18 → Filled r old (λ j w. w ≡ getD masks j 0) new → Told (Reads r m masks words matrices code left right) (Filled r old (RowIs r m masks words matrices code left right) new) (new ≡ old) true
+    pub true-told : code ≡ 18 → Filled r old (λ j w. Means width w (Placed (At (getD masks j 0)))) new → Told (Reads r m masks words matrices code left right) (Filled r old (RowIs r m masks words matrices code left right) new) (new ≡ old) true
     true-told e f = (Reads.constant true (sym e), filled-as (λ j w l h. RowIs.all (sym e) h) f)
 
 -- ---- from the groups to the candidate

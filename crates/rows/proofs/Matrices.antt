@@ -7,9 +7,11 @@ use Prim.Native.Nat.{ℕ, zero, suc, _+_, _*_, _≤_, _<_}
 use native.Mathlib.Omega.{arith}
 use lib.ListN.{length, getD, take}
 use lib.Seq.{ext-getD, length-take-le, getD-take}
-use Rattle.words.specs.Word.{width, At, Wf, Means}
+use Rattle.words.specs.Masked.{Placed}
+use Rattle.words.specs.Word.{width, At, WfComputed, Means}
 use Rattle.words.proofs.Bits.{bit-zero}
-use Rattle.words.proofs.At.{means-unique, means, at-below}
+use Rattle.words.proofs.At.{means-unique, means, recorded-computed}
+use Rattle.words.proofs.Lengths.{Mask, places-cut}
 use Rattle.sequence.specs.Operators.{Unary, Binary, unaryCode, binaryCode}
 use Rattle.sequence.proofs.Masked.{unary-cut, binary-cut}
 use Rattle.formula.specs.Formula.{Leaf, proposition, constant}
@@ -57,16 +59,16 @@ masks-made i ok old new false h a = absurd (a .0 (record { sessions-in = ok .ses
 false-row : (n : ℕ) → n ≤ width → 0 ≡ constantRow false n
 false-row n h = means-unique (means h (λ i a. absurd (omega (arith, bit-zero i))) (λ i l q. absurd (true≢false (sym q)))) (constant-row-means false h)
 
-true-row : (n m : ℕ) → n ≤ width → Means width m (λ i. i < n) → m ≡ constantRow true n
-true-row n m h k = means-unique (means h (λ i a. (k .holds i (at-below (k .wf) i a) .0 a, refl)) (λ i l q. k .holds i (omega arith) .1 l)) (constant-row-means true h)
+true-row : (n m w : ℕ) → n ≤ width → Mask n m → Means width w (Placed (At m)) → w ≡ constantRow true n
+true-row n m w h k p = means-unique (places-cut h k p (λ i. refl)) (constant-row-means true h)
 
 module _ {i : Input} (ok : Passes i) {k : Table} {masks matrices : List ℕ} (ms : Masks i masks) (st : Stored i k matrices) where
   abbrev r : ℕ
   r = i .recording .sessions
 
   -- a child's word is well formed
-  child : (p j : ℕ) → p < length k → j < r → Wf (lengthOf (i .recording) j) (getD matrices (p * r + j) 0)
-  child p j h l = subst (Wf (lengthOf (i .recording) j)) (sym (st .words p j h l)) (st .fine p h .formed j l)
+  child : (p j : ℕ) → p < length k → j < r → WfComputed (lengthOf (i .recording) j) (getD matrices (p * r + j) 0)
+  child p j h l = subst (WfComputed (lengthOf (i .recording) j)) (sym (st .words p j h l)) (st .fine p h .formed j l)
 
   abbrev Is : ℕ → ℕ → ℕ → ℕ → ℕ → Type 0
   Is code left right j w = RowIs r (i .recording .propositions) masks (i .recording .words) matrices code left right j w
@@ -85,7 +87,7 @@ module _ {i : Input} (ok : Passes i) {k : Table} {masks matrices : List ℕ} (ms
     leaf-word : (c : Leaf) → leafCode c ≡ code → leafNumber c ≡ left → Is code left right j w → w ≡ leafRow i c j
     leaf-word (proposition q) e n x = leaf-is (proposition q) e x ∙ ap (wordOf (i .recording) j) (sym n)
     leaf-word (constant false) e n x = leaf-is (constant false) e x ∙ false-row (lengthOf (i .recording) j) (ok .short j l)
-    leaf-word (constant true) e n x = leaf-is (constant true) e x ∙ true-row (lengthOf (i .recording) j) _ (ok .short j l) (ms .are j l)
+    leaf-word (constant true) e n x = true-row (lengthOf (i .recording) j) _ _ (ok .short j l) (ms .are j l) (leaf-is (constant true) e x)
 
   -- ---- the matrix
 
@@ -113,14 +115,14 @@ rows-made i ok k masks matrices old new ms st o code left right c false a = absu
 
 -- ---- it has a well-formed word for each session
 
-fine-rows : (i : Input) (f : ℕ → ℕ) → ((j : ℕ) → j < i .recording .sessions → Wf (lengthOf (i .recording) j) (f j)) → Fine i (rows (i .recording .sessions) f)
+fine-rows : (i : Input) (f : ℕ → ℕ) → ((j : ℕ) → j < i .recording .sessions → WfComputed (lengthOf (i .recording) j) (f j)) → Fine i (rows (i .recording .sessions) f)
 fine-rows i f h = record {
   long = length-rows (i .recording .sessions) f;
-  formed = λ j l. subst (Wf (lengthOf (i .recording) j)) (sym (row-rows (i .recording .sessions) f j l)) (h j l);
+  formed = λ j l. subst (WfComputed (lengthOf (i .recording) j)) (sym (row-rows (i .recording .sessions) f j l)) (h j l);
 }
 
 pub made-fine : MadeFine
-made-fine i ok k m kept code left right (Makes.leaf (proposition p) e n z h) le = fine-rows i _ (λ j l. ok .well-formed j p l (omega arith))
+made-fine i ok k m kept code left right (Makes.leaf (proposition p) e n z h) le = fine-rows i _ (λ j l. recorded-computed (ok .well-formed j p l (omega arith)))
 made-fine i ok k m kept code left right (Makes.leaf (constant b) e n z h) le = fine-rows i _ (λ j l. constant-row-means b (ok .short j l) .wf)
 made-fine i ok k m kept code left right (Makes.unary op e h z) le = fine-rows i _ (λ j l. unary-row-means op (row (matrixAt k left) j) (ok .short j l) .wf)
 made-fine i ok k m kept code left right (Makes.binary op e h h′) le =

@@ -38,7 +38,7 @@ row-unique (RowIs.unary o e p) q = means-unique p (unary-is o e q)
 row-unique (RowIs.binary o e p) q = means-unique p (binary-is o e q)
 row-unique {left = left} (RowIs.proposition e p) q = p ∙ sym (leaf-is (proposition left) e q)
 row-unique (RowIs.none e p) q = p ∙ sym (leaf-is (constant false) e q)
-row-unique (RowIs.all e p) q = p ∙ sym (leaf-is (constant true) e q)
+row-unique (RowIs.all e p) q = means-unique p (leaf-is (constant true) e q)
 
 pub rows-unique : (r m : ℕ) (masks words matrices : List ℕ) (code left right : ℕ) (old new new′ : List ℕ) (b b′ : Bool)
     → RowsAnswer r m masks words matrices code left right old new b → RowsAnswer r m masks words matrices code left right old new′ b′ → (b ≡ b′) × (new ≡ new′)

@@ -4,7 +4,7 @@ use mathlib.Core.Path.{_≡_}
 use mathlib.Core.List.{List, []}
 use Prim.Native.Nat.{ℕ, _+_, _*_, _≤_, _<_}
 use lib.ListN.{length, getD}
-use Rattle.words.specs.Word.{Wf}
+use Rattle.words.specs.Word.{WfComputed}
 use Rattle.sequence.specs.Operators.{Unary, Binary, unaryCode, binaryCode}
 use Rattle.formula.specs.Formula.{Leaf, proposition, constant}
 use Rattle.formula.specs.Nodes.{leafCode, leafNumber}
@@ -42,7 +42,7 @@ made i k {left = left} {right = right} (Makes.binary op e l q) = offer i .binary
 -- a matrix with a well-formed word for each session
 pub record Fine (i : Input) (x : List ℕ) : Type 0 where
   pub long : length x ≡ i .recording .sessions
-  pub formed : (j : ℕ) → j < i .recording .sessions → Wf (lengthOf (i .recording) j) (row x j)
+  pub formed : (j : ℕ) → j < i .recording .sessions → WfComputed (lengthOf (i .recording) j) (row x j)
 
 -- "The matrices lie in a lent slice of words, r per place": those of the table k are there
 pub record Stored (i : Input) (k : Table) (matrices : List ℕ) : Type 0 where

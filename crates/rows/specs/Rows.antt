@@ -5,6 +5,7 @@ use mathlib.Core.Bool.{Bool, true, false}
 use mathlib.Core.List.{List}
 use Prim.Native.Nat.{ℕ, _+_, _*_, _≤_, _<_}
 use lib.ListN.{length, getD}
+use Rattle.words.specs.Masked.{Placed}
 use Rattle.words.specs.Word.{width, At, Means}
 use Rattle.sequence.specs.Operators.{Unary, Binary, unaryCode, binaryCode}
 use Rattle.sequence.specs.Masked.{unaryMasked, binaryMasked}
@@ -49,15 +50,15 @@ module _ (r m : ℕ) (masks words matrices : List ℕ) (code left right : ℕ) w
     proposition : leafCode (Leaf.proposition left) ≡ code → m ≤ mostPropositions → left < m → m * r ≤ length words → Reads
     constant : (b : Bool) → leafCode (Leaf.constant b) ≡ code → Reads
 
-  -- its word of session j: the operator's at the places of the session's mask, over the children's words; the proposition's as it was recorded;
-  -- none for false, and every snapshot for true
+  -- its word of session j: the operator's over the session's mask and the children's words; the proposition's as it was recorded; no place for
+  -- false, and every place for true
   pub data RowIs (j w : ℕ) : Type 0 where
     unary : (op : Unary) → unaryCode op ≡ code → Means width w (unaryMasked op (At (getD masks j 0)) (At (getD matrices (left * r + j) 0))) → RowIs j w
     binary : (op : Binary) → binaryCode op ≡ code
         → Means width w (binaryMasked op (At (getD masks j 0)) (At (getD matrices (left * r + j) 0)) (At (getD matrices (right * r + j) 0))) → RowIs j w
     proposition : leafCode (Leaf.proposition left) ≡ code → w ≡ getD words (j * m + left) 0 → RowIs j w
     none : leafCode (Leaf.constant false) ≡ code → w ≡ 0 → RowIs j w
-    all : leafCode (Leaf.constant true) ≡ code → w ≡ getD masks j 0 → RowIs j w
+    all : leafCode (Leaf.constant true) ≡ code → Means width w (Placed (At (getD masks j 0))) → RowIs j w
 
   pub record RowsAsk (rows : List ℕ) : Type 0 where
     pub sessions-in : r ≤ mostSessions

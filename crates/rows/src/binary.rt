@@ -28,13 +28,13 @@ fn and_rows(r: usize, x: &[u64], y: &[u64], rows: &mut [u64])
     }
 }
 
-fn until_rows(r: usize, x: &[u64], y: &[u64], rows: &mut [u64])
-    requires { ⌜ Long r (now x) × Long r (now y) × Long r (now rows) ⌝ }
-    ensures { λ u. ⌜ Filled r (now (rows .entry)) (BinaryAt Binary.until [] (now (x .entry)) (now (y .entry))) (now (rows .exit)) ⌝ }
+fn until_rows(r: usize, masks: &[u64], x: &[u64], y: &[u64], rows: &mut [u64])
+    requires { ⌜ Long r (now x) × Long r (now y) × Long r (now masks) × Long r (now rows) ⌝ }
+    ensures { λ u. ⌜ Filled r (now (rows .entry)) (BinaryAt Binary.until (now (masks .entry)) (now (x .entry)) (now (y .entry))) (now (rows .exit)) ⌝ }
 {
     let mut j: usize = 0;
     while j < r {
-        rows[j] = words::until(x[j], y[j]);
+        rows[j] = words::until(x[j], y[j], masks[j]);
         j += 1;
     }
 }
@@ -80,7 +80,7 @@ fn by_code(r: usize, masks: &[u64], x: &[u64], y: &[u64], code: u8, rows: &mut [
     match code {
         5 => or_rows(r, x, y, rows),
         6 => and_rows(r, x, y, rows),
-        7 => until_rows(r, x, y, rows),
+        7 => until_rows(r, masks, x, y, rows),
         8 => release_rows(r, masks, x, y, rows),
         9 => implies_rows(r, masks, x, y, rows),
         10 => equiv_rows(r, masks, x, y, rows),

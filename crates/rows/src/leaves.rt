@@ -7,6 +7,8 @@ use rules::kinds::Proposition;
 ghost use mathlib.Core.Path.{_≡_};
 ghost use Prim.Native.Nat.{_+_, _*_, _≤_, _<_};
 ghost use lib.ListN.{length, getD};
+ghost use Rattle.words.specs.Masked.{Placed};
+ghost use Rattle.words.specs.Word.{width, At, Means};
 ghost use Rattle.rules.specs.Limits.{mostPropositions};
 ghost use Rattle.formula.specs.Rule.{IsUnary, IsBinary};
 ghost use Rattle.rows.specs.Rows.{Filled};
@@ -39,11 +41,11 @@ fn false_rows(r: usize, rows: &mut [u64])
 
 fn true_rows(r: usize, masks: &[u64], rows: &mut [u64])
     requires { ⌜ Long r (now masks) × Long r (now rows) ⌝ }
-    ensures { λ u. ⌜ Filled r (now (rows .entry)) (λ j w. w ≡ getD (now (masks .entry)) j 0) (now (rows .exit)) ⌝ }
+    ensures { λ u. ⌜ Filled r (now (rows .entry)) (λ j w. Means width w (Placed (At (getD (now (masks .entry)) j 0)))) (now (rows .exit)) ⌝ }
 {
     let mut j: usize = 0;
     while j < r {
-        rows[j] = masks[j];
+        rows[j] = words::places(masks[j]);
         j += 1;
     }
 }

@@ -39,13 +39,13 @@ fn strong_next_rows(r: usize, x: &[u64], rows: &mut [u64])
     }
 }
 
-fn finally_rows(r: usize, x: &[u64], rows: &mut [u64])
-    requires { ⌜ Long r (now x) × Long r (now rows) ⌝ }
-    ensures { λ u. ⌜ Filled r (now (rows .entry)) (UnaryAt Unary.finally [] (now (x .entry))) (now (rows .exit)) ⌝ }
+fn finally_rows(r: usize, masks: &[u64], x: &[u64], rows: &mut [u64])
+    requires { ⌜ Long r (now x) × Long r (now masks) × Long r (now rows) ⌝ }
+    ensures { λ u. ⌜ Filled r (now (rows .entry)) (UnaryAt Unary.finally (now (masks .entry)) (now (x .entry))) (now (rows .exit)) ⌝ }
 {
     let mut j: usize = 0;
     while j < r {
-        rows[j] = words::finally(x[j]);
+        rows[j] = words::finally(x[j], masks[j]);
         j += 1;
     }
 }
@@ -70,7 +70,7 @@ fn by_code(r: usize, masks: &[u64], x: &[u64], code: u8, rows: &mut [u64])
         0 => not_rows(r, masks, x, rows),
         1 => weak_next_rows(r, masks, x, rows),
         2 => strong_next_rows(r, x, rows),
-        3 => finally_rows(r, x, rows),
+        3 => finally_rows(r, masks, x, rows),
         4 => globally_rows(r, masks, x, rows),
         _ => {}
     }

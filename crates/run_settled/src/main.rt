@@ -86,10 +86,10 @@ fn settled() {
     binary_example(b"P10", 7, 64, 0x7fff_ffff_ffff_ffff, 0x8000_0000_0000_0000);
 }
 
-// How many words of that length there are, up to 4.
+// How many words of that length there are, up to 4. A formula's word has the first place at length 0 too.
 fn words_of(length: usize) -> u64 {
     match length {
-        0 => 1,
+        0 => 2,
         1 => 2,
         2 => 4,
         3 => 8,

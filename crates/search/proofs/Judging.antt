@@ -130,11 +130,11 @@ module _ {i : Input} (ok : Passes i) {t₀ t : Cols} {k : Table} (h : Holds i k 
   fine : Fine i (x .matrix)
   fine = subst (Fine i) (p .matrix-is) (made-fine i ok k (i .recording .propositions) (length k) (node .code) (node .left .0) (node .right .0) (p .makes) (omega arith))
 
-  separates : (v : Bool) → v ≡ agreeing (i .recording .sessions) (i .recording .marks) (i .recording .lengths) rows → separating i (x .matrix) ≡ v
+  separates : (v : Bool) → v ≡ agreeing (i .recording .sessions) (i .recording .marks) rows → separating i (x .matrix) ≡ v
   separates v e = ap (separating i) (sym rows-are) ∙ sym (agrees-separating i ok rows rows-long) ∙ sym e
 
   module _ (n kept : ℕ) (counted : kept ≡ length k) where
-    pub stands-found : true ≡ agreeing (i .recording .sessions) (i .recording .marks) (i .recording .lengths) rows
+    pub stands-found : true ≡ agreeing (i .recording .sessions) (i .recording .marks) rows
         → Stood i t₀ (consider (offer i) (i .room) (going k n) x) t (Found node (record { tried = n + 1; kept = kept }))
     stands-found e = record {
       table = k;
@@ -143,7 +143,7 @@ module _ {i : Input} (ok : Passes i) {t₀ t : Cols} {k : Table} (h : Holds i k 
       holds = h;
     }
 
-    module _ (e : false ≡ agreeing (i .recording .sessions) (i .recording .marks) (i .recording .lengths) rows) (few : kept ≤ i .room) where
+    module _ (e : false ≡ agreeing (i .recording .sessions) (i .recording .marks) rows) (few : kept ≤ i .room) where
       knows : (a : Known) → KnownAnswer (i .recording .sessions) (t .matrices) rows kept a → walk.known (offer i) (x .matrix) k ≡ isAt a
       knows a v =
           ap (λ (y : List ℕ). walk.known (offer i) y k) (sym rows-are)

@@ -95,7 +95,7 @@ fn judge(
         node.right,
         rows,
     );
-    if table::agrees(r, marks, lengths, rows) {
+    if table::agrees(r, marks, rows) {
         return Stand::Found {
             root: node,
             counts: Counts { tried, kept },

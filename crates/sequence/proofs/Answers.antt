@@ -7,14 +7,14 @@ use Prim.Native.Nat.{ℕ, _≤_, _<_}
 use native.Mathlib.Decide.{ℕ-discrete}
 use native.Mathlib.Omega.{arith}
 use lib.Dec.{lit<}
-use Rattle.words.specs.Word.{width, Wf}
+use Rattle.words.specs.Word.{width, WfRecorded, places}
 use Rattle.words.proofs.At.{not-at}
 use Rattle.sequence.specs.declared.CharSeq.{CharSeq}
 use Rattle.sequence.specs.declared.Answer.{Answer}
 use Rattle.sequence.specs.declared.Answer.the-variants.{Sequence, Refused}
 use Rattle.sequence.specs.Operators.{Unary, Binary, unaryCode, binaryCode}
 use Rattle.rules.specs.Refusals.{Row, Decided, firstOf}
-use Rattle.sequence.specs.Sequence.{seq, WellFormed, notUnary, notBinary, unequal, illFormed, NewAnswer, unaryRows, binaryRows}
+use Rattle.sequence.specs.Sequence.{seq, WellFormed, notUnary, notBinary, unequal, illFormed, illRecorded, NewAnswer, RecordedAnswer, unaryRows, binaryRows}
 use Rattle.rules.proofs.Refusals.{Numbered, decided-unique, decided-both, decided-none, decided-not}
 
 -- ---- the rows, part by part
@@ -39,7 +39,7 @@ passed s more n d =
     let b = decided-none _ _ (lit< tt, n) (a .1) in
     (record { short = short (a .0); clear = λ i h. not-at (s .values) i (λ p. b .0 (i, h, p)) }, b .1)
   where
-    short : (width < s .length → ⊥) → s .length ≤ width
+    short : (width < s .length → ⊥) → places (s .length) ≤ width
     short h = omega arith
 
 pub unary-passed : (code : ℕ) (s : CharSeq) → Decided (unaryRows code s) 0 → (((op : Unary) → unaryCode op ≡ code → ⊥) → ⊥) × WellFormed s
@@ -72,13 +72,22 @@ pub binary-passes : (op : Binary) (s t : CharSeq) → WellFormed s → WellForme
 unfolding Decided
 binary-passes op s t w u e = inr (λ h. h op refl, passes s (illFormed t ++ (unequal s t ∷ [])) w (passes t (unequal s t ∷ []) u (decided-not (unequal s t) (λ n. n e))))
 
--- ---- the constructor: its answer tells whether the word is well formed at the length
+-- ---- the constructor of what was recorded: its answer tells whether the word is well formed at the length
 
-pub new-passed : {n x : ℕ} {a : Answer} {s : CharSeq} → NewAnswer n x a → a ≡ Sequence s → Wf n x
-new-passed {n} {x} {a} {s} p e = passed (seq n x) [] tt (subst (λ (b : Answer). NewAnswer n x b) e p .0) .0
+pub recorded-passed : {n x : ℕ} {a : Answer} {s : CharSeq} → RecordedAnswer n x a → a ≡ Sequence s → WfRecorded n x
+recorded-passed {n} {x} {a} {s} p e =
+    let f = decided-none _ _ (lit< tt, (lit< tt, tt)) (subst (λ (b : Answer). RecordedAnswer n x b) e p .0) in
+    let g = decided-none _ _ (lit< tt, tt) (f .1) in
+    record { short = short (f .0); clear = λ i h. not-at x i (λ q. g .0 (i, h, q)) }
+  where
+    short : (width < n → ⊥) → n ≤ width
+    short h = omega arith
 
-pub new-refused : {n x k : ℕ} {a : Answer} → NewAnswer n x a → a ≡ Refused k → Wf n x → ⊥
+pub recorded-passes : {n x : ℕ} → WfRecorded n x → Decided (illRecorded (seq n x)) 0
 unfolding Decided
-new-refused {n} {x} {k} {a} p e w =
-    let q = subst (λ (b : Answer). NewAnswer n x b) e p in
-    omega (arith, q .1, decided-unique (illFormed (seq n x)) k 0 (q .0) (passes (seq n x) [] w refl))
+recorded-passes w = inr (λ h. omega (arith, w .short), inr (λ t. omega (arith, w .clear (t .0) (t .1)), refl))
+
+pub recorded-refused : {n x k : ℕ} {a : Answer} → RecordedAnswer n x a → a ≡ Refused k → WfRecorded n x → ⊥
+recorded-refused {n} {x} {k} {a} p e w =
+    let q = subst (λ (b : Answer). RecordedAnswer n x b) e p in
+    omega (arith, q .1, decided-unique (illRecorded (seq n x)) k 0 (q .0) (recorded-passes w))

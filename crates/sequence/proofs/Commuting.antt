@@ -7,7 +7,7 @@ use Prim.Native.Nat.{ℕ}
 use native.Mathlib.Omega.{arith}
 use lib.Dec.{lit<, lit≤}
 use Rattle.words.specs.Ltlf.{Reading}
-use Rattle.words.specs.Word.{Wf, Means}
+use Rattle.words.specs.Word.{WfComputed, Means}
 use Rattle.words.proofs.At.{lt-wf, means-unique}
 use Rattle.sequence.specs.declared.operators.Operator.{Operator}
 use Rattle.sequence.specs.Operators.{Binary, or, and, until, release, implies, equiv, commutes}
@@ -22,7 +22,7 @@ turned : {n a b : ℕ} {f g : Reading} → ((i : ℕ) → g i ↔ f i) → Means
 turned e p q = means-unique p (record { wf = q .wf; holds = λ i h. (λ t. e i .0 (q .holds i h .0 t), λ t. q .holds i h .1 (e i .1 t)) })
 
 -- two words of length 2 whose orders compute to different words
-differ : (op : Binary) (x y : ℕ) → Wf 2 x → Wf 2 y → (binaryAt op 2 x y ≡ binaryAt op 2 y x → ⊥) → Differs op
+differ : (op : Binary) (x y : ℕ) → WfComputed 2 x → WfComputed 2 y → (binaryAt op 2 x y ≡ binaryAt op 2 y x → ⊥) → Differs op
 differ op x y w u d = record {
   n = 2;
   x = x;

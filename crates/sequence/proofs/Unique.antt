@@ -19,7 +19,7 @@ use Rattle.sequence.specs.Masked.{UnaryOn, BinaryOn, UnaryBy, BinaryBy}
 use Rattle.sequence.specs.Masked.UnaryBy.{operator as uop, nothing as unothing}
 use Rattle.sequence.specs.Masked.BinaryBy.{operator as bop, nothing as bnothing}
 use Rattle.sequence.specs.Table.{Listed, unary, binary, neither, unaryRow, binaryRow}
-use Rattle.sequence.specs.Sequence.{seq, Denotes, Answers, NewAnswer, UnaryRead, UnaryAnswer, BinaryRead, BinaryAnswer}
+use Rattle.sequence.specs.Sequence.{seq, Denotes, Answers, NewAnswer, RecordedAnswer, UnaryRead, UnaryAnswer, BinaryRead, BinaryAnswer}
 use Rattle.rules.specs.Refusals.{Row}
 use Rattle.rules.proofs.Refusals.{decided-unique}
 use Rattle.sequence.proofs.Groups.{unary-below, binary-between}
@@ -89,6 +89,9 @@ answers-unique rows asked one (Refused k) (Refused l) p q = ap Refused (decided-
 
 pub new-unique : (n x : ℕ) (a b : Answer) → NewAnswer n x a → NewAnswer n x b → a ≡ b
 new-unique n x a b p q = answers-unique _ _ (λ s t u v. same-seq s t (u .0 ∙ sym (v .0)) (u .1 ∙ sym (v .1))) a b p q
+
+pub recorded-unique : (n x : ℕ) (a b : Answer) → RecordedAnswer n x a → RecordedAnswer n x b → a ≡ b
+recorded-unique n x a b p q = answers-unique _ _ (λ s t u v. same-seq s t (u .0 ∙ sym (v .0)) (u .1 ∙ sym (v .1))) a b p q
 
 pub unary-unique : (code : ℕ) (s : CharSeq) (a b : Answer) → UnaryAnswer code s a → UnaryAnswer code s b → a ≡ b
 unary-unique code s a b p q = answers-unique _ _ one a b p q

@@ -3,7 +3,7 @@
 use mathlib.Core.Path.{_≡_}
 use mathlib.Core.Bool.{Bool, true, false}
 use Prim.Native.Nat.{ℕ}
-use Rattle.words.specs.Word.{At, Wf, Means}
+use Rattle.words.specs.Word.{At, WfComputed, Means}
 use Rattle.sequence.specs.declared.operators.Operator.{Operator}
 use Rattle.sequence.specs.Operators.{Binary, binaryCode, binaryReading}
 use Rattle.sequence.specs.Table.{Listed}
@@ -11,7 +11,7 @@ use Rattle.sequence.specs.Table.{Listed}
 -- a marked operator: on all sequences of equal length both orders give one word
 abbrev pub Commutes : Binary → Type 0
 Commutes op =
-    (n x y a b : ℕ) → Wf n x → Wf n y → Means n a (binaryReading op n (At x) (At y)) → Means n b (binaryReading op n (At y) (At x)) → a ≡ b
+    (n x y a b : ℕ) → WfComputed n x → WfComputed n y → Means n a (binaryReading op n (At x) (At y)) → Means n b (binaryReading op n (At y) (At x)) → a ≡ b
 
 -- an unmarked one: two sequences of equal length whose orders give different words
 pub record Differs (op : Binary) : Type 0 where
@@ -20,8 +20,8 @@ pub record Differs (op : Binary) : Type 0 where
   pub y : ℕ
   pub a : ℕ
   pub b : ℕ
-  pub left : Wf n x
-  pub right : Wf n y
+  pub left : WfComputed n x
+  pub right : WfComputed n y
   pub one : Means n a (binaryReading op n (At x) (At y))
   pub other : Means n b (binaryReading op n (At y) (At x))
   pub apart : a ≡ b → ⊥

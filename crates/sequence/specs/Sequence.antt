@@ -4,7 +4,7 @@ use mathlib.Core.Path.{_≡_}
 use mathlib.Core.List.{List, [], _∷_, _++_}
 use Prim.Native.Nat.{ℕ, _<_, _≤_}
 use Rattle.words.specs.Ltlf.{Reading, AcceptsAt}
-use Rattle.words.specs.Word.{width, At, WfComputed, Means}
+use Rattle.words.specs.Word.{width, At, WfComputed, places, Means}
 use Rattle.sequence.specs.declared.CharSeq.{CharSeq}
 use Rattle.sequence.specs.declared.Answer.{Answer}
 use Rattle.sequence.specs.declared.Answer.the-variants.{Sequence, Refused}
@@ -15,13 +15,13 @@ use Rattle.rules.specs.Refusals.{Row, Decided}
 abbrev pub seq : ℕ → ℕ → CharSeq
 seq n x = record { length = n; values = x }
 
--- "It is well formed if n is at most 64 and no bit at or above n is set"
+-- "It is well formed if n is at most 64 and no bit at or above n is set", but for bit 0, which every formula's word has (document 02, E4)
 abbrev pub WellFormed : CharSeq → Type 0
 WellFormed s = WfComputed (s .length) (s .values)
 
--- "A session accepts a formula if n > 0 and the formula holds at 0."
+-- "A session accepts a formula if .. the formula holds at 0."
 abbrev pub Accepts : CharSeq → Type 0
-Accepts s = AcceptsAt (s .length) (At (s .values))
+Accepts s = AcceptsAt (At (s .values))
 
 -- r is the characteristic sequence of f at length n
 pub record Denotes (n : ℕ) (f : Reading) (r : CharSeq) : Type 0 where
@@ -34,9 +34,9 @@ pub record Denotes (n : ℕ) (f : Reading) (r : CharSeq) : Type 0 where
 abbrev pub tooLong : CharSeq → Row
 tooLong s = record { number = 4; given = width < s .length }
 
--- 5: "a bit set at or above the length"
-abbrev pub bitAbove : CharSeq → Row
-bitAbove s = record { number = 5; given = (i : ℕ) × (s .length ≤ i) × At (s .values) i }
+-- 5: "a bit set at or above the length", n of them being allowed
+abbrev pub bitFrom : ℕ → CharSeq → Row
+bitFrom n s = record { number = 5; given = (i : ℕ) × (n ≤ i) × At (s .values) i }
 
 -- 7: "code not in its group (unary 0-4, binary 5-10), or repeated"; at "operators (group only)"
 abbrev pub notUnary : ℕ → Row
@@ -49,9 +49,13 @@ notBinary code = record { number = 7; given = ((op : Binary) → binaryCode op �
 abbrev pub unequal : CharSeq → CharSeq → Row
 unequal s t = record { number = 10; given = (s .length ≡ t .length → ⊥) }
 
--- the constructor: 4, then 5
+-- the constructor: 4, then 5; "refusal 5 at operators allows that bit", bit 0 at length 0
 abbrev pub illFormed : CharSeq → List Row
-illFormed s = tooLong s ∷ bitAbove s ∷ []
+illFormed s = tooLong s ∷ bitFrom (places (s .length)) s ∷ []
+
+-- of what was recorded: "a proposition's word must still be 0" there
+abbrev pub illRecorded : CharSeq → List Row
+illRecorded s = tooLong s ∷ bitFrom (s .length) s ∷ []
 
 -- "at operators 7 first, then 4, 5 of the left, 4, 5 of the right, 10"
 abbrev pub unaryRows : ℕ → CharSeq → List Row
@@ -77,8 +81,14 @@ abbrev pub Answers : List Row → (CharSeq → Type 0) → Answer → Type 0
 Answers rows asked a = Decided rows (numberOf a) × Carries asked a
 
 -- the sequence of that length and word
+abbrev pub IsSeq : ℕ → ℕ → CharSeq → Type 0
+IsSeq n x r = (r .length ≡ n) × (r .values ≡ x)
+
 abbrev pub NewAnswer : ℕ → ℕ → Answer → Type 0
-NewAnswer n x a = Answers (illFormed (seq n x)) (λ r. (r .length ≡ n) × (r .values ≡ x)) a
+NewAnswer n x a = Answers (illFormed (seq n x)) (IsSeq n x) a
+
+abbrev pub RecordedAnswer : ℕ → ℕ → Answer → Type 0
+RecordedAnswer n x a = Answers (illRecorded (seq n x)) (IsSeq n x) a
 
 -- the operator with that code, read on the sequence
 abbrev pub UnaryRead : ℕ → CharSeq → CharSeq → Type 0

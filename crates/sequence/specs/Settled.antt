@@ -26,7 +26,7 @@ settled =
     one not 4 6 9 ∷ one strongNext 4 6 3 ∷ one weakNext 4 6 11 ∷ one finally 4 6 7 ∷ one globally 4 6 0
     -- P4: 3`U`4 = 7. P5: 4`R`7 = 7, 0`R`7 = 0. P6: 6`->`3 = 11, 6`<->`3 = 10.
     ∷ two until 4 3 4 7 ∷ two release 4 4 7 7 ∷ two release 4 0 7 0 ∷ two implies 4 6 3 11 ∷ two equiv 4 6 3 10
-    -- P7, length 1: `X`0 = 1, `X[!]`1 = 0. P8, length 0: `!`0 = 0, `X`0 = 0.
-    ∷ one weakNext 1 0 1 ∷ one strongNext 1 1 0 ∷ one not 0 0 0 ∷ one weakNext 0 0 0
+    -- P7, length 1: `X`0 = 1, `X[!]`1 = 0. "P8 becomes `!`0 = 1 and `X`0 = 1" (document 02, E4), length 0.
+    ∷ one weakNext 1 0 1 ∷ one strongNext 1 1 0 ∷ one not 0 0 1 ∷ one weakNext 0 0 1
     -- P9, length 64: `!`0 = 2^64-1, `X`0 = 2^63. P10, length 64: (2^63-1)`U`2^63 = 2^64-1.
     ∷ one not 64 0 (2 ^ 64 - 1) ∷ one weakNext 64 0 (2 ^ 63) ∷ two until 64 (2 ^ 63 - 1) (2 ^ 63) (2 ^ 64 - 1) ∷ []

@@ -4,11 +4,11 @@ ghost use mathlib.Core.Logic.{_↔_};
 ghost use mathlib.Core.Bool.{true};
 ghost use Prim.Native.Nat.{_<_};
 ghost use mathlib.Core.List.{[], _∷_};
-ghost use Rattle.words.specs.Word.{width, Means};
+ghost use Rattle.words.specs.Word.{width, Wf, places, Means};
 ghost use Rattle.rules.specs.Refusals.{Decided, firstOf};
 ghost use Rattle.sequence.specs.Operators.{not, weakNext, strongNext, finally, globally, or, and, until, release, implies, equiv};
 ghost use Rattle.sequence.specs.Masked.{UnaryOn, BinaryOn, UnaryBy, BinaryBy};
-ghost use Rattle.sequence.specs.Sequence.{seq, WellFormed, Accepts, illFormed, notUnary, notBinary, unequal, NewAnswer, UnaryAnswer, BinaryAnswer};
+ghost use Rattle.sequence.specs.Sequence.{seq, WellFormed, Accepts, illFormed, notUnary, notBinary, unequal, NewAnswer, RecordedAnswer, UnaryAnswer, BinaryAnswer};
 
 pub mod operators;
 
@@ -44,12 +44,37 @@ impl CharSeq {
         Answer::Sequence(seq)
     }
 
-    // The leading zeros reach down to the length: no bit at or above it is set.
+    // The same of a word that was recorded: it has a bit for each snapshot and no other, so at length 0 it is 0.
+    pub fn recorded(length: usize, values: u64) -> Answer
+        ensures { λ r. ⌜ RecordedAnswer length values r ⌝ }
+    {
+        if length > Self::MAX_LENGTH {
+            return Answer::Refused(4);
+        }
+        if Self::is_clear(values, length) {
+            return Answer::Sequence(CharSeq { length, values });
+        }
+        Answer::Refused(5)
+    }
+
+    // The places of a formula's word: one for each snapshot, and the first at every length.
+    pub fn places(length: usize) -> usize
+        ensures { λ r. ⌜ r ≡ places length ⌝ }
+    {
+        if length > Self::MIN_LENGTH { length } else { 1 }
+    }
+
+    // The leading zeros reach down to n: no bit at or above it is set.
+    fn is_clear(values: u64, n: usize) -> bool
+        ensures { λ r. ⌜ (r ≡ true) ↔ Wf n values ⌝ }
+    {
+        n <= Self::MAX_LENGTH && u64::leading_zeros(values) as usize >= Self::MAX_LENGTH - n
+    }
+
     pub fn is_well_formed(self) -> bool
         ensures { λ r. ⌜ (r ≡ true) ↔ WellFormed self ⌝ }
     {
-        self.length <= Self::MAX_LENGTH
-            && u64::leading_zeros(self.values) as usize >= Self::MAX_LENGTH - self.length
+        Self::is_clear(self.values, Self::places(self.length))
     }
 
     // The number that refuses the sequence, or 0.
@@ -62,11 +87,11 @@ impl CharSeq {
         if self.is_well_formed() { 0 } else { 5 }
     }
 
-    // Whether the formula holds at the first snapshot. An empty session accepts nothing.
+    // Whether the formula holds at 0. At length 0 that is its reading on the empty trace.
     pub fn accepts(self) -> bool
         ensures { λ r. ⌜ (r ≡ true) ↔ Accepts self ⌝ }
     {
-        self.length > Self::MIN_LENGTH && self.values & 1 == 1
+        self.values & 1 == 1
     }
 
     // The word whose `length` low bits are set. A shift by 64 is none, so the full mask is a constant.
@@ -80,7 +105,7 @@ impl CharSeq {
         }
     }
 
-    // The eleven operators (cs.rs), at the places below the sequence's own length. They refuse nothing: `apply_unary` and `apply_binary` do.
+    // The eleven operators (cs.rs), over the snapshots below the sequence's own length. They refuse nothing: `apply_unary` and `apply_binary` do.
 
     // `!`
     pub fn not(self) -> CharSeq
@@ -118,7 +143,7 @@ impl CharSeq {
     {
         CharSeq {
             length: self.length,
-            values: words::finally(self.values),
+            values: words::finally(self.values, Self::mask(self.length)),
         }
     }
 
@@ -158,7 +183,7 @@ impl CharSeq {
     {
         CharSeq {
             length: self.length,
-            values: words::until(self.values, right.values),
+            values: words::until(self.values, right.values, Self::mask(self.length)),
         }
     }
 

@@ -35,7 +35,7 @@ fn session_clear(words: &[u64], from: usize, m: usize, n: usize) -> bool
     let mut p: usize = 0;
     while p < m {
         let word = words[from + p];
-        let Answer::Sequence(_) = CharSeq::new(n, word) else {
+        let Answer::Sequence(_) = CharSeq::recorded(n, word) else {
             return false;
         };
         p += 1;

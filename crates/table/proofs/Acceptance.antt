@@ -1,7 +1,6 @@
 -- Acceptance: the program's test of a session is the walk's, and so it is of all of them.
 -- Assumes nothing.
 use mathlib.Core.Path.{_≡_, refl, sym, ap, ap₂, _∙_}
-use mathlib.Core.Logic.{_↔_}
 use mathlib.Core.Bool.{Bool, true, false, _&&_, not, Bool·beq}
 use mathlib.Core.List.{List}
 use Prim.Native.Nat.{ℕ, zero, suc, _+_, _-_, _≤_, _<_}
@@ -9,14 +8,15 @@ use native.Mathlib.Omega.{arith}
 use native.Mathlib.Numerals.{add-one}
 use lib.ListN.{length, take}
 use lib.Seq.{getD-take}
-use lib.Dec.{eqb, ltb}
-use borrow.Author.Tests.{eq-eqb, eqb-true, lt-ltb, ltb-true, le-leb}
-use Rattle.words.specs.Word.{bit, At}
+use lib.Dec.{eqb}
+use lib.Bits.{bitAnd}
+use borrow.Author.Tests.{eq-eqb, ne-eqb, le-leb}
+use Rattle.words.specs.Word.{bit}
+use Rattle.words.proofs.At.{at-first}
 use Rattle.rules.specs.Lists.{count}
-use Rattle.walk.specs.Rows.{isOn, acceptsRow}
+use Rattle.walk.specs.Rows.{acceptsRow}
 use Rattle.walk.specs.Input.{Input, every, separating}
-use Rattle.session.specs.Recording.{lengthOf, markOf}
-use Rattle.walk.proofs.Rows.{and-on}
+use Rattle.session.specs.Recording.{markOf}
 use Rattle.table.specs.Compare.{agreesAt, agreeing}
 use Rattle.table.specs.Promises.{AgreesSeparating}
 
@@ -30,14 +30,12 @@ pub beq-false : (b : Bool) → not b ≡ Bool·beq false b
 beq-false true = refl
 beq-false false = refl
 
-pub accepts-row : (n x : ℕ) (b : Bool) → (b ≡ true) ↔ ((0 < n) × At x 0) → acceptsRow n x ≡ b
-accepts-row n x b w = go (acceptsRow n x) refl b w
-  where
-    go : (t : Bool) → acceptsRow n x ≡ t → (b : Bool) → (b ≡ true) ↔ ((0 < n) × At x 0) → t ≡ b
-    go true e true w = refl
-    go true e false w = let (p, q) = and-on (ltb 0 n) (isOn x 0) .0 e in sym (w .1 (ltb-true 0 n p, eqb-true (bit x 0) 1 q))
-    go false e true w = let (p, q) = w .0 refl in sym e ∙ and-on (ltb 0 n) (isOn x 0) .1 (lt-ltb 0 n p, eq-eqb (bit x 0) 1 q)
-    go false e false w = refl
+-- the low bit is the row's acceptance
+pub accepts-row : (x : ℕ) → bitAnd x 1 ≡ 1 → acceptsRow x ≡ true
+accepts-row x h = eq-eqb (bit x 0) 1 (at-first x .0 h)
+
+pub rejects-row : (x : ℕ) → (bitAnd x 1 ≡ 1 → ⊥) → acceptsRow x ≡ false
+rejects-row x h = ne-eqb (bit x 0) 1 (λ p. h (at-first x .1 p))
 
 -- ---- what is left of the sessions from j on
 
@@ -64,6 +62,5 @@ unfolding separating agreeing
 agrees-separating i ok rows h =
     let s = ok .sessions-in .1 in
     let a = ok .marks-there in
-    let b = ok .lengths-there in
-    rw (le-leb _ _ s, le-leb _ _ a, le-leb _ _ b, le-leb _ _ h)
-    (every-same 0 (i .recording .sessions) _ _ (λ j l m. ap (λ (x : ℕ). Bool·beq (acceptsRow (lengthOf (i .recording) j) x) (eqb (markOf (i .recording) j) 1)) (sym (getD-take (i .recording .sessions) rows j 0 (omega arith)))))
+    rw (le-leb _ _ s, le-leb _ _ a, le-leb _ _ h)
+    (every-same 0 (i .recording .sessions) _ _ (λ j l m. ap (λ (x : ℕ). Bool·beq (acceptsRow x) (eqb (markOf (i .recording) j) 1)) (sym (getD-take (i .recording .sessions) rows j 0 (omega arith)))))

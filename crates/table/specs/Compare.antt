@@ -18,13 +18,12 @@ use Rattle.table.specs.declared.Known.the-variants.{At, New}
 -- ---- acceptance
 
 -- session j accepts just if it is marked 1
-abbrev pub agreesAt : List ℕ → List ℕ → List ℕ → ℕ → Bool
-agreesAt marks lengths rows j = Bool·beq (acceptsRow (getD lengths j 0) (getD rows j 0)) (eqb (getD marks j 0) 1)
+abbrev pub agreesAt : List ℕ → List ℕ → ℕ → Bool
+agreesAt marks rows j = Bool·beq (acceptsRow (getD rows j 0)) (eqb (getD marks j 0) 1)
 
 -- "its acceptance equals the marks": r sessions are there, and each agrees
-unfoldable pub agreeing : ℕ → List ℕ → List ℕ → List ℕ → Bool
-agreeing r marks lengths rows =
-    leb r mostSessions && leb r (length marks) && leb r (length lengths) && leb r (length rows) && every (count 0 r) (agreesAt marks lengths rows)
+unfoldable pub agreeing : ℕ → List ℕ → List ℕ → Bool
+agreeing r marks rows = leb r mostSessions && leb r (length marks) && leb r (length rows) && every (count 0 r) (agreesAt marks rows)
 
 -- ---- comparison
 

@@ -21,7 +21,7 @@ use Rattle.table.specs.Formulas.{Holds, RoomAt}
 -- acceptance is the walk's
 abbrev pub AgreesSeparating : Type 0
 AgreesSeparating = (i : Input) → Passes i → (rows : List ℕ) → i .recording .sessions ≤ length rows
-    → agreeing (i .recording .sessions) (i .recording .marks) (i .recording .lengths) rows ≡ separating i (take (i .recording .sessions) rows)
+    → agreeing (i .recording .sessions) (i .recording .marks) rows ≡ separating i (take (i .recording .sessions) rows)
 
 -- a place is answered where the walk knows the matrix
 abbrev pub isAt : Known → Bool

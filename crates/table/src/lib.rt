@@ -26,8 +26,8 @@ pub enum Known {
 }
 
 // Whether exactly the sessions marked 1 accept (is_equivalent in cm.rs). False where r is above the most sessions or a slice is shorter.
-pub fn agrees(r: usize, marks: &[u8], lengths: &[u8], rows: &[u64]) -> bool
-    ensures { λ b. ⌜ b ≡ agreeing r (now (marks .entry)) (now (lengths .entry)) (now (rows .entry)) ⌝ }
+pub fn agrees(r: usize, marks: &[u8], rows: &[u64]) -> bool
+    ensures { λ b. ⌜ b ≡ agreeing r (now (marks .entry)) (now (rows .entry)) ⌝ }
 {
     if rules::SESSIONS < r {
         return false;
@@ -35,13 +35,10 @@ pub fn agrees(r: usize, marks: &[u8], lengths: &[u8], rows: &[u64]) -> bool
     if marks.len() < r {
         return false;
     }
-    if lengths.len() < r {
-        return false;
-    }
     if rows.len() < r {
         return false;
     }
-    tests::all_agree(r, marks, lengths, rows)
+    tests::all_agree(r, marks, rows)
 }
 
 // A matrix against the kept one at a place.

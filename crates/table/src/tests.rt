@@ -1,5 +1,4 @@
 // The loops behind acceptance and comparison.
-use sequence::CharSeq;
 ghost use mathlib.Core.Path.{_≡_};
 ghost use mathlib.Core.Bool.{Bool·beq};
 ghost use lib.Dec.{eqb};
@@ -9,24 +8,21 @@ ghost use Rattle.walk.specs.Input.{every};
 ghost use Rattle.table.specs.Compare.{agreesAt, KnownAsk};
 ghost use Rattle.table.specs.Inner.{Long, FirstDiffers, FirstEqual};
 
-fn agrees_at(x: u64, length: u8, mark: u8) -> bool
-    ensures { λ b. ⌜ b ≡ Bool·beq (acceptsRow length x) (eqb mark 1) ⌝ }
+// A session accepts what has bit 0 of its row set.
+fn agrees_at(x: u64, mark: u8) -> bool
+    ensures { λ b. ⌜ b ≡ Bool·beq (acceptsRow x) (eqb mark 1) ⌝ }
 {
-    let accepts = CharSeq {
-        length: length as usize,
-        values: x,
-    }.accepts();
-    if accepts { mark == 1 } else { mark != 1 }
+    if x & 1 == 1 { mark == 1 } else { mark != 1 }
 }
 
 // Whether each session agrees with its mark.
-pub(crate) fn all_agree(r: usize, marks: &[u8], lengths: &[u8], rows: &[u64]) -> bool
-    requires { ⌜ Long r (now marks) × Long r (now lengths) × Long r (now rows) ⌝ }
-    ensures { λ b. ⌜ b ≡ every (count 0 r) (agreesAt (now (marks .entry)) (now (lengths .entry)) (now (rows .entry))) ⌝ }
+pub(crate) fn all_agree(r: usize, marks: &[u8], rows: &[u64]) -> bool
+    requires { ⌜ Long r (now marks) × Long r (now rows) ⌝ }
+    ensures { λ b. ⌜ b ≡ every (count 0 r) (agreesAt (now (marks .entry)) (now (rows .entry))) ⌝ }
 {
     let mut j: usize = 0;
     while j < r {
-        if agrees_at(rows[j], lengths[j], marks[j]) {
+        if agrees_at(rows[j], marks[j]) {
             j += 1;
         } else {
             return false;

@@ -135,24 +135,40 @@ s3-passes = record {
 s3-smallest : Found s3 (node 7 0 1 3) (at 16 0 0 1 (3 ∷ 1 ∷ []) ∷ at 16 1 0 1 (4 ∷ 4 ∷ []) ∷ [])
 s3-smallest = found-smallest s3 s3-passes (node 7 0 1 3) (at 16 0 0 1 (3 ∷ 1 ∷ []) ∷ at 16 1 0 1 (4 ∷ 4 ∷ []) ∷ []) 5 s3-found
 
--- ---- S4: "one empty session, mark 1, p, all operators"
+-- ---- S4: "one empty session, mark 1, p, all operators", as document 02, E4, amends it
 
 abbrev s4 : ℕ → ℕ → Input
 s4 mark bound = inputOf 1 1 bound 4096 0 (mark ∷ []) (0 ∷ []) (0 ∷ []) (0 ∷ 1 ∷ 2 ∷ 3 ∷ 4 ∷ []) (5 ∷ 6 ∷ 7 ∷ 8 ∷ 9 ∷ 10 ∷ [])
 
--- "B = 2 none, tried 6, kept 1; B = 3 none, tried 15"
-s4-none : search (s4 1 2) ≡ ended none (at 16 0 0 1 (0 ∷ []) ∷ []) 6
-unfolding each count ofSize leftSizes finish orders unaryCandidates pairs layer known judge consider through after walk word someOf allOf unaryRow binaryRow constantRow sameRows every separating bit decode
-s4-none = refl
-
-s4-pairs : search (s4 1 3) ≡ ended none (at 16 0 0 1 (0 ∷ []) ∷ []) 15
-unfolding each count ofSize leftSizes finish orders unaryCandidates pairs layer known judge consider through after walk word someOf allOf unaryRow binaryRow constantRow sameRows every separating bit decode
-s4-pairs = refl
-
--- "Mark 0: found p, tried 1, kept 0."
-s4-found : search (s4 0 3) ≡ ended (found (node 16 0 0 1)) [] 1
+-- "S4 with mark 1 becomes found `! (p)`, tried 2, kept 1", whatever the bound from 2 on
+s4-found : search (s4 1 2) ≡ ended (found (node 0 0 0 2)) (at 16 0 0 1 (0 ∷ []) ∷ []) 2
 unfolding each count ofSize leftSizes finish orders unaryCandidates pairs layer known judge consider through after walk word someOf allOf unaryRow binaryRow constantRow sameRows every separating bit decode
 s4-found = refl
+
+s4-larger : search (s4 1 3) ≡ ended (found (node 0 0 0 2)) (at 16 0 0 1 (0 ∷ []) ∷ []) 2
+unfolding each count ofSize leftSizes finish orders unaryCandidates pairs layer known judge consider through after walk word someOf allOf unaryRow binaryRow constantRow sameRows every separating bit decode
+s4-larger = refl
+
+-- "Mark 0: found p, tried 1, kept 0."
+s4-bad : search (s4 0 3) ≡ ended (found (node 16 0 0 1)) [] 1
+unfolding each count ofSize leftSizes finish orders unaryCandidates pairs layer known judge consider through after walk word someOf allOf unaryRow binaryRow constantRow sameRows every separating bit decode
+s4-bad = refl
+
+-- an empty session beside one of one snapshot, at which p holds: at the empty one `X[!] (p)` and `F (p)` are not accepted, `X (p)` and `! (p)` are
+abbrev beside : Input
+beside = inputOf 2 1 2 4096 0 (1 ∷ 0 ∷ []) (0 ∷ 1 ∷ []) (0 ∷ 1 ∷ []) (2 ∷ 3 ∷ 1 ∷ 0 ∷ []) []
+
+beside-found : search beside ≡ ended (found (node 0 0 0 2)) (at 16 0 0 1 (0 ∷ 1 ∷ []) ∷ at 2 0 0 2 (0 ∷ 0 ∷ []) ∷ at 1 0 0 2 (1 ∷ 1 ∷ []) ∷ []) 5
+unfolding each count ofSize leftSizes finish orders unaryCandidates pairs layer known judge consider through after walk word someOf allOf unaryRow binaryRow constantRow sameRows every separating bit decode
+beside-found = refl
+
+-- bit 0 of an empty session counts in the duplicate test: p and `G (p)` differ there alone, and both are kept
+abbrev apart : Input
+apart = inputOf 2 1 2 4096 1 (0 ∷ 1 ∷ []) (0 ∷ 1 ∷ []) (0 ∷ 0 ∷ []) (4 ∷ []) []
+
+apart-none : search apart ≡ ended none (at 16 0 0 1 (0 ∷ 0 ∷ []) ∷ at 18 0 0 1 (1 ∷ 1 ∷ []) ∷ at 4 0 0 2 (1 ∷ 0 ∷ []) ∷ []) 5
+unfolding each count ofSize leftSizes finish orders unaryCandidates pairs layer known judge consider through after walk word someOf allOf unaryRow binaryRow constantRow sameRows every separating bit decode
+apart-none = refl
 
 -- ---- constants: "propositions in order, then, if constants are asked for, false, then true", and after them `G` and `X`, in the given order
 

@@ -9,10 +9,10 @@ use Prim.Native.Nat.{ℕ, zero, suc, _+_, _-_, _<_}
 use native.Mathlib.Omega.{arith}
 use lib.ListN.{length, getD}
 use lib.Seq.{ext-getD}
-use lib.Dec.{eqb, ltb}
-use borrow.Author.Tests.{eqb-true, eq-eqb, ltb-true, lt-ltb}
+use lib.Dec.{eqb}
+use borrow.Author.Tests.{eqb-true, eq-eqb}
 use Rattle.words.specs.Word.{bit, At, Means}
-use Rattle.words.proofs.At.{means-unique}
+use Rattle.words.proofs.At.{means-unique, recorded-computed}
 use Rattle.sequence.specs.Operators.{unaryCode, binaryCode, unaryOf, binaryOf}
 use Rattle.formula.specs.Formula.{leaf, unary, binary, Leaf, proposition, constant, Formula, Holds, Accepts, Separates, LeafOffered, Offered}
 use Rattle.session.specs.Recording.{markOf, lengthOf}
@@ -21,7 +21,7 @@ use Rattle.sequence.proofs.Decoding.{unary-of, binary-of}
 use Rattle.sequence.proofs.Agreeing.{means-agree, unary-agree, binary-agree}
 use Rattle.walk.specs.Walk.{matrix}
 use Rattle.rules.specs.Lists.{count, _∈_}
-use Rattle.walk.specs.Rows.{isOn, unaryRow, binaryRow, acceptsRow}
+use Rattle.walk.specs.Rows.{unaryRow, binaryRow, acceptsRow}
 use Rattle.walk.specs.Input.{Input, Passes, language, rows, row, sameRows, every, constantsIf, leaves, leafRow, separating, offer}
 use Rattle.walk.specs.Promises.{Alike, RowMeans}
 use Rattle.walk.proofs.Members.{in-count, from-count}
@@ -128,7 +128,7 @@ module _ (i : Input) (ok : Passes i) where
   row-holds : (t : Formula) → Offered (language i) t → (j : ℕ) → j < i .recording .sessions
       → Means (lengthOf (i .recording) j) (row (matrix (offer i) t) j) (Holds (markedTrace (i .recording) j .trace) t)
   row-holds (leaf (proposition p)) h j l =
-      rw (row-rows (i .recording .sessions) (leafRow i (proposition p)) j l) (record { wf = ok .well-formed j p l h; holds = λ q m. (λ z. z, λ z. z) })
+      rw (row-rows (i .recording .sessions) (leafRow i (proposition p)) j l) (record { wf = recorded-computed (ok .well-formed j p l h); holds = λ q m. (λ z. z, λ z. z) })
   row-holds (leaf (constant b)) h j l =
       rw (row-rows (i .recording .sessions) (leafRow i (constant b)) j l) (constant-row-means b (ok .short j l))
   row-holds (unary op t) h j l =
@@ -148,24 +148,20 @@ module _ (i : Input) (ok : Passes i) where
   -- ---- acceptance
 
   accepts-row : (t : Formula) → Offered (language i) t → (j : ℕ) → j < i .recording .sessions
-      → (acceptsRow (lengthOf (i .recording) j) (row (matrix (offer i) t) j) ≡ true) ↔ Accepts (markedTrace (i .recording) j .trace) t
+      → (acceptsRow (row (matrix (offer i) t) j) ≡ true) ↔ Accepts (markedTrace (i .recording) j .trace) t
   accepts-row t h j l =
-      let n = lengthOf (i .recording) j in
       let x = row (matrix (offer i) t) j in
-      let both = and-on (ltb 0 n) (isOn x 0) in
-      let at = row-holds t h j l .holds 0 in (
-        λ p. let q = both .0 p in let z = ltb-true 0 n (q .0) in (z, at z .0 (eqb-true (bit x 0) 1 (q .1))),
-        λ p. both .1 (lt-ltb 0 n (p .0), eq-eqb (bit x 0) 1 (at (p .0) .1 (p .1))),
-      )
+      let at = row-holds t h j l .holds 0 (omega arith) in
+      (λ p. at .0 (eqb-true (bit x 0) 1 p), λ p. eq-eqb (bit x 0) 1 (at .1 p))
 
   separates-each : (t : Formula) → Offered (language i) t → (js : List ℕ) → ((j : ℕ) → j ∈ js → j < i .recording .sessions)
-      → (every js (λ j. Bool·beq (acceptsRow (lengthOf (i .recording) j) (row (matrix (offer i) t) j)) (eqb (markOf (i .recording) j) 1)) ≡ true) ↔ Separates (map (markedTrace (i .recording)) js) t
+      → (every js (λ j. Bool·beq (acceptsRow (row (matrix (offer i) t) j)) (eqb (markOf (i .recording) j) 1)) ≡ true) ↔ Separates (map (markedTrace (i .recording)) js) t
   unfolding every
   separates-each t h [] l = (λ p. tt, λ p. refl)
   separates-each t h (j ∷ js) l =
       let rest = separates-each t h js (λ k m. l k (List·Memᴰ·tail m)) in
-      let a = acceptsRow (lengthOf (i .recording) j) (row (matrix (offer i) t) j) in
-      let both = and-on (Bool·beq a (eqb (markOf (i .recording) j) 1)) (every js (λ j. Bool·beq (acceptsRow (lengthOf (i .recording) j) (row (matrix (offer i) t) j)) (eqb (markOf (i .recording) j) 1))) in
+      let a = acceptsRow (row (matrix (offer i) t) j) in
+      let both = and-on (Bool·beq a (eqb (markOf (i .recording) j) 1)) (every js (λ j. Bool·beq (acceptsRow (row (matrix (offer i) t) j)) (eqb (markOf (i .recording) j) 1))) in
       let same = beq-on a (eqb (markOf (i .recording) j) 1) in
       let acc = accepts-row t h j (l j (List·Memᴰ·head refl)) in (
         λ p. let q = both .0 p in

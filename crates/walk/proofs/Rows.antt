@@ -1,5 +1,5 @@
 -- An operator's row is THE word of its reading: the tests of `Rows` hold where the readings of `Ltlf` do, and the word set by a test has
--- just those bits. The readings look only at positions below the length, so children that agree there give the same.
+-- just those bits. The readings look only at the places of a formula's word, so children that agree there give the same.
 -- Assumes nothing.
 use mathlib.Core.Path.{_≡_, refl, sym, ap, _∙_, subst, fun-ext}
 use mathlib.Core.Logic.{_↔_, _⊎_, inl, inr, ⊎-elim}
@@ -10,7 +10,7 @@ use native.Mathlib.Omega.{arith}
 use lib.Dec.{eqb, ltb}
 use borrow.Author.Tests.{eqb-true, eq-eqb, ltb-true, lt-ltb}
 use Rattle.words.specs.Ltlf.{Reading, Finally, Globally}
-use Rattle.words.specs.Word.{width, bit, At, Means}
+use Rattle.words.specs.Word.{width, bit, At, places, Means}
 use Rattle.words.proofs.Bits.{bit-first, bit-rest, bit-high}
 use Rattle.words.proofs.At.{lt-wf, means-unique}
 use Rattle.sequence.specs.Operators.{Unary, Binary, unaryReading, binaryReading, commutes}
@@ -56,13 +56,13 @@ bit-word (suc n) f i h = go (f n) refl (eq-or-lt-of-le {n = i} {m = n} (omega ar
     go true e (inr l) r = add-low n (word n f) i l ∙ r l
     go false e (inr l) r = ap (λ (x : ℕ). bit x i) none ∙ r l
 
-pub word-means : {n : ℕ} (f : ℕ → Bool) → n ≤ width → Means n (word n f) (λ i. f i ≡ true)
-word-means {n} f h = record { wf = lt-wf h (word-lt n f); holds = λ i l. go i (f i) refl (bit-word n f i l) }
+pub word-means : {n : ℕ} (f : ℕ → Bool) → n ≤ width → Means n (word (places n) f) (λ i. f i ≡ true)
+word-means {n} f h = record { wf = lt-wf {n = places n} (omega arith) (word-lt (places n) f); holds = λ i l. go i (f i) refl (bit-word (places n) f i l) }
   where
-    go : (i : ℕ) (b : Bool) → f i ≡ b → bit (word n f) i ≡ cond (f i) 1 0 → At (word n f) i ↔ (f i ≡ true)
+    go : (i : ℕ) (b : Bool) → f i ≡ b → bit (word (places n) f) i ≡ cond (f i) 1 0 → At (word (places n) f) i ↔ (f i ≡ true)
     go i true e w = (λ p. e, λ p. w ∙ ap (λ (b : Bool). cond b 1 0) e)
     go i false e w = (
-      λ p. (let z : bit (word n f) i ≡ 0 = w ∙ ap (λ (b : Bool). cond b 1 0) e in absurd (omega arith)),
+      λ p. (let z : bit (word (places n) f) i ≡ 0 = w ∙ ap (λ (b : Bool). cond b 1 0) e in absurd (omega arith)),
       λ p. absurd (true≢false (sym p ∙ e)),
     )
 
@@ -135,8 +135,8 @@ globally-on n i f = (
 unary-on : (op : Unary) (n : ℕ) (f : ℕ → Bool) (i : ℕ) → (unaryTest op n f i ≡ true) ↔ unaryReading op n (On f) i
 unary-on Unary.not n f i = not-on (f i)
 unary-on Unary.weakNext n f i =
-    let w = or-on (eqb (i + 1) n) (f (i + 1)) in
-    (λ p. ⊎-elim (λ q. inl (eqb-true (i + 1) n q)) inr (w .0 p), λ p. w .1 (⊎-elim (λ q. inl (eq-eqb (i + 1) n q)) inr p))
+    let w = implies-on (ltb (i + 1) n) (f (i + 1)) in
+    (λ p l. w .0 p (lt-ltb (i + 1) n l), λ p. w .1 (λ q. p (ltb-true (i + 1) n q)))
 unary-on Unary.strongNext n f i =
     let w = and-on (ltb (i + 1) n) (f (i + 1)) in
     (λ p. let q = w .0 p in (ltb-true (i + 1) n (q .0), q .1), λ p. w .1 (lt-ltb (i + 1) n (p .0), p .1))
@@ -180,10 +180,10 @@ binary-row-means op {n} x y h =
 
 -- whatever word has that meaning is the row: so the operators' contracts fix the same word
 pub unary-row-only : UnaryRowOnly
-unary-row-only op n r x m = means-unique m (unary-row-means op x (m .wf .short))
+unary-row-only op n r x m = means-unique m (unary-row-means op x (omega (arith, m .wf .short)))
 
 pub binary-row-only : BinaryRowOnly
-binary-row-only op n r x y m = means-unique m (binary-row-means op x y (m .wf .short))
+binary-row-only op n r x y m = means-unique m (binary-row-means op x y (omega (arith, m .wf .short)))
 
 pub constant-row-means : (b : Bool) {n : ℕ} → n ≤ width → Means n (constantRow b n) (λ i. b ≡ true)
 unfolding constantRow
@@ -211,9 +211,9 @@ beq-comm false false = refl
 
 pub binary-row-comm : (op : Binary) → commutes op ≡ true → (n x y : ℕ) → binaryRow op n x y ≡ binaryRow op n y x
 unfolding binaryRow
-binary-row-comm Binary.or e n x y = ap (word n) (fun-ext λ i. or-comm (isOn x i) (isOn y i))
-binary-row-comm Binary.and e n x y = ap (word n) (fun-ext λ i. and-comm (isOn x i) (isOn y i))
+binary-row-comm Binary.or e n x y = ap (word (places n)) (fun-ext λ i. or-comm (isOn x i) (isOn y i))
+binary-row-comm Binary.and e n x y = ap (word (places n)) (fun-ext λ i. and-comm (isOn x i) (isOn y i))
 binary-row-comm Binary.until e n x y = absurd (true≢false (sym e))
 binary-row-comm Binary.release e n x y = absurd (true≢false (sym e))
 binary-row-comm Binary.implies e n x y = absurd (true≢false (sym e))
-binary-row-comm Binary.equiv e n x y = ap (word n) (fun-ext λ i. beq-comm (isOn x i) (isOn y i))
+binary-row-comm Binary.equiv e n x y = ap (word (places n)) (fun-ext λ i. beq-comm (isOn x i) (isOn y i))

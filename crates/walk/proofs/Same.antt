@@ -129,7 +129,7 @@ module _ (r m b room constants : ℕ) (us bs : List ℕ) where
     unfolding separating
     separating-same = fun-ext λ x. every-same (count 0 r) _ _ (λ j m. let w = from-count 0 r j m in
         let h : j < r = omega arith in
-        ap₂ (λ (n a : ℕ). Bool·beq (acceptsRow n (row x j)) (eqb a 1)) (eN j h) (eM j h))
+        ap (λ (a : ℕ). Bool·beq (acceptsRow (row x j)) (eqb a 1)) (eM j h))
 
     leaf-same : (c : Leaf) → c ∈ leaves i → offer i .leafMatrix c ≡ offer i′ .leafMatrix c
     leaf-same (proposition p) w = rows-same r _ _ (λ j h. eW (j * m + p) (inside m r j p h (from-leaf i (proposition p) w)))

@@ -97,7 +97,7 @@ module _ (i : Input) where
 
   -- "its acceptance equals the marks"
   unfoldable pub separating : List ℕ → Bool
-  separating x = every (count 0 (i .recording .sessions)) λ j. Bool·beq (acceptsRow (lengthOf (i .recording) j) (row x j)) (eqb (markOf (i .recording) j) 1)
+  separating x = every (count 0 (i .recording .sessions)) λ j. Bool·beq (acceptsRow (row x j)) (eqb (markOf (i .recording) j) 1)
 
   abbrev pub offer : Offer Leaf Unary Binary (List ℕ)
   offer = record {

@@ -8,7 +8,7 @@ use mathlib.Core.Bool.{Bool, true, false}
 use mathlib.Core.List.{List, [], _∷_, _++_, map, foldl}
 use Prim.Native.Nat.{ℕ, suc, _+_, _*_, _≤_, _<_}
 use lib.ListN.{length, take, getD}
-use Rattle.words.specs.Word.{At, Means}
+use Rattle.words.specs.Word.{At, places, Means}
 use Rattle.sequence.specs.Operators.{Unary, Binary, unaryReading, binaryReading}
 use Rattle.formula.specs.Formula.{Formula, size, Holds, Separates, Offered}
 use Rattle.rules.specs.Lists.{_∈_}
@@ -38,9 +38,9 @@ module _ (i : Input) where
   abbrev pub NoneBelow : ℕ → Type 0
   NoneBelow s = (t : Formula) → Offered (language i) t → size t < s → Separates (markedTraces (i .recording)) t → ⊥
 
-  -- the two hold at the same positions of every session
+  -- the two hold at the same places of every session
   abbrev pub Alike : Formula → Formula → Type 0
-  Alike t u = (j p : ℕ) → j < i .recording .sessions → p < lengthOf (i .recording) j → Holds (markedTrace (i .recording) j .trace) t p ↔ Holds (markedTrace (i .recording) j .trace) u p
+  Alike t u = (j p : ℕ) → j < i .recording .sessions → p < places (lengthOf (i .recording) j) → Holds (markedTrace (i .recording) j .trace) t p ↔ Holds (markedTrace (i .recording) j .trace) u p
 
   -- no two are alike
   abbrev pub Apart : List Formula → Type 0

@@ -3,7 +3,7 @@
 use mathlib.Core.Bool.{Bool, true, false, _&&_, _||_, not, cond, Bool·beq}
 use Prim.Native.Nat.{ℕ, zero, suc, _+_, _-_, _^_}
 use lib.Dec.{eqb, ltb}
-use Rattle.words.specs.Word.{bit}
+use Rattle.words.specs.Word.{bit, places}
 use Rattle.sequence.specs.Operators.{Unary, Binary}
 
 -- the word of n bits whose bit i is set where f holds
@@ -34,7 +34,7 @@ atAll i n f = allOf (n - i) i f
 -- each operator at a position i of a session of n snapshots, in the words of `Ltlf`
 abbrev pub unaryTest : Unary → ℕ → (ℕ → Bool) → ℕ → Bool
 unaryTest Unary.not n f i = not (f i)
-unaryTest Unary.weakNext n f i = eqb (i + 1) n || f (i + 1)
+unaryTest Unary.weakNext n f i = not (ltb (i + 1) n) || f (i + 1)
 unaryTest Unary.strongNext n f i = ltb (i + 1) n && f (i + 1)
 unaryTest Unary.finally n f i = atSome i n f
 unaryTest Unary.globally n f i = atAll i n f
@@ -47,17 +47,17 @@ binaryTest Binary.release n f g i = atAll i n λ j. g j || atSome i j f
 binaryTest Binary.implies n f g i = not (f i) || g i
 binaryTest Binary.equiv n f g i = Bool·beq (f i) (g i)
 
--- the word of an operator over words of n snapshots
+-- the word of an operator over words of n snapshots: a bit for each place of a formula's word
 unfoldable pub unaryRow : Unary → ℕ → ℕ → ℕ
-unaryRow op n x = word n (unaryTest op n (isOn x))
+unaryRow op n x = word (places n) (unaryTest op n (isOn x))
 
 unfoldable pub binaryRow : Binary → ℕ → ℕ → ℕ → ℕ
-binaryRow op n x y = word n (binaryTest op n (isOn x) (isOn y))
+binaryRow op n x y = word (places n) (binaryTest op n (isOn x) (isOn y))
 
 -- true holds at every position, false at none
 unfoldable pub constantRow : Bool → ℕ → ℕ
-constantRow b n = word n λ i. b
+constantRow b n = word (places n) λ i. b
 
 -- `AcceptsAt` as a test
-abbrev pub acceptsRow : ℕ → ℕ → Bool
-acceptsRow n x = ltb 0 n && isOn x 0
+abbrev pub acceptsRow : ℕ → Bool
+acceptsRow x = isOn x 0

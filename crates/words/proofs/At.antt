@@ -8,7 +8,7 @@ use native.Mathlib.Omega.{arith}
 use lib.Bits.{bitAnd, bitOr, and-mask}
 use lib.Pow.{pow-mono}
 use Rattle.words.specs.Ltlf.{Reading}
-use Rattle.words.specs.Word.{width, bit, At, Wf, Means}
+use Rattle.words.specs.Word.{width, bit, At, Wf, WfRecorded, WfComputed, places, Means}
 use Rattle.words.proofs.Bits.{bit-lt, bit-first, bit-and, bit-or, bit-not, bit-high, bits-ext, clear-lt}
 
 -- a bit is set or not
@@ -65,6 +65,10 @@ at-not m a i h l = (λ p q. omega (arith, bit-not m i a h l), λ p. omega (arith
 pub at-below : {n x : ℕ} → Wf n x → (i : ℕ) → At x i → i < n
 at-below w i h = lt-of-not-le λ g. omega (arith, w .clear i g)
 
+-- a word recorded has no place that a computed one hasn't
+pub recorded-computed : {n x : ℕ} → WfRecorded n x → WfComputed n x
+recorded-computed w = record { short = omega (arith, w .short); clear = λ i h. w .clear i (omega arith) }
+
 -- a well-formed word of n snapshots is below 2 ^ n
 pub wf-lt : {n x : ℕ} → Wf n x → x < 2 ^ n
 wf-lt {n} {x} w = clear-lt n x (w .clear)
@@ -75,18 +79,18 @@ lt-wf {n} {x} s h = record { short = s; clear = λ i g. bit-high n x i h g }
 pub wf-word : {n x : ℕ} → Wf n x → x < 2 ^ width
 wf-word w = lt-of-lt-of-le (wf-lt w) (pow-mono (w .short))
 
-pub means : {n r : ℕ} {f : Reading} → n ≤ width → ((i : ℕ) → At r i → (i < n) × f i) → ((i : ℕ) → i < n → f i → At r i) → Means n r f
+pub means : {n r : ℕ} {f : Reading} → n ≤ width → ((i : ℕ) → At r i → (i < places n) × f i) → ((i : ℕ) → i < places n → f i → At r i) → Means n r f
 means {n} {r} s to from = record {
-  wf = record { short = s; clear = λ i h. not-at r i (λ p. let t = to i p in omega arith) };
+  wf = record { short = omega arith; clear = λ i h. not-at r i (λ p. let t = to i p in omega arith) };
   holds = λ i h. (λ p. to i p .1, from i h);
 }
 
 -- a reading has one word
 pub means-unique : {n a b : ℕ} {f : Reading} → Means n a f → Means n b f → a ≡ b
 means-unique {n} {a} {b} p q =
-    bits-ext n a b (wf-lt (p .wf)) (wf-lt (q .wf)) (λ i h. same i h (at-or-not a i))
+    bits-ext (places n) a b (wf-lt (p .wf)) (wf-lt (q .wf)) (λ i h. same i h (at-or-not a i))
   where
-    same : (i : ℕ) → i < n → At a i ⊎ (At a i → ⊥) → bit a i ≡ bit b i
+    same : (i : ℕ) → i < places n → At a i ⊎ (At a i → ⊥) → bit a i ≡ bit b i
     same i h (inl t) = t ∙ sym (q .holds i h .1 (p .holds i h .0 t))
     same i h (inr t) = not-at a i t ∙ sym (not-at b i (λ u. t (p .holds i h .1 (q .holds i h .0 u))))
 

@@ -1,15 +1,15 @@
 -- What each operator's word means at all 64 places, for any words and any mask: `|`, `&` and `!` act place by place, the doubling shifts
 -- look 64 places ahead, and `G` and `R` are the duals that the code computes.
 -- Assumes nothing.
-use mathlib.Core.Path.{_≡_, sym, ap, _∙_}
+use mathlib.Core.Path.{_≡_, sym, ap, _∙_, subst}
 use mathlib.Core.Logic.{_↔_, _⊎_, inl, inr, ⊎-elim}
 use Prim.Native.Nat.{ℕ, _+_, _-_, _/_, _^_, _≤_, _<_}
 use native.Mathlib.Omega.{arith}
 use lib.Bits.{bitAnd, bitOr, bitXor, xor-lt}
 use Rattle.words.specs.Ltlf.{Reading, Not, Or, And, Implies, Equiv, StrongNext, Finally, Globally, Until, Release}
-use Rattle.words.specs.Masked.{NotOn, ImpliesOn, EquivOn, WeakNextOn, GloballyOn, ReleaseOn}
+use Rattle.words.specs.Masked.{Placed, NotOn, FinallyOn, GloballyOn, UntilOn, ReleaseOn}
 use Rattle.words.specs.Word.{width, bit, At, Wf, Means}
-use Rattle.words.proofs.Bits.{bit-lt, bit-shr, bit-xor}
+use Rattle.words.proofs.Bits.{bit-lt, bit-first, bit-shr, bit-xor}
 use Rattle.words.proofs.At.{at-or-not, find, at-or, or-left, or-right, at-and, and-at, at-not, at-below, wf-lt, lt-wf, means}
 use Rattle.words.proofs.Doubling.{some-first, some-double, All, Reach, all-first, all-double, reach-first, reach-double, reach-stop}
 
@@ -26,11 +26,19 @@ or-means {x} {y} w u =
 pub and-means : {x y : ℕ} → Wf width x → Wf width y → Means width (bitAnd x y) (And (At x) (At y))
 and-means {x} {y} w u = means (w .short) (λ i h. let p = at-and x y i h in (at-below w i (p .0), p)) (λ i h p. and-at x y i (p .0) (p .1))
 
--- a word v that holds where f does, cut to a mask
-masked : (v : ℕ) {m : ℕ} {f : Reading} → Wf width m → ((i : ℕ) → i < width → At v i ↔ f i) → Means width (bitAnd v m) (And (At m) f)
-masked v {m} w e =
-    means (w .short) (λ i h. let p = at-and v m i h in let l = at-below w i (p .1) in (l, (p .1, e i l .0 (p .0))))
-    (λ i h p. and-at v m i (e i h .1 (p .1)) (p .0))
+-- the places over a mask: `m | 1`
+pub places-means : {m : ℕ} → Wf width m → Means width (bitOr m 1) (Placed (At m))
+places-means {m} w = means (w .short) (λ i h. to i (at-or m 1 i h)) (λ i h p. ⊎-elim (or-left m 1 i) (λ e. or-right m 1 i (subst (At 1) (sym e) (bit-first 1))) p)
+  where
+    to : (i : ℕ) → At m i ⊎ At 1 i → (i < width) × Placed (At m) i
+    to i (inl p) = (at-below w i p, inl p)
+    to i (inr p) = let l = at-below (lt-wf {n = 1} {x = 1} (omega arith) (omega arith)) i p in (omega arith, inr (omega arith))
+
+-- a word v that holds where f does, cut to places p
+masked : (v : ℕ) {p : ℕ} {g f : Reading} → Means width p g → ((i : ℕ) → i < width → At v i ↔ f i) → Means width (bitAnd v p) (And g f)
+masked v {p} k e =
+    means (k .wf .short) (λ i h. let t = at-and v p i h in let l = at-below (k .wf) i (t .1) in (l, (k .holds i l .0 (t .1), e i l .0 (t .0))))
+    (λ i h t. and-at v p i (e i h .1 (t .1)) (k .holds i h .1 (t .0)))
 
 -- `!x` on the machine
 abbrev pub inverse : ℕ → ℕ
@@ -39,7 +47,8 @@ inverse x = (2 ^ width - 1) - x
 at-inverse : {x : ℕ} → Wf width x → (i : ℕ) → i < width → At (inverse x) i ↔ Not (At x) i
 at-inverse {x} w i h = at-not width x i h (wf-lt w)
 
-pub not-means : {x m : ℕ} → Wf width x → Wf width m → Means width (bitAnd (inverse x) m) (NotOn (At m) (At x))
+-- over the places p of whatever reading g
+pub not-means : {x p : ℕ} {g : Reading} → Wf width x → Means width p g → Means width (bitAnd (inverse x) p) (And g (Not (At x)))
 not-means {x} w v = masked (inverse x) v (at-inverse w)
 
 -- `!v | w`, where v holds where f does and w where g does
@@ -53,12 +62,12 @@ at-implies {v} {w} a b i h = (
 itself : {x : ℕ} → Wf width x → Means width x (At x)
 itself w = record { wf = w; holds = λ i h. (λ p. p, λ p. p) }
 
-pub implies-means : {x y m : ℕ} → Wf width x → Wf width y → Wf width m
-    → Means width (bitAnd (bitOr (inverse x) y) m) (ImpliesOn (At m) (At x) (At y))
+pub implies-means : {x y p : ℕ} {g : Reading} → Wf width x → Wf width y → Means width p g
+    → Means width (bitAnd (bitOr (inverse x) y) p) (And g (Implies (At x) (At y)))
 implies-means {x} {y} w u v = masked (bitOr (inverse x) y) v (at-implies (itself w) (itself u))
 
-pub equiv-means : {x y m : ℕ} → Wf width x → Wf width y → Wf width m
-    → Means width (bitAnd (inverse (bitXor x y)) m) (EquivOn (At m) (At x) (At y))
+pub equiv-means : {x y p : ℕ} {g : Reading} → Wf width x → Wf width y → Means width p g
+    → Means width (bitAnd (inverse (bitXor x y)) p) (And g (Equiv (At x) (At y)))
 equiv-means {x} {y} w u v = masked (inverse (bitXor x y)) v (λ i h. iff i (at-inverse (wide (xor-lt width x y (wf-lt w) (wf-lt u))) i h))
   where
     iff : (i : ℕ) → At (inverse (bitXor x y)) i ↔ Not (At (bitXor x y)) i → At (inverse (bitXor x y)) i ↔ Equiv (At x) (At y) i
@@ -84,9 +93,9 @@ strong-next-means {x} w =
     means (w .short) (λ i h. let p = at-next x i .0 h in let l = at-below w (i + 1) p in (omega arith, (l, p)))
     (λ i h t. at-next x i .1 (t .1))
 
-pub weak-next-means : {x m : ℕ} → Wf width x → Wf width m
-    → Means width (bitAnd (bitOr (inverse (m / 2 ^ 1)) (x / 2 ^ 1)) m) (WeakNextOn (At m) (At x))
-weak-next-means {x} {m} w v = masked (bitOr (inverse (m / 2 ^ 1)) (x / 2 ^ 1)) v (at-implies (strong-next-means v) (strong-next-means w))
+pub weak-next-means : {x m p : ℕ} {g : Reading} → Wf width x → Wf width m → Means width p g
+    → Means width (bitAnd (bitOr (inverse (m / 2 ^ 1)) (x / 2 ^ 1)) p) (And g (Implies (StrongNext width (At m)) (StrongNext width (At x))))
+weak-next-means {x} {m} w v k = masked (bitOr (inverse (m / 2 ^ 1)) (x / 2 ^ 1)) k (at-implies (strong-next-means v) (strong-next-means w))
 
 -- ---- the doubling shifts, to 64 places
 
@@ -97,8 +106,8 @@ smear d v = bitOr v (v / 2 ^ d)
 abbrev pub finallyWord : ℕ → ℕ
 finallyWord x = smear 32 (smear 16 (smear 8 (smear 4 (smear 2 (smear 1 x)))))
 
-pub finally-means : {x : ℕ} → Wf width x → Means width (finallyWord x) (Finally width (At x))
-finally-means {x} w =
+ahead : {x : ℕ} → Wf width x → Means width (finallyWord x) (Finally width (At x))
+ahead {x} w =
     let s₁ = some-double 1 _ (some-first x) in
     let s₂ = some-double 2 _ s₁ in
     let s₃ = some-double 4 _ s₂ in
@@ -108,6 +117,16 @@ finally-means {x} w =
     means (w .short)
     (λ i h. let t = s₆ i .0 h in let l = at-below w (t .0) (t .3) in (omega arith, (t .0, t .1, l, t .3)))
     (λ i h t. s₆ i .1 (t .0, t .1, omega arith, t .3))
+
+-- of what is cut to the mask
+pub finally-means : {x m : ℕ} → Wf width x → Wf width m → Means width (finallyWord (bitAnd x m)) (FinallyOn (At m) (At x))
+finally-means {x} {m} w v = let p = ahead (and-means w v .wf) in record {
+  wf = p .wf;
+  holds = λ i h. (
+    λ t. let s = p .holds i h .0 t in let b = at-and x m (s .0) (s .3) in (s .0, s .1, s .2, (b .1, b .0)),
+    λ s. p .holds i h .1 (s .0, s .1, s .2, and-at x m (s .0) (s .3 .1) (s .3 .0)),
+  );
+}
 
 -- one step of `until` on its two words
 abbrev meet : ℕ → ℕ → ℕ
@@ -155,47 +174,57 @@ until-whole {x} {y} {d} {v} {w} u l s = reached-means x y d w u l (s .reached)
 pub until-stopped : {x y d v w : ℕ} → Wf width y → d ≤ width → v ≡ 0 → Doubled x y d v w → Means width w (Until width (At x) (At y))
 until-stopped {x} {y} {d} {v} {w} u l e s = reached-means x y width w u (omega arith) (reach-stop d width v w e (s .run) (s .reached) l)
 
-pub until-means : {x y : ℕ} → Wf width x → Wf width y → Means width (untilWord x y) (Until width (At x) (At y))
-until-means w u =
-    until-whole u (omega arith)
-    (doubled-next 32 (doubled-next 16 (doubled-next 8 (doubled-next 4 (doubled-next 2 (doubled-next 1 doubled-first))))))
+-- of a right word that is cut to the mask
+pub until-on : (x y m : ℕ) {r : ℕ} → Means width r (Until width (At x) (At (bitAnd y m))) → Means width r (UntilOn (At m) (At x) (At y))
+until-on x y m p = record {
+  wf = p .wf;
+  holds = λ i h. (
+    λ t. let s = p .holds i h .0 t in let b = at-and y m (s .0) (s .3) in (s .0, s .1, s .2, (b .1, b .0), s .4),
+    λ s. p .holds i h .1 (s .0, s .1, s .2, and-at y m (s .0) (s .3 .1) (s .3 .0), s .4),
+  );
+}
+
+pub until-means : {x y m : ℕ} → Wf width x → Wf width y → Wf width m → Means width (untilWord x (bitAnd y m)) (UntilOn (At m) (At x) (At y))
+until-means {x} {y} {m} w u v =
+    until-on x y m (until-whole (and-means u v .wf) (omega arith)
+    (doubled-next 32 (doubled-next 16 (doubled-next 8 (doubled-next 4 (doubled-next 2 (doubled-next 1 doubled-first)))))))
 
 -- ---- the duals: `!F!` and `!(!x U !y)` on the places of a mask
 
 module _ (x m : ℕ) {a : ℕ} (inv : Means width a (NotOn (At m) (At x))) where
-  -- a place of the mask that the negation leaves out is one where x holds
-  left-out : (i : ℕ) → i < width → (At a i → ⊥) → At m i → At x i
+  -- a place that the negation leaves out is one where x holds
+  left-out : (i : ℕ) → i < width → (At a i → ⊥) → Placed (At m) i → At x i
   left-out i h p q = ⊎-elim (λ t. t) (λ t. absurd (p (inv .holds i h .1 (q, t)))) (at-or-not x i)
 
-  pub globally-means : {b r : ℕ} → Means width b (Finally width (At a)) → Means width r (NotOn (At m) (At b))
+  pub globally-means : {b r : ℕ} → Means width b (FinallyOn (At m) (At a)) → Means width r (NotOn (At m) (At b))
       → Means width r (GloballyOn (At m) (At x))
   globally-means f g = record {
     wf = g .wf;
     holds = λ i h. (
-      λ t. let p = g .holds i h .0 t in (p .0, λ j l k. left-out j k (λ q. p .1 (f .holds i h .1 (j, l, k, q)))),
-      λ t. g .holds i h .1 (t .0, λ q. let s = f .holds i h .0 q in let n = inv .holds (s .0) (s .2) .0 (s .3) in n .1 (t .1 (s .0) (s .1) (s .2) (n .0))),
+      λ t. let p = g .holds i h .0 t in (p .0, λ j l k q. left-out j k (λ s. p .1 (f .holds i h .1 (j, l, k, (q, s)))) (inl q)),
+      λ t. g .holds i h .1 (t .0, λ q. let s = f .holds i h .0 q in let n = inv .holds (s .0) (s .2) .0 (s .3 .1) in n .1 (t .1 (s .0) (s .1) (s .2) (s .3 .0))),
     );
   }
 
 -- from i on, within the places of a mask, and up to a j at which y fails, x held at some place: or else the negations would run up to j
 pub release-means : (x y m : ℕ) {a b u r : ℕ} → Means width a (NotOn (At m) (At x)) → Means width b (NotOn (At m) (At y))
-    → Means width u (Until width (At a) (At b)) → Means width r (NotOn (At m) (At u))
+    → Means width u (UntilOn (At m) (At a) (At b)) → Means width r (NotOn (At m) (At u))
     → Means width r (ReleaseOn (At m) (At x) (At y))
 release-means x y m {a} {b} {u} {r} na nb f g = record { wf = g .wf; holds = λ i h. (to i h, from i h) }
   where
-    to : (i : ℕ) → i < width → At r i → At m i × Release width (Implies (At m) (At x)) (Implies (At m) (At y)) i
+    to : (i : ℕ) → i < width → At r i → ReleaseOn (At m) (At x) (At y) i
     to i h t =
         let p = g .holds i h .0 t in
-        (p .0, λ j l k. ⊎-elim (λ e. inr (held (p .1) j l k e)) (λ e. inl (left-out y m nb j k e)) (at-or-not b j))
+        (p .0, λ j l k. ⊎-elim (λ e. ⊎-elim (λ q. inr (held (p .1) j l k q e)) (λ q. inl (λ n. absurd (q n))) (at-or-not m j)) (λ e. inl (λ q. left-out y m nb j k e (inl q))) (at-or-not b j))
       where
-        held : (At u i → ⊥) → (j : ℕ) → i ≤ j → j < width → At b j → (k : ℕ) × (i ≤ k) × (k < j) × Implies (At m) (At x) k
-        held e j l k q = ⊎-elim (λ s. (s .0, s .1, omega arith, left-out x m na (s .0) (omega arith) (s .3)))
-            (λ s. absurd (e (f .holds i h .1 (j, l, k, q, λ n c d. ⊎-elim (λ p. p) (λ p. absurd (s n c (omega arith) p)) (at-or-not a n)))))
+        held : (At u i → ⊥) → (j : ℕ) → i ≤ j → j < width → At m j → At b j → (k : ℕ) × (i ≤ k) × (k < j) × Implies (Placed (At m)) (At x) k
+        held e j l k o q = ⊎-elim (λ s. (s .0, s .1, omega arith, left-out x m na (s .0) (omega arith) (s .3)))
+            (λ s. absurd (e (f .holds i h .1 (j, l, k, (o, q), λ n c d. ⊎-elim (λ p. p) (λ p. absurd (s n c (omega arith) p)) (at-or-not a n)))))
             (find (Not (At a)) (λ n. ⊎-elim (λ p. inr (λ e. e p)) (λ p. inl p) (at-or-not a n)) (j - i) i)
 
-    from : (i : ℕ) → i < width → At m i × Release width (Implies (At m) (At x)) (Implies (At m) (At y)) i → At r i
+    from : (i : ℕ) → i < width → ReleaseOn (At m) (At x) (At y) i → At r i
     from i h t = g .holds i h .1 (
       t .0,
-      λ q. let s = f .holds i h .0 q in let n = nb .holds (s .0) (s .2) .0 (s .3) in
-          ⊎-elim (λ p. n .1 (p (n .0))) (λ p. let o = na .holds (p .0) (omega arith) .0 (s .4 (p .0) (p .1) (p .2)) in o .1 (p .3 (o .0))) (t .1 (s .0) (s .1) (s .2)),
+      λ q. let s = f .holds i h .0 q in let n = nb .holds (s .0) (s .2) .0 (s .3 .1) in
+          ⊎-elim (λ p. n .1 (p (s .3 .0))) (λ p. let o = na .holds (p .0) (omega arith) .0 (s .4 (p .0) (p .1) (p .2)) in o .1 (p .3 (o .0))) (t .1 (s .0) (s .1) (s .2)),
     )

@@ -2,3 +2,4 @@
 pub mod Ltlf
 pub mod Word
 pub mod Masked
+pub mod Promises

@@ -1,7 +1,7 @@
 -- LTL on finite traces, position by position (document 01, "Sequences and their reading"; De Giacomo and Vardi 2013).
--- A reading says of each position whether a formula holds there; n is the trace's length, and an operator is read at a position i below n.
+-- A reading says of each position whether a formula holds there; n is the trace's length, and an operator is read at a position i below n. The empty
+-- trace is read at 0 by the same clauses (document 02, E4), so nothing here is special about length 0.
 -- Assumes nothing.
-use mathlib.Core.Path.{_≡_}
 use mathlib.Core.Logic.{_↔_, _⊎_}
 use Prim.Native.Nat.{ℕ, _+_, _≤_, _<_}
 
@@ -28,9 +28,10 @@ Equiv f g i = f i ↔ g i
 abbrev pub StrongNext : ℕ → Reading → Reading
 StrongNext n f i = (i + 1 < n) × f (i + 1)
 
--- "`X` f holds at i if i+1 = n or f holds at i+1."
+-- "`X` f holds at i if i+1 = n or f holds at i+1.": where i+1 < n, f holds at i+1. For i below n it is the same (`next-below`), and so the empty trace
+-- is read too
 abbrev pub WeakNext : ℕ → Reading → Reading
-WeakNext n f i = (i + 1 ≡ n) ⊎ f (i + 1)
+WeakNext n f i = i + 1 < n → f (i + 1)
 
 -- "`F` f: f holds at some j, i <= j < n."
 abbrev pub Finally : ℕ → Reading → Reading
@@ -48,6 +49,6 @@ Until n f g i = (j : ℕ) × (i ≤ j) × (j < n) × g j × ((k : ℕ) → i ≤
 abbrev pub Release : ℕ → Reading → Reading → Reading
 Release n f g i = (j : ℕ) → i ≤ j → j < n → g j ⊎ ((k : ℕ) × (i ≤ k) × (k < j) × f k)
 
--- "A session accepts a formula if n > 0 and the formula holds at 0." A recorded session, a sequence and a row of a matrix accept by this
-abbrev pub AcceptsAt : ℕ → Reading → Type 0
-AcceptsAt n f = (0 < n) × f 0
+-- "A session accepts a formula if .. the formula holds at 0.", by 02 at every length. A recorded session, a sequence and a row of a matrix accept by this
+abbrev pub AcceptsAt : Reading → Type 0
+AcceptsAt f = f 0

@@ -2,7 +2,7 @@
 -- Assumes nothing.
 use mathlib.Core.Path.{_≡_}
 use mathlib.Core.Logic.{_↔_}
-use Prim.Native.Nat.{ℕ, _/_, _%_, _^_, _≤_, _<_}
+use Prim.Native.Nat.{ℕ, _/_, _%_, _^_, _≤_, _<_, max}
 use Rattle.words.specs.Ltlf.{Reading}
 
 -- "a 64-bit word": the bits that it has, which is also the largest length
@@ -26,9 +26,10 @@ pub record Wf (n x : ℕ) : Type 0 where
 abbrev pub WfRecorded : ℕ → ℕ → Type 0
 WfRecorded n x = Wf n x
 
--- the places of a formula's word at length n: one for each snapshot
+-- the places of a formula's word at length n: one for each snapshot, and the first at every length. "At length 0, bit 0 of a formula's word then is its
+-- acceptance" (document 02, E4)
 abbrev pub places : ℕ → ℕ
-places n = n
+places n = max n 1
 
 -- a word that was computed has a bit for each of these places
 abbrev pub WfComputed : ℕ → ℕ → Type 0

@@ -1,8 +1,8 @@
-//! `scarfpylon_unary` and `scarfpylon_binary` against the Rust's operators, and the rows of refusals.
+//! `scarfpylon_unary` and `scarfpylon_binary` against the Rust's operators, document 02's table at length 0, and the rows of refusals.
 use super::judged::{Call, Judged, List};
 use crate::boundary::Function;
-use crate::oracle;
-use crate::query::{ones, Query, Seq, BINARY, UNARY};
+use crate::empty;
+use crate::query::{words, Query, Seq, BINARY, UNARY};
 use crate::refusals;
 
 fn call(query: Query, out: List) -> Call {
@@ -22,7 +22,7 @@ fn call(query: Query, out: List) -> Call {
 
 fn ask(judged: &mut Judged, query: Query) {
     let out = judged.out();
-    let due = out.with(&[oracle::answer(query).word]);
+    let due = out.with(&[empty::due(query).word]);
     judged.hold(&call(query, out), 0, &[(0, due)]);
 }
 
@@ -40,8 +40,8 @@ fn each(judged: &mut Judged, length: u64, left: u64, right: u64) {
 
 pub fn compare(judged: &mut Judged, rounds: u64) {
     for length in 0..=4 {
-        for left in 0..=ones(length) {
-            for right in 0..=ones(length) {
+        for left in words(length) {
+            for right in words(length) {
                 each(judged, length, left, right);
             }
         }

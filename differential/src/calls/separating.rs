@@ -1,6 +1,8 @@
-//! `scarfpylon_check` against the Rust's `eval`: a random formula and the marks that it gives, right and wrong; then broken input.
+//! `scarfpylon_check` against the Rust's `eval`, and document 02's reading of empty sessions: a random formula and the marks that it gives, right and
+//! wrong; then broken input.
 use super::judged::{Call, Judged, List};
 use crate::boundary::Function;
+use crate::empty;
 use crate::formulas::{formula, names, Formula, Node};
 use crate::ltl::trace::Trace;
 use crate::oracle;
@@ -137,7 +139,18 @@ pub fn compare(judged: &mut Judged, rounds: u64) {
             };
             let traces: Vec<Trace> = (0..r).map(trace).collect();
             let accepted = f.tree.eval(&traces).accepted_vec();
-            given.marks = accepted.into_iter().map(|b| b as u8).collect();
+            let of_session = |(j, b): (usize, bool)| {
+                if given.lengths[j] == 0 {
+                    empty::accepts(&f.tree)
+                } else {
+                    b
+                }
+            };
+            given.marks = accepted
+                .into_iter()
+                .enumerate()
+                .map(|pair| of_session(pair) as u8)
+                .collect();
 
             let good = call(judged, &given, &f);
             let due = good.lists[7].with(&[1]);

@@ -54,6 +54,6 @@ pub fn run() -> i32 {
         Ok(outcome) => say(&format!("the Rust, with {hash}"), &outcome),
         Err(_) => println!("the Rust runs on and on"),
     }
-    say("document 01's prose", &prose::outcome(&input));
+    say("document 01's prose", &prose::outcome(&input, u64::MAX).unwrap());
     0
 }

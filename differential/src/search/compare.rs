@@ -40,6 +40,24 @@ impl Extent {
 /// Work of the plain walk above which it isn't asked: it goes position by position.
 const PROSE: u64 = 30_000;
 
+/// The most leaves: size 1 is always gone through.
+const LEAVES: u64 = 18;
+
+/// What the plain walk costs a candidate.
+fn snapshots(input: &Input) -> u64 {
+    input.lengths.iter().map(|n| (1 + *n as u64).pow(2)).sum()
+}
+
+/// How the search has to end, or the size at which more than `limit` candidates were tried: by the Rust, or, where a session is empty, by the walk
+/// written from the documents' prose, which is let try as many as it does in the time of one that is asked beside the Rust.
+pub fn due(input: &Input, limit: u64) -> Result<Outcome, usize> {
+    if input.has_empty() {
+        prose::outcome(input, limit.min(LEAVES + PROSE / snapshots(input)))
+    } else {
+        counted::outcome(input, limit)
+    }
+}
+
 struct Comparison {
     library: Box<dyn Boundary>,
     tally: Tally,
@@ -116,22 +134,23 @@ impl Comparison {
         tally
     }
 
-    /// A good input, whose ending the Rust has to know; it tries no more than `limit` candidates.
+    /// A good input, whose ending the Rust has to know; it tries no more than `limit` candidates. Where a session is empty, document 02 is the judge.
     fn good(&mut self, mut input: Input, limit: u64) {
-        let outcome = match counted::outcome(&input, limit) {
+        let outcome = match due(&input, limit) {
             Ok(outcome) => outcome,
             Err(size) => {
                 self.tally.lowered += 1;
                 input.bound = size - 1;
-                counted::outcome(&input, limit).expect("a smaller bound ends sooner")
+                due(&input, limit).expect("a smaller bound ends sooner")
             }
         };
         self.tally.ended(&input, &outcome);
-        let snapshots: u64 = input.lengths.iter().map(|n| (1 + *n as u64).pow(2)).sum();
         let mut wrong = None;
-        if outcome.tried * snapshots <= PROSE {
+        if input.has_empty() {
             self.tally.prose += 1;
-            if prose::outcome(&input) != outcome {
+        } else if outcome.tried * snapshots(&input) <= PROSE {
+            self.tally.prose += 1;
+            if prose::outcome(&input, u64::MAX).as_ref() != Ok(&outcome) {
                 wrong = Some("the Rust and document 01's prose disagree".to_string());
             }
         }
@@ -161,10 +180,10 @@ impl Comparison {
     fn settled(&mut self) {
         for example in settled::taken() {
             let before = self.tally.differ;
-            let outcome = counted::outcome(&example.input, u64::MAX).expect("a settled example ends");
+            let outcome = due(&example.input, u64::MAX).expect("a settled example ends");
             self.good(example.input.clone(), u64::MAX);
             if !example.allows(&outcome) {
-                let wrong = "the Rust's answer is not the one that document 01 settles".to_string();
+                let wrong = "the answer is not the one that the documents settle".to_string();
                 self.tally.compared(&example.input, Some(wrong));
             }
             self.say(example.name, &said(&outcome), before);
@@ -222,9 +241,20 @@ pub fn run(way: Way, extent: Extent) -> i32 {
     let small = comparison.section("small inputs in turn");
     for number in 0..extent.random {
         let (input, limit) = drawn::draw(number);
-        comparison.good(input, limit);
+        if !input.has_empty() {
+            comparison.good(input, limit);
+        } else if let Some(input) = input.without_empty() {
+            comparison.good(input, limit);
+        }
     }
-    let random = comparison.section("random inputs");
+    let random = comparison.section("random inputs without empty sessions, by the Rust");
+    for number in 0..extent.random {
+        let (input, limit) = drawn::draw(number);
+        if input.has_empty() {
+            comparison.good(input, limit);
+        }
+    }
+    let with_empty = comparison.section("random inputs with empty sessions, by the documents' prose");
     for number in 0..extent.random / 4 {
         comparison.broken(number);
     }
@@ -233,13 +263,14 @@ pub fn run(way: Way, extent: Extent) -> i32 {
         "altered answers: {} seen to be wrong, {} not seen",
         comparison.seen, comparison.unseen
     );
-    let differ = settled.differ + small.differ + random.differ + broken.differ;
+    let differ = settled.differ + small.differ + random.differ + with_empty.differ + broken.differ;
     println!(
-        "compared {} searches ({} settled, {} small ones in turn, {} random, {} refused), {differ} differ",
-        settled.compared + small.compared + random.compared + broken.compared,
+        "compared {} searches ({} settled, {} small ones in turn, {} random, {} random with empty sessions, {} refused), {differ} differ",
+        settled.compared + small.compared + random.compared + with_empty.compared + broken.compared,
         settled.compared,
         small.compared,
         random.compared,
+        with_empty.compared,
         broken.compared,
     );
     (differ > 0 || comparison.unseen > 0) as i32

@@ -3,6 +3,7 @@ use std::rc::Rc;
 
 use super::counted::{leaves, traces};
 use super::input::Input;
+use crate::empty;
 use crate::formula::tree::FormulaTree;
 use crate::ltl::{cm::CharMatrix, trace::Trace, Constant};
 use crate::oracle;
@@ -174,8 +175,16 @@ fn mark(random: &mut Random, input: &Input, traces: &[Trace]) -> Vec<u8> {
         1 => 3 + random.below(7),
         _ => 1 + random.below(input.bound as u64),
     };
-    let accepted = formula(random, input, size).eval(traces).accepted_vec();
-    let mut marks: Vec<u8> = accepted.into_iter().map(|b| b as u8).collect();
+    let planted = formula(random, input, size);
+    let mut marks: Vec<u8> = planted
+        .eval(traces)
+        .accepted_vec()
+        .into_iter()
+        .map(|b| b as u8)
+        .collect();
+    for j in (0..input.r).filter(|j| input.lengths[*j] == 0) {
+        marks[j] = empty::accepts(&planted) as u8;
+    }
     if how == 3 {
         marks[random.below(input.r as u64) as usize] ^= 1;
     }

@@ -49,9 +49,28 @@ impl Input {
         self.words[session * self.m + proposition]
     }
 
-    /// The word with a bit for each snapshot of the session.
+    /// The word with a bit for each place of a formula's word in the session.
     pub fn mask(&self, session: usize) -> u64 {
-        ones(self.lengths[session] as u64)
+        ones(self.lengths[session].max(1) as u64)
+    }
+
+    /// Whether some session is empty: then the Rust, which accepts nothing there, can't be the judge.
+    pub fn has_empty(&self) -> bool {
+        self.lengths[..self.r].contains(&0)
+    }
+
+    /// The same without its empty sessions, if any others are left.
+    pub fn without_empty(&self) -> Option<Input> {
+        let left: Vec<usize> = (0..self.r).filter(|j| self.lengths[*j] > 0).collect();
+        let mut input = self.clone();
+        input.r = left.len();
+        input.marks = left.iter().map(|j| self.marks[*j]).collect();
+        input.lengths = left.iter().map(|j| self.lengths[*j]).collect();
+        input.words = left
+            .iter()
+            .flat_map(|j| (0..self.m).map(|p| self.word(*j, p)))
+            .collect();
+        (input.r > 0).then_some(input)
     }
 
     /// Smaller inputs are reported first.

@@ -15,8 +15,8 @@ pub mod stored;
 mod tally;
 
 pub use collision::run as collision;
-pub use compare::{run, Extent};
+pub use compare::{due, run, Extent};
 pub use input::Input;
-pub use outside::{beyond, findings};
+pub use outside::{beyond, empty, findings};
 pub use speed::run as speed;
 pub use speed::run_beside as speed_beside;

@@ -1,6 +1,7 @@
 //! What the Rust's own search does where document 01 asks for something else: its seeds, a bound of 0, an operator listed twice, larger numbers.
 use super::counted::{self, Start};
-use super::input::Input;
+use super::input::{Ending, Input, Outcome};
+use super::prose;
 use crate::algos::aux::enum_aux;
 use crate::cache::{EnumFormulaCache, EnumFormulaCacheLine};
 use crate::formula::rebuild_formula;
@@ -53,6 +54,32 @@ pub fn findings() {
         println!(
             "  the session marked 1, B = 2, unary operators {:?}: tried {tried}",
             twice.unary
+        );
+    }
+}
+
+/// An empty session marked 1: the Rust accepts nothing there.
+pub fn empty() {
+    println!("The empty session (02, E4), one marked 1 with one proposition; the Rust with its leaves tried, and the documents' prose:");
+    let ending = |outcome: Outcome| match outcome.ending {
+        Ending::Found(root) => format!(
+            "found code {}, tried {}, kept {}",
+            root.code,
+            outcome.tried,
+            outcome.kept()
+        ),
+        Ending::None => format!("none, tried {}, kept {}", outcome.tried, outcome.kept()),
+        Ending::Full(size) => format!("full at {size}"),
+    };
+    for (what, bound, constants, unary) in [("constants, B = 1", 1, 1, vec![]), ("`!`, B = 2", 2, 0, vec![0])] {
+        let mut input = smallest(bound, unary);
+        input.marks = vec![1];
+        input.constants = constants;
+        input.room = 4;
+        let rust = ending(counted::outcome(&input, u64::MAX).unwrap());
+        println!(
+            "  {what}: {rust}; {}",
+            ending(prose::outcome(&input, u64::MAX).unwrap())
         );
     }
 }

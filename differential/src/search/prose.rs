@@ -1,12 +1,13 @@
-//! A third voice: document 01's walk, written from its prose alone and position by position, slow and plain. It shares nothing with the Rust's files.
+//! A third voice: document 01's walk, with document 02's reading of the empty trace, written from their prose alone and position by position, slow and
+//! plain. It shares nothing with the Rust's files, and is the judge where a session is empty.
 use super::input::{Ending, Input, Node, Outcome};
 
-/// Whether the formula holds at position i below n, from where its children hold.
+/// Whether the formula holds at position i below n, or at 0 where n is 0, from where its children hold.
 fn holds(code: u8, n: u32, i: u32, f: u64, g: u64) -> bool {
     let at = |word: u64, j: u32| word >> j & 1 == 1;
     match code {
         0 => !at(f, i),
-        1 => i + 1 == n || at(f, i + 1),
+        1 => i + 1 >= n || at(f, i + 1),
         2 => i + 1 < n && at(f, i + 1),
         3 => (i..n).any(|j| at(f, j)),
         4 => (i..n).all(|j| at(f, j)),
@@ -22,6 +23,8 @@ fn holds(code: u8, n: u32, i: u32, f: u64, g: u64) -> bool {
 
 struct Walk<'a> {
     input: &'a Input,
+    /// More candidates than this are not tried.
+    limit: u64,
     tried: u64,
     kept: Vec<(Node, Vec<u64>)>,
 }
@@ -31,7 +34,7 @@ impl Walk<'_> {
         let row = |j: usize| {
             let n = self.input.lengths[j] as u32;
             let (f, g) = (self.kept[left].1[j], self.kept[right].1[j]);
-            (0..n)
+            (0..n.max(1))
                 .filter(|i| holds(code, n, *i, f, g))
                 .fold(0, |word, i| word | 1 << i)
         };
@@ -41,7 +44,7 @@ impl Walk<'_> {
     /// One candidate; an ending if it decides.
     fn candidate(&mut self, node: Node, matrix: Vec<u64>) -> Option<Ending> {
         self.tried += 1;
-        let accepts = |j: usize| self.input.lengths[j] > 0 && matrix[j] & 1 == 1;
+        let accepts = |j: usize| matrix[j] & 1 == 1;
         if (0..self.input.r).all(|j| accepts(j) == (self.input.marks[j] == 1)) {
             return Some(Ending::Found(node));
         }
@@ -56,6 +59,9 @@ impl Walk<'_> {
     }
 
     fn operator(&mut self, code: u8, left: usize, right: usize, size: usize) -> Option<Ending> {
+        if self.tried > self.limit {
+            return None;
+        }
         let matrix = self.apply(code, left, right);
         let node = Node {
             code,
@@ -127,10 +133,11 @@ impl Walk<'_> {
     }
 }
 
-/// How the walk of a good input ends.
-pub fn outcome(input: &Input) -> Outcome {
+/// How the walk of a good input ends, or the size at which it had tried more than `limit` candidates.
+pub fn outcome(input: &Input, limit: u64) -> Result<Outcome, usize> {
     let mut walk = Walk {
         input,
+        limit,
         tried: 0,
         kept: vec![],
     };
@@ -139,11 +146,14 @@ pub fn outcome(input: &Input) -> Outcome {
         if ending.is_none() {
             ending = walk.size(s);
         }
+        if walk.tried > limit {
+            return Err(s);
+        }
     }
-    Outcome {
+    Ok(Outcome {
         ending: ending.unwrap_or(Ending::None),
         tried: walk.tried,
         nodes: walk.kept.iter().map(|kept| kept.0).collect(),
         matrices: walk.kept.into_iter().flat_map(|kept| kept.1).collect(),
-    }
+    })
 }

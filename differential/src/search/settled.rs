@@ -1,4 +1,4 @@
-//! S1 to S5 of document 01, by name: what each is given, and what 01 says of its ending. S5 says only which side is refused.
+//! S1 to S5 of document 01, by name, S4 as document 02 amends it: what each is given, and what they say of its ending. S5 says only which side is refused.
 use super::input::{Ending, Input, Node, Outcome};
 use crate::words::Random;
 
@@ -85,8 +85,8 @@ pub fn taken() -> Vec<Example> {
         example("S2, C = 1", two(2, 1), Some(Ending::Full(2)), Some(2), Some(1)),
         example("S2, B = 3 and C = 2", two(3, 2), none, Some(3), None),
         example("S3", three, found(7, 0, 1, 3), Some(5), Some(2)),
-        example("S4, B = 2", four(1, 2), none, Some(6), Some(1)),
-        example("S4, B = 3", four(1, 3), none, Some(15), None),
+        example("S4, B = 2", four(1, 2), found(0, 0, 0, 2), Some(2), Some(1)),
+        example("S4, B = 3", four(1, 3), found(0, 0, 0, 2), Some(2), Some(1)),
         example("S4, mark 0", four(0, 3), found(16, 0, 0, 1), Some(1), Some(0)),
         example("S5, 64, 32, 31, 4096", limits(64, 32, 31, 4096), None, None, None),
         example("S5, 64, 32, 31, 4096, all kept", filled(), None, None, Some(4096)),

@@ -1,7 +1,7 @@
 //! A stored sample of searches with the Rust's answers: a module of our program `searches`, and what it has to print, so that the gate runs them with
 //! no Rust at hand.
-use super::counted;
 use super::drawn;
+use super::due;
 use super::input::{Ending, Input};
 use super::lent::Lent;
 
@@ -24,7 +24,7 @@ fn inputs() -> Vec<Input> {
         if !fits || input.unary.len() + input.binary.len() < 2 {
             continue;
         }
-        let Ok(outcome) = counted::outcome(&input, 1000) else {
+        let Ok(outcome) = due(&input, 1000) else {
             continue;
         };
         // Walks that have come somewhere.
@@ -151,7 +151,7 @@ pub fn lines() -> String {
     }
     let mut text = String::new();
     for (number, input) in inputs().iter().enumerate() {
-        let outcome = counted::outcome(input, u64::MAX).unwrap();
+        let outcome = due(input, 1000).unwrap();
         let mut lent = Lent {
             codes: vec![9; PLACES],
             lefts: vec![9; PLACES],

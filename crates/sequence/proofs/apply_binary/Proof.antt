@@ -4,7 +4,7 @@ use mathlib.Core.Path.{sym, subst}
 use Prim.Native.Nat.{ℕ}
 use native.Mathlib.Omega.{arith}
 use borrow.Author.Needs.{needs}
-use Rattle.words.specs.Word.{Wf}
+use Rattle.words.specs.Word.{WfComputed}
 use Rattle.sequence.specs.declared.CharSeq.{CharSeq}
 use Rattle.rules.specs.Refusals.{Decided}
 use Rattle.sequence.specs.Masked.{BinaryBy}
@@ -58,7 +58,7 @@ binary-requires c κs = search needs
 read : (code : ℕ) (s t r : CharSeq) → Decided (binaryRows code s t) 0 → BinaryBy code s t r → BinaryRead code s t r
 read code s t r d (operator op e p) =
     let q = binary-passed code s t d in
-    (op, e, binary-reads op s t r (q .1) (subst (λ (n : ℕ). Wf n (t .values)) (sym (q .3)) (q .2)) p)
+    (op, e, binary-reads op s t r (q .1) (subst (λ (n : ℕ). WfComputed n (t .values)) (sym (q .3)) (q .2)) p)
 read code s t r d (nothing n e) = absurd (binary-passed code s t d .0 n)
 
 returns-2 : tie.Need-returns-2

@@ -19,16 +19,12 @@ returns-3 : tie.Need-returns-3
 unfolding agreeing
 returns-3 c = rw (le-leb _ _ (c .before .before .if1 .left), le-leb _ _ (c .before .if2 .left), lt-leb _ _ (c .if3 .taken))
 
-returns-4 : tie.Need-returns-4
-unfolding agreeing
-returns-4 c = rw (le-leb _ _ (c .before .before .before .if1 .left), le-leb _ _ (c .before .before .if2 .left), le-leb _ _ (c .before .if3 .left), lt-leb _ _ (c .if4 .taken))
-
 all-agree-requires : tie.Need-all-agree-requires
 all-agree-requires c κs = search needs
 
-returns-5 : tie.Need-returns-5
+returns-4 : tie.Need-returns-4
 unfolding agreeing
-returns-5 c = rw (le-leb _ _ (c .before .before .before .before .if1 .left), le-leb _ _ (c .before .before .before .if2 .left), le-leb _ _ (c .before .before .if3 .left), le-leb _ _ (c .before .if4 .left)) (c .all-agree .ensures)
+returns-4 c = rw (le-leb _ _ (c .before .before .before .if1 .left), le-leb _ _ (c .before .before .if2 .left), le-leb _ _ (c .before .if3 .left)) (c .all-agree .ensures)
 
 pub agrees-spec : {M : Type 1} → statement M
 agrees-spec =
@@ -37,6 +33,5 @@ agrees-spec =
     returns
     returns-2
     returns-3
-    returns-4
     all-agree-requires
-    returns-5)
+    returns-4)

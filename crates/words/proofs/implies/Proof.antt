@@ -1,12 +1,16 @@
 -- `words::implies` meets its contract.
 -- Assumes nothing.
 use native.Mathlib.Omega.{arith}
+use borrow.Author.Needs.{needs}
 use Rattle.words.proofs.Operators.{wide, implies-means}
 use Rattle.words.proofs.implies.Statement.{statement}
 use Rattle.words.proofs.implies.Tie as tie
 
+places-requires : tie.Need-places-requires
+places-requires c κs = search needs
+
 returns : tie.Need-returns
-returns c = implies-means (wide (omega arith)) (wide (omega arith)) (wide (omega arith))
+returns c = implies-means (wide (omega arith)) (wide (omega arith)) (c .places .ensures)
 
 pub implies-spec : {M : Type 1} → statement M
-implies-spec = tie.close (tie.spec returns)
+implies-spec = tie.close (tie.spec places-requires returns)

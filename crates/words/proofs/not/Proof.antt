@@ -1,12 +1,16 @@
 -- `words::not` meets its contract.
 -- Assumes nothing.
 use native.Mathlib.Omega.{arith}
+use borrow.Author.Needs.{needs}
 use Rattle.words.proofs.Operators.{wide, not-means}
 use Rattle.words.proofs.not.Statement.{statement}
 use Rattle.words.proofs.not.Tie as tie
 
+places-requires : tie.Need-places-requires
+places-requires c κs = search needs
+
 returns : tie.Need-returns
-returns c = not-means (wide (omega arith)) (wide (omega arith))
+returns c = not-means (wide (omega arith)) (c .places .ensures)
 
 pub not-spec : {M : Type 1} → statement M
-not-spec = tie.close (tie.spec returns)
+not-spec = tie.close (tie.spec places-requires returns)

@@ -2,14 +2,14 @@
 -- Assumes nothing.
 use mathlib.Core.Path.{refl, sym}
 use mathlib.Core.Bool.{true, false, true≢false}
-use Rattle.sequence.proofs.Answers.{new-passed, new-refused}
+use Rattle.sequence.proofs.Answers.{recorded-passed, recorded-refused}
 use Rattle.file.proofs.Numbers.{clear-is}
 use borrow.Author.Needs.{needs}
 use Rattle.file.proofs.sessions.is_clear.Statement.{statement}
 use Rattle.file.proofs.sessions.is_clear.Tie as tie
 
-new-requires : tie.Need-new-requires
-new-requires c κs = search needs
+recorded-requires : tie.Need-recorded-requires
+recorded-requires c κs = search needs
 
 enum-told : tie.Need-enum-told
 enum-told c = search needs
@@ -19,15 +19,15 @@ enum-told-2 c = search needs
 
 returns : tie.Need-returns
 returns c =
-    let at-new = c .before .before in
-    let s = at-new .before in
-    clear-is (s .args .n) (s .args .w) (s .pre) false (λ h. absurd (true≢false (sym h)), λ w. absurd (new-refused (at-new .new .ensures) (c .enum-told2 .given .1) w))
+    let at-recorded = c .before .before in
+    let s = at-recorded .before in
+    clear-is (s .args .n) (s .args .w) (s .pre) false (λ h. absurd (true≢false (sym h)), λ w. absurd (recorded-refused (at-recorded .recorded .ensures) (c .enum-told2 .given .1) w))
 
 returns-2 : tie.Need-returns-2
 returns-2 c =
-    let at-new = c .before .before in
-    let s = at-new .before in
-    clear-is (s .args .n) (s .args .w) (s .pre) true (λ h. new-passed (at-new .new .ensures) (c .enum-told .given .1), λ w. refl)
+    let at-recorded = c .before .before in
+    let s = at-recorded .before in
+    clear-is (s .args .n) (s .args .w) (s .pre) true (λ h. recorded-passed (at-recorded .recorded .ensures) (c .enum-told .given .1), λ w. refl)
 
 pub is-clear-spec : {M : Type 1} → statement M
-is-clear-spec = tie.close (tie.spec new-requires enum-told enum-told-2 returns returns-2)
+is-clear-spec = tie.close (tie.spec recorded-requires enum-told enum-told-2 returns returns-2)

@@ -1,4 +1,4 @@
--- `leaf` meets its contract: by the code, the recorded word, no snapshot, or the mask.
+-- `leaf` meets its contract: by the code, the recorded word, no place, or every place.
 -- Assumes nothing.
 use mathlib.Core.Path.{_≡_, sym, subst}
 use Prim.Native.Nat.{ℕ, _+_}
@@ -46,10 +46,13 @@ returns-2 c = let a = c .before .before .before .before .before .before .before 
 mask-requires : tie.Need-mask-requires
 mask-requires c κs = search needs
 
+places-requires : tie.Need-places-requires
+places-requires c κs = search needs
+
 returns-3 : tie.Need-returns-3
-returns-3 c = let s = c .before .before .before .before .before .before .before .before .before .before in
+returns-3 c = let s = c .before .before .before .before .before .before .before .before .before .before .before in
     let a = s .args in
-    word-of-true (a .length) (a .words .now) (a .from) (nodes (a .codes .now) (a .lefts .now) (a .rights .now) (a .sizes .now)) (nodeOf (a .node)) (s .pre .0 .short) (true-code _ _ (a .below) (nodeOf (a .node)) (s .pre .0 .fits) (s .pre .1) (s .pre .2) (c .before .before .before .if1 .left) (c .before .if2 .left)) (c .mask .ensures)
+    word-of-true (a .length) (a .words .now) (a .from) (nodes (a .codes .now) (a .lefts .now) (a .rights .now) (a .sizes .now)) (nodeOf (a .node)) (c .before .mask .result) (s .pre .0 .short) (true-code _ _ (a .below) (nodeOf (a .node)) (s .pre .0 .fits) (s .pre .1) (s .pre .2) (c .before .before .before .before .if1 .left) (c .before .before .if2 .left)) (c .before .mask .ensures) (c .places .ensures)
 
 pub leaf-spec : {M : Type 1} → statement M
 leaf-spec =
@@ -63,4 +66,5 @@ leaf-spec =
     returns
     returns-2
     mask-requires
+    places-requires
     returns-3)

@@ -16,7 +16,7 @@ and-rows-requires : tie.Need-and-rows-requires
 and-rows-requires c κs = let p = c .before .before .before .before .before .before .pre in (p .1, p .2, p .3)
 
 until-rows-requires : tie.Need-until-rows-requires
-until-rows-requires c κs = let p = c .before .before .before .before .before .before .pre in (p .1, p .2, p .3)
+until-rows-requires c κs = let p = c .before .before .before .before .before .before .pre in (p .1, p .2, p .0, p .3)
 
 release-rows-requires : tie.Need-release-rows-requires
 release-rows-requires c κs = let p = c .before .before .before .before .before .before .pre in (p .1, p .2, p .0, p .3)

@@ -1,6 +1,5 @@
 -- `until_rows` meets its contract: the rows filled so far are the operator's.
 -- Assumes nothing.
-use mathlib.Core.List.{[]}
 use Prim.Native.Nat.{_-_, _≤_}
 use native.Mathlib.Omega.{arith}
 use borrow.Author.Needs.{needs}
@@ -12,10 +11,10 @@ use Rattle.rows.proofs.binary.until_rows.Statement.{statement}
 use Rattle.rows.proofs.binary.until_rows.Tie as tie
 
 abbrev Inv-loop : tie.InvT-loop
-Inv-loop r x y rows₀ j₀ rows j = (j ≤ r) × Filled j rows₀ (BinaryAt Binary.until [] x y) rows
+Inv-loop r masks x y rows₀ j₀ rows j = (j ≤ r) × Filled j rows₀ (BinaryAt Binary.until masks x y) rows
 
 abbrev μ-loop : tie.MeasureT-loop
-μ-loop r x y rows₀ j₀ rows j = r - j
+μ-loop r masks x y rows₀ j₀ rows j = r - j
 
 loop-holds : tie.Need-loop-holds Inv-loop μ-loop
 loop-holds c = (omega arith, filled-none _)
@@ -31,6 +30,12 @@ mul-until-2 c = omega arith
 
 shared-slice-read-until-2 : tie.Need-shared-slice-read-until-2 Inv-loop μ-loop
 shared-slice-read-until-2 c = omega arith
+
+mul-until-3 : tie.Need-mul-until-3 Inv-loop μ-loop
+mul-until-3 c = omega arith
+
+shared-slice-read-until-3 : tie.Need-shared-slice-read-until-3 Inv-loop μ-loop
+shared-slice-read-until-3 c = omega arith
 
 until-requires : tie.Need-until-requires Inv-loop μ-loop
 until-requires c κs = search needs
@@ -48,7 +53,7 @@ loop-less : tie.Need-loop-less Inv-loop μ-loop
 loop-less c = omega arith
 
 loop-again : tie.Need-loop-again Inv-loop μ-loop
-loop-again c = (omega arith, filled-more (omega arith) (c .before .before .before .before .loop .inv .1) (c .until .ensures))
+loop-again c = (omega arith, filled-more (omega arith) (c .before .before .before .before .before .loop .inv .1) (c .until .ensures))
 
 same-length : tie.Need-same-length Inv-loop μ-loop
 same-length c = c .before .loop .inv .1 .long
@@ -67,6 +72,8 @@ until-rows-spec =
     shared-slice-read-until
     mul-until-2
     shared-slice-read-until-2
+    mul-until-3
+    shared-slice-read-until-3
     until-requires
     mul-rows
     slice-write-rows

@@ -1,16 +1,18 @@
--- `true_rows` meets its contract: the rows filled so far are the masks.
+-- `true_rows` meets its contract: the rows filled so far have every place.
 -- Assumes nothing.
-use mathlib.Core.Path.{_≡_, refl}
 use Prim.Native.Nat.{_-_, _≤_}
 use native.Mathlib.Omega.{arith}
 use lib.ListN.{getD}
+use borrow.Author.Needs.{needs}
+use Rattle.words.specs.Masked.{Placed}
+use Rattle.words.specs.Word.{width, At, Means}
 use Rattle.rows.specs.Rows.{Filled}
 use Rattle.rows.proofs.Filling.{filled-none, filled-more, filled-all}
 use Rattle.rows.proofs.leaves.true_rows.Statement.{statement}
 use Rattle.rows.proofs.leaves.true_rows.Tie as tie
 
 abbrev Inv-loop : tie.InvT-loop
-Inv-loop r masks rows₀ j₀ rows j = (j ≤ r) × Filled j rows₀ (λ t w. w ≡ getD masks t 0) rows
+Inv-loop r masks rows₀ j₀ rows j = (j ≤ r) × Filled j rows₀ (λ t w. Means width w (Placed (At (getD masks t 0)))) rows
 
 abbrev μ-loop : tie.MeasureT-loop
 μ-loop r masks rows₀ j₀ rows j = r - j
@@ -18,14 +20,17 @@ abbrev μ-loop : tie.MeasureT-loop
 loop-holds : tie.Need-loop-holds Inv-loop μ-loop
 loop-holds c = (omega arith, filled-none _)
 
+mul-places : tie.Need-mul-places Inv-loop μ-loop
+mul-places c = omega arith
+
+shared-slice-read-places : tie.Need-shared-slice-read-places Inv-loop μ-loop
+shared-slice-read-places c = omega arith
+
+places-requires : tie.Need-places-requires Inv-loop μ-loop
+places-requires c κs = search needs
+
 mul-rows : tie.Need-mul-rows Inv-loop μ-loop
 mul-rows c = omega arith
-
-shared-slice-read-rows : tie.Need-shared-slice-read-rows Inv-loop μ-loop
-shared-slice-read-rows c = omega arith
-
-mul-rows-2 : tie.Need-mul-rows-2 Inv-loop μ-loop
-mul-rows-2 c = omega arith
 
 slice-write-rows : tie.Need-slice-write-rows Inv-loop μ-loop
 slice-write-rows c = omega arith
@@ -37,7 +42,7 @@ loop-less : tie.Need-loop-less Inv-loop μ-loop
 loop-less c = omega arith
 
 loop-again : tie.Need-loop-again Inv-loop μ-loop
-loop-again c = (omega arith, filled-more (omega arith) (c .before .before .loop .inv .1) refl)
+loop-again c = (omega arith, filled-more (omega arith) (c .before .before .before .loop .inv .1) (c .places .ensures))
 
 same-length : tie.Need-same-length Inv-loop μ-loop
 same-length c = c .before .loop .inv .1 .long
@@ -52,9 +57,10 @@ true-rows-spec =
     Inv-loop
     μ-loop
     loop-holds
+    mul-places
+    shared-slice-read-places
+    places-requires
     mul-rows
-    shared-slice-read-rows
-    mul-rows-2
     slice-write-rows
     add-j
     loop-less

@@ -19,7 +19,7 @@ strong-next-rows-requires : tie.Need-strong-next-rows-requires
 strong-next-rows-requires c κs = let p = c .before .before .before .before .before .pre in (p .1, p .2)
 
 finally-rows-requires : tie.Need-finally-rows-requires
-finally-rows-requires c κs = let p = c .before .before .before .before .before .pre in (p .1, p .2)
+finally-rows-requires c κs = let p = c .before .before .before .before .before .pre in (p .1, p .0, p .2)
 
 globally-rows-requires : tie.Need-globally-rows-requires
 globally-rows-requires c κs = let p = c .before .before .before .before .before .pre in (p .1, p .0, p .2)

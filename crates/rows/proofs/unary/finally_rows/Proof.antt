@@ -1,6 +1,5 @@
 -- `finally_rows` meets its contract: the rows filled so far are the operator's.
 -- Assumes nothing.
-use mathlib.Core.List.{[]}
 use Prim.Native.Nat.{_-_, _≤_}
 use native.Mathlib.Omega.{arith}
 use borrow.Author.Needs.{needs}
@@ -12,10 +11,10 @@ use Rattle.rows.proofs.unary.finally_rows.Statement.{statement}
 use Rattle.rows.proofs.unary.finally_rows.Tie as tie
 
 abbrev Inv-loop : tie.InvT-loop
-Inv-loop r x rows₀ j₀ rows j = (j ≤ r) × Filled j rows₀ (UnaryAt Unary.finally [] x) rows
+Inv-loop r masks x rows₀ j₀ rows j = (j ≤ r) × Filled j rows₀ (UnaryAt Unary.finally masks x) rows
 
 abbrev μ-loop : tie.MeasureT-loop
-μ-loop r x rows₀ j₀ rows j = r - j
+μ-loop r masks x rows₀ j₀ rows j = r - j
 
 loop-holds : tie.Need-loop-holds Inv-loop μ-loop
 loop-holds c = (omega arith, filled-none _)
@@ -25,6 +24,12 @@ mul-finally c = omega arith
 
 shared-slice-read-finally : tie.Need-shared-slice-read-finally Inv-loop μ-loop
 shared-slice-read-finally c = omega arith
+
+mul-finally-2 : tie.Need-mul-finally-2 Inv-loop μ-loop
+mul-finally-2 c = omega arith
+
+shared-slice-read-finally-2 : tie.Need-shared-slice-read-finally-2 Inv-loop μ-loop
+shared-slice-read-finally-2 c = omega arith
 
 finally-requires : tie.Need-finally-requires Inv-loop μ-loop
 finally-requires c κs = search needs
@@ -42,7 +47,7 @@ loop-less : tie.Need-loop-less Inv-loop μ-loop
 loop-less c = omega arith
 
 loop-again : tie.Need-loop-again Inv-loop μ-loop
-loop-again c = (omega arith, filled-more (omega arith) (c .before .before .before .loop .inv .1) (c .finally .ensures))
+loop-again c = (omega arith, filled-more (omega arith) (c .before .before .before .before .loop .inv .1) (c .finally .ensures))
 
 same-length : tie.Need-same-length Inv-loop μ-loop
 same-length c = c .before .loop .inv .1 .long
@@ -59,6 +64,8 @@ finally-rows-spec =
     loop-holds
     mul-finally
     shared-slice-read-finally
+    mul-finally-2
+    shared-slice-read-finally-2
     finally-requires
     mul-rows
     slice-write-rows

@@ -1,15 +1,19 @@
--- `CharSeq::finally` meets its contract: no place above the word is looked at, so the operator needs no mask.
+-- `CharSeq::finally` meets its contract: the operator on the word with the length's mask.
 -- Assumes nothing.
-use mathlib.Core.Path.{refl}
 use borrow.Author.Needs.{needs}
+use Rattle.sequence.specs.Operators.{finally}
+use Rattle.sequence.proofs.Masked.{unary-on}
 use Rattle.sequence.proofs.CharSeq.finally.Statement.{statement}
 use Rattle.sequence.proofs.CharSeq.finally.Tie as tie
+
+mask-requires : tie.Need-mask-requires
+mask-requires c κs = search needs
 
 finally-requires : tie.Need-finally-requires
 finally-requires c κs = search needs
 
 returns : tie.Need-returns
-returns c = (refl, c .finally .ensures)
+returns c = unary-on finally (c .before .before .args .self) (c .before .mask .ensures) (c .finally .ensures)
 
 pub finally-spec : {M : Type 1} → statement M
-finally-spec = tie.close (tie.spec finally-requires returns)
+finally-spec = tie.close (tie.spec mask-requires finally-requires returns)

@@ -1,15 +1,19 @@
--- `CharSeq::until` meets its contract: no place above the word is looked at, so the operator needs no mask.
+-- `CharSeq::until` meets its contract: the operator on the word with the length's mask.
 -- Assumes nothing.
-use mathlib.Core.Path.{refl}
 use borrow.Author.Needs.{needs}
+use Rattle.sequence.specs.Operators.{until}
+use Rattle.sequence.proofs.Masked.{binary-on}
 use Rattle.sequence.proofs.CharSeq.until.Statement.{statement}
 use Rattle.sequence.proofs.CharSeq.until.Tie as tie
+
+mask-requires : tie.Need-mask-requires
+mask-requires c κs = search needs
 
 until-requires : tie.Need-until-requires
 until-requires c κs = search needs
 
 returns : tie.Need-returns
-returns c = (refl, c .until .ensures)
+returns c = binary-on until (c .before .before .args .self) (c .before .before .args .right) (c .before .mask .ensures) (c .until .ensures)
 
 pub until-spec : {M : Type 1} → statement M
-until-spec = tie.close (tie.spec until-requires returns)
+until-spec = tie.close (tie.spec mask-requires until-requires returns)

@@ -7,7 +7,7 @@ use borrow.Author.Count.{below-more}
 use lib.ListN.{getD}
 use Rattle.words.specs.Word.{Wf}
 use Rattle.words.proofs.At.{wf-or-above}
-use Rattle.sequence.proofs.Answers.{new-passed, new-refused}
+use Rattle.sequence.proofs.Answers.{recorded-passed, recorded-refused}
 use borrow.Author.Needs.{needs}
 use Rattle.session.proofs.data.session_clear.Statement.{statement}
 use Rattle.session.proofs.data.session_clear.Tie as tie
@@ -30,8 +30,8 @@ mul-word c = omega (arith, c .before .before .before .pre .1, c .before .before 
 shared-slice-read-word : tie.Need-shared-slice-read-word Inv-loop μ-loop
 shared-slice-read-word c = omega (arith, c .before .before .before .before .pre .1)
 
-new-requires : tie.Need-new-requires Inv-loop μ-loop
-new-requires c κs = search needs
+recorded-requires : tie.Need-recorded-requires Inv-loop μ-loop
+recorded-requires c κs = search needs
 
 enum-told : tie.Need-enum-told Inv-loop μ-loop
 enum-told c = search needs
@@ -41,14 +41,14 @@ enum-told-2 c = search needs
 
 returns : tie.Need-returns Inv-loop μ-loop
 returns c =
-    let at-new = c .before .before in
-    let at-known = at-new .before in
+    let at-recorded = c .before .before in
+    let at-known = at-recorded .before in
     let in-loop = at-known .before in
     let at-loop = in-loop .before in
     let at-start = at-loop .before .before in
     let a = at-start .args in
     let p = at-loop .loop .p in
-    ⊎-elim (λ t. (p, in-loop .loop-test .taken, t .0, t .1, t .2)) (λ w. absurd (new-refused (at-new .new .ensures) (c .enum-told2 .given .1) w))
+    ⊎-elim (λ t. (p, in-loop .loop-test .taken, t .0, t .1, t .2)) (λ w. absurd (recorded-refused (at-recorded .recorded .ensures) (c .enum-told2 .given .1) w))
     (wf-or-above {n = a .n} {x = getD (a .words .now) (a .from + p) 0} (at-start .pre .0) (omega (arith, at-known .shared-slice-known2 .given (a .from + p))))
 
 add-p : tie.Need-add-p Inv-loop μ-loop
@@ -59,10 +59,10 @@ loop-less c = search needs
 
 loop-again : tie.Need-loop-again Inv-loop μ-loop
 loop-again c =
-    let at-new = c .before .before in
-    let at-loop = at-new .before .before .before in
+    let at-recorded = c .before .before in
+    let at-loop = at-recorded .before .before .before in
     let a = at-loop .before .before .args in
-    (omega arith, below-more (λ k. Wf (a .n) (getD (a .words .now) (a .from + k) 0)) _ (at-loop .loop .inv .1) (new-passed (at-new .new .ensures) (c .enum-told .given .1)))
+    (omega arith, below-more (λ k. Wf (a .n) (getD (a .words .now) (a .from + k) 0)) _ (at-loop .loop .inv .1) (recorded-passed (at-recorded .recorded .ensures) (c .enum-told .given .1)))
 
 returns-2 : tie.Need-returns-2 Inv-loop μ-loop
 returns-2 c = λ k h. c .before .loop .inv .1 k (omega arith)
@@ -77,7 +77,7 @@ session-clear-spec =
     add-word
     mul-word
     shared-slice-read-word
-    new-requires
+    recorded-requires
     enum-told
     enum-told-2
     returns

@@ -13,10 +13,10 @@ use Rattle.table.proofs.tests.all_agree.Statement.{statement}
 use Rattle.table.proofs.tests.all_agree.Tie as tie
 
 abbrev Inv-loop : tie.InvT-loop
-Inv-loop r marks lengths rows j₀ j = (j ≤ r) × (every (count 0 r) (agreesAt marks lengths rows) ≡ every (count j (r - j)) (agreesAt marks lengths rows))
+Inv-loop r marks rows j₀ j = (j ≤ r) × (every (count 0 r) (agreesAt marks rows) ≡ every (count j (r - j)) (agreesAt marks rows))
 
 abbrev μ-loop : tie.MeasureT-loop
-μ-loop r marks lengths rows j₀ j = r - j
+μ-loop r marks rows j₀ j = r - j
 
 loop-holds : tie.Need-loop-holds Inv-loop μ-loop
 loop-holds c = (omega arith, every-start _ _)
@@ -30,9 +30,6 @@ shared-slice-read-agrees-at c = omega arith
 shared-slice-read-agrees-at-2 : tie.Need-shared-slice-read-agrees-at-2 Inv-loop μ-loop
 shared-slice-read-agrees-at-2 c = omega arith
 
-shared-slice-read-agrees-at-3 : tie.Need-shared-slice-read-agrees-at-3 Inv-loop μ-loop
-shared-slice-read-agrees-at-3 c = omega arith
-
 agrees-at-requires : tie.Need-agrees-at-requires Inv-loop μ-loop
 agrees-at-requires c κs = search needs
 
@@ -44,19 +41,19 @@ loop-less c = omega arith
 
 loop-again : tie.Need-loop-again Inv-loop μ-loop
 loop-again c =
-    let a = c .before .before .before .before .before .before .before .before .before .before .args in
-    let v = c .before .before .before .before .before .before .loop in (
+    let a = c .before .before .before .before .before .before .before .before .args in
+    let v = c .before .before .before .before .before .loop in (
       omega arith,
-      v .inv .1 ∙ every-turn (v .j) (a .r) (agreesAt (a .marks .now) (a .lengths .now) (a .rows .now)) (c .before .before .before .before .before .loop-test .taken)
-          ∙ ap (λ (b : Bool). b && every (count (v .j + 1) (a .r - (v .j + 1))) (agreesAt (a .marks .now) (a .lengths .now) (a .rows .now))) (sym (c .before .agrees-at .ensures) ∙ c .if1 .taken),
+      v .inv .1 ∙ every-turn (v .j) (a .r) (agreesAt (a .marks .now) (a .rows .now)) (c .before .before .before .before .loop-test .taken)
+          ∙ ap (λ (b : Bool). b && every (count (v .j + 1) (a .r - (v .j + 1))) (agreesAt (a .marks .now) (a .rows .now))) (sym (c .before .agrees-at .ensures) ∙ c .if1 .taken),
     )
 
 returns : tie.Need-returns Inv-loop μ-loop
 returns c =
-    let a = c .before .before .before .before .before .before .before .before .before .before .args in
-    let v = c .before .before .before .before .before .before .loop in
-    sym (v .inv .1 ∙ every-turn (v .j) (a .r) (agreesAt (a .marks .now) (a .lengths .now) (a .rows .now)) (c .before .before .before .before .before .loop-test .taken)
-    ∙ ap (λ (b : Bool). b && every (count (v .j + 1) (a .r - (v .j + 1))) (agreesAt (a .marks .now) (a .lengths .now) (a .rows .now))) (sym (c .before .agrees-at .ensures) ∙ c .if1 .left))
+    let a = c .before .before .before .before .before .before .before .before .args in
+    let v = c .before .before .before .before .before .loop in
+    sym (v .inv .1 ∙ every-turn (v .j) (a .r) (agreesAt (a .marks .now) (a .rows .now)) (c .before .before .before .before .loop-test .taken)
+    ∙ ap (λ (b : Bool). b && every (count (v .j + 1) (a .r - (v .j + 1))) (agreesAt (a .marks .now) (a .rows .now))) (sym (c .before .agrees-at .ensures) ∙ c .if1 .left))
 
 returns-2 : tie.Need-returns-2 Inv-loop μ-loop
 returns-2 c = sym (c .before .loop .inv .1 ∙ every-end _ _ _ (c .loop-test .left))
@@ -71,7 +68,6 @@ all-agree-spec =
     mul-agrees-at
     shared-slice-read-agrees-at
     shared-slice-read-agrees-at-2
-    shared-slice-read-agrees-at-3
     agrees-at-requires
     add-j
     loop-less
