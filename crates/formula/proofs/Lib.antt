@@ -6,3 +6,4 @@ pub mod Spelled
 pub mod Evaluation
 pub mod Checking
 pub mod Unique
+pub mod Sequencing
