@@ -7,13 +7,14 @@ use mathlib.Core.List.{List}
 use Prim.Native.Nat.{ℕ, _*_, _≤_, _<_}
 use native.Mathlib.Omega.{arith}
 use lib.ListN.{length}
+use Rattle.words.specs.Word.{width}
 use Rattle.words.proofs.At.{means-unique}
 use Rattle.rules.specs.Refusals.{Decided}
 use Rattle.rules.specs.Limits.{mostSessions, mostRoom}
 use Rattle.rules.proofs.Refusals.{decided-unique}
 use Rattle.sequence.specs.declared.CharSeq.{CharSeq}
 use Rattle.sequence.specs.Sequence.{seq, Denotes}
-use Rattle.session.specs.Data.{outsideNumbers}
+use Rattle.session.specs.Data.{outsideNumbers, tooLong}
 use Rattle.session.specs.Recording.{Recording, lengthOf}
 use Rattle.formula.specs.Formula.{Formula, Holds}
 use Rattle.formula.specs.Nodes.{Node, nodeAt}
@@ -68,8 +69,9 @@ listed-whole m k root p h u =
     fits-whole m k (nodeAt k p) (omega arith) (w .0) (fits-wider m k p (length k) (omega arith) (nodeAt k p) (w .0 p h))
 
 module _ (i : Recording) (k : List Node) (root : Node) where
-  -- the numbers are inside, the list is whole, and with another root that it is whole with every row stays ungiven
-  passes : Decided (checkRows i k root) 0 → (outsideNumbers (i .sessions) (i .propositions) .given → ⊥) × (Broken (i .propositions) k root → ⊥)
+  -- the numbers are inside, no length is above 64, the list is whole, and with another root that it is whole with every row stays ungiven
+  passes : Decided (checkRows i k root) 0 → (outsideNumbers (i .sessions) (i .propositions) .given → ⊥)
+      × (tooLong (i .sessions) (i .propositions) (i .marks) (i .lengths) (i .words) .given → ⊥) × (Broken (i .propositions) k root → ⊥)
       × ((q : Node) → (Broken (i .propositions) k q → ⊥) → Decided (checkRows i k q) 0)
   unfolding Decided
   passes (inl p) = absurd (omega (arith, p .1))
@@ -78,15 +80,18 @@ module _ (i : Recording) (k : List Node) (root : Node) where
   passes (inr (a, inr (b, inr (c, inl p)))) = absurd (omega (arith, p .1))
   passes (inr (a, inr (b, inr (c, inr (e, inl p))))) = absurd (omega (arith, p .1))
   passes (inr (a, inr (b, inr (c, inr (e, inr (f, inl p)))))) = absurd (omega (arith, p .1))
-  passes (inr (a, inr (b, inr (c, inr (e, inr (f, inr (g, z))))))) = (a, g, λ q u. inr (a, inr (b, inr (c, inr (e, inr (f, inr (u, refl)))))))
+  passes (inr (a, inr (b, inr (c, inr (e, inr (f, inr (g, z))))))) = (a, c, g, λ q u. inr (a, inr (b, inr (c, inr (e, inr (f, inr (u, refl)))))))
 
   module _ (d : Decided (checkRows i k root) 0) where
     pub passed-list : Broken (i .propositions) k root → ⊥
-    passed-list = passes d .1
+    passed-list = passes d .2
 
     pub passed-sessions : i .sessions ≤ mostSessions
     passed-sessions = let x : mostSessions < i .sessions → ⊥ = λ h. passes d .0 (inl (inr h)) in omega arith
 
+    pub passed-lengths : (j : ℕ) → j < i .sessions → lengthOf i j ≤ width
+    passed-lengths j h = let x : width < lengthOf i j → ⊥ = λ g. passes d .1 (j, h, g) in omega arith
+
     -- the data are the same, and the node has no fault at its own place
     pub listed-passes : (p : ℕ) → p < length k → Decided (checkRows i k (nodeAt k p)) 0
-    listed-passes p h = passes d .2 (nodeAt k p) (listed-whole (i .propositions) k root p h passed-list)
+    listed-passes p h = passes d .3 (nodeAt k p) (listed-whole (i .propositions) k root p h passed-list)
