@@ -8,7 +8,7 @@ use Rattle.rules.specs.Refusals.{Row, Decided}
 use Rattle.rules.specs.Answers.{Said, over}
 use Rattle.session.specs.Recording.{Recording}
 use Rattle.formula.specs.Nodes.{Node}
-use Rattle.formula.specs.Check.{checkRowsWith}
+use Rattle.formula.specs.Check.{checkRows}
 use Rattle.report.specs.declared.Reported.{Reported}
 use Rattle.report.specs.declared.Reported.the-variants.{Text, Refused}
 use Rattle.report.specs.Lines.{ReportText}
@@ -23,9 +23,10 @@ module _ (i : Recording) (k : List Node) (root : Node) (old : List ℕ) where
   abbrev pub shortText : Row
   shortText = record { number = 3; given = (out : List ℕ) × ReportText i k root out × (length old < length out) }
 
-  -- "It takes and refuses what the check does, in that order, and last 3". A caller that is lent a slice more has rows of its own at the check's place
+  -- "It takes and refuses what the check does, in that order, and last 3". A caller that is lent a slice more has a row of number 3 of its own, which
+  -- stands with this one; which of them is given first can't be seen
   abbrev pub reportRowsWith : List Row → List Row
-  reportRowsWith own = checkRowsWith own i k root ++ (shortText ∷ [])
+  reportRowsWith own = checkRows i k root ++ (own ++ (shortText ∷ []))
 
   abbrev pub reportRows : List Row
   reportRows = reportRowsWith []
