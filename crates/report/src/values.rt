@@ -32,8 +32,9 @@ pub fn summary_of(seq: CharSeq) -> Summary
     ensures { λ r. ⌜ Summed (min (seq .length) width) (At (seq .values)) r ⌝ }
 {
     let mask = CharSeq::mask(seq.length);
-    let set = seq.values & mask;
-    let clear = !seq.values & mask;
+    let word = seq.values;
+    let set = word & mask;
+    let clear = !word & mask;
     let holds = lowest(set);
     let fails = lowest(clear);
     let count = u64::count_ones(set) as u8;

@@ -39,7 +39,7 @@ fn show(reported: Reported) {
     io::write_all(STDOUT_FILENO, &line[..at_most(n, 40)]);
 }
 
-// The report with so much text room: its name, the answer, and then the whole room, which was full of dots.
+// The report into a text that is full of dots: its name, the answer, and then the whole text.
 fn example(
     name: &[u8],
     r: usize,
@@ -52,10 +52,8 @@ fn example(
     rights: &[u16],
     sizes: &[u8],
     root: Node,
-    room: usize,
+    text: &mut [u8],
 ) {
-    let mut text = [b'.'; 400];
-    let n = at_most(room, 400);
     let reported = report::report(
         r,
         m,
@@ -67,16 +65,16 @@ fn example(
         rights,
         sizes,
         root,
-        &mut text[..n],
+        text,
     );
     io::write_all(STDOUT_FILENO, name);
     show(reported);
-    io::write_all(STDOUT_FILENO, &text[..n]);
+    io::write_all(STDOUT_FILENO, text);
     io::write_all(STDOUT_FILENO, b"\n");
 }
 
 // 32 sessions whose first half holds p, and 30 negations of it under the root, at places from 1,000 on: as long as a report can be.
-fn longest(room: usize) {
+fn longest(text: &mut [u8]) {
     let mut codes = [16u8; 1030];
     let mut lefts = [0u16; 1030];
     let rights = [0u16; 1030];
@@ -94,8 +92,6 @@ fn longest(room: usize) {
         right: Place(0),
         size: 31,
     };
-    let mut text = [0u8; report::LONGEST];
-    let n = at_most(room, report::LONGEST);
     let reported = report::report(
         32,
         1,
@@ -107,7 +103,7 @@ fn longest(room: usize) {
         &rights,
         &sizes,
         root,
-        &mut text[..n],
+        text,
     );
     show(reported);
 }
@@ -130,7 +126,7 @@ fn example_0() {
             right: Place(0),
             size: 2,
         },
-        46,
+        &mut [b'.'; 46],
     );
 }
 
@@ -152,7 +148,7 @@ fn example_1() {
             right: Place(0),
             size: 2,
         },
-        51,
+        &mut [b'.'; 51],
     );
 }
 
@@ -174,7 +170,7 @@ fn example_2() {
             right: Place(0),
             size: 2,
         },
-        45,
+        &mut [b'.'; 45],
     );
 }
 
@@ -196,7 +192,7 @@ fn example_3() {
             right: Place(0),
             size: 2,
         },
-        46,
+        &mut [b'.'; 46],
     );
 }
 
@@ -218,7 +214,7 @@ fn example_4() {
             right: Place(0),
             size: 5,
         },
-        33,
+        &mut [b'.'; 33],
     );
 }
 
@@ -240,7 +236,7 @@ fn example_5() {
             right: Place(0),
             size: 2,
         },
-        23,
+        &mut [b'.'; 23],
     );
 }
 
@@ -262,7 +258,7 @@ fn example_6() {
             right: Place(0),
             size: 1,
         },
-        26,
+        &mut [b'.'; 26],
     );
 }
 
@@ -284,7 +280,7 @@ fn example_7() {
             right: Place(0),
             size: 2,
         },
-        46,
+        &mut [b'.'; 46],
     );
 }
 
@@ -306,7 +302,7 @@ fn example_8() {
             right: Place(0),
             size: 2,
         },
-        23,
+        &mut [b'.'; 23],
     );
 }
 
@@ -328,7 +324,7 @@ fn example_9() {
             right: Place(0),
             size: 3,
         },
-        35,
+        &mut [b'.'; 35],
     );
 }
 
@@ -350,7 +346,7 @@ fn example_10() {
             right: Place(0),
             size: 2,
         },
-        48,
+        &mut [b'.'; 48],
     );
 }
 
@@ -372,7 +368,7 @@ fn example_11() {
             right: Place(4),
             size: 5,
         },
-        53,
+        &mut [b'.'; 53],
     );
 }
 
@@ -394,7 +390,7 @@ fn example_12() {
             right: Place(0),
             size: 2,
         },
-        60,
+        &mut [b'.'; 60],
     );
 }
 
@@ -416,7 +412,7 @@ fn example_13() {
             right: Place(0),
             size: 2,
         },
-        60,
+        &mut [b'.'; 60],
     );
 }
 
@@ -438,7 +434,7 @@ fn example_14() {
             right: Place(0),
             size: 2,
         },
-        60,
+        &mut [b'.'; 60],
     );
 }
 
@@ -460,7 +456,7 @@ fn example_15() {
             right: Place(0),
             size: 2,
         },
-        60,
+        &mut [b'.'; 60],
     );
 }
 
@@ -482,7 +478,7 @@ fn example_16() {
             right: Place(0),
             size: 2,
         },
-        60,
+        &mut [b'.'; 60],
     );
 }
 
@@ -504,7 +500,7 @@ fn example_17() {
             right: Place(0),
             size: 2,
         },
-        60,
+        &mut [b'.'; 60],
     );
 }
 
@@ -526,7 +522,7 @@ fn example_18() {
             right: Place(0),
             size: 2,
         },
-        60,
+        &mut [b'.'; 60],
     );
 }
 
@@ -548,7 +544,7 @@ fn example_19() {
             right: Place(0),
             size: 2,
         },
-        0,
+        &mut [b'.'; 0],
     );
 }
 
@@ -570,7 +566,7 @@ fn example_20() {
             right: Place(0),
             size: 2,
         },
-        60,
+        &mut [b'.'; 60],
     );
 }
 
@@ -592,7 +588,7 @@ fn example_21() {
             right: Place(0),
             size: 2,
         },
-        0,
+        &mut [b'.'; 0],
     );
 }
 
@@ -619,6 +615,6 @@ fn main() {
     example_19();
     example_20();
     example_21();
-    longest(report::LONGEST);
-    longest(report::LONGEST - 1);
+    longest(&mut [0u8; report::LONGEST]);
+    longest(&mut [0u8; report::LONGEST - 1]);
 }

@@ -19,11 +19,11 @@ lowest-requires-2 : tie.Need-lowest-requires-2
 lowest-requires-2 c κs = search needs
 
 cast-count : tie.Need-cast-count
-cast-count c = let a = c .before .before .before .before .before .args in omega (arith, ones-le width (bitAnd (a .seq .values) (c .before .before .before .before .mask .result)) (masked-low (a .seq .length) (a .seq .values) (c .before .before .before .before .mask .result) (omega arith) (c .before .before .before .before .mask .ensures)))
+cast-count c = let a = c .before .before .before .args in omega (arith, ones-le width (bitAnd (a .seq .values) (c .before .before .mask .result)) (masked-low (a .seq .length) (a .seq .values) (c .before .before .mask .result) (omega arith) (c .before .before .mask .ensures)))
 
 returns : tie.Need-returns
-returns c = let a = c .before .before .before .before .before .args in
-    let m = c .before .before .before .before .mask in
+returns c = let a = c .before .before .before .args in
+    let m = c .before .before .mask in
     record {
       holds = least-holds (a .seq .length) (a .seq .values) (m .result) (omega arith) (m .ensures) (c .before .lowest .result) (c .before .lowest .ensures);
       fails = least-fails (a .seq .length) (a .seq .values) (m .result) (omega arith) (m .ensures) (c .lowest2 .result) (c .lowest2 .ensures);
