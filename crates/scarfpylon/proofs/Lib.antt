@@ -6,3 +6,4 @@ pub mod Printing
 pub mod Reading
 pub mod Unique
 pub mod Promises
+pub mod Reporting
