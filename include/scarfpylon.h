@@ -159,6 +159,26 @@ uint64_t scarfpylon_parse(const uint8_t *names, size_t names_count, const uint8_
                           uint64_t *out, size_t out_count);
 
 /*
+ * A report on a formula, whoever wrote it: per session and node under the root, the first snapshot where it holds, the first where it doesn't, and at how
+ * many it holds. Sessions, nodes and root are as at the check. A line for each session and place, places rising, each once, and then one for the root:
+ *     session place first-holds first-fails count
+ * in decimal, one blank between, `-` where there is no such snapshot, `root` for the root, and a newline after each line. Whether the formula separates the
+ * sessions is not asked.
+ *
+ * Writes the report at the start of `text`; what is beyond stays as it was. And out[0]: its length in bytes, with the last newline. It is the report's own
+ * length that is asked for, and 15,562 bytes suffice for any.
+ * Refuses with 1, 3 (what is read of the sessions), 4, 5, 6, 9, then 3 (`text`, `out`).
+ */
+uint64_t scarfpylon_report(size_t sessions, size_t propositions,
+                           const uint8_t *marks, size_t marks_count, const uint8_t *lengths, size_t lengths_count,
+                           const uint64_t *words, size_t words_count,
+                           const uint8_t *codes, size_t codes_count, const uint16_t *lefts, size_t lefts_count,
+                           const uint16_t *rights, size_t rights_count, const uint8_t *sizes, size_t sizes_count,
+                           uint8_t code, uint16_t left, uint16_t right, uint8_t size,
+                           uint8_t *text, size_t text_count,
+                           uint64_t *out, size_t out_count);
+
+/*
  * Takes a session file apart. A file has five sections, each after a byte with its count, and nothing follows:
  *     1 to 16 names         a byte with the length, 1 to 16, then letters (A-Z, a-z), digits or `_`, a letter first; no name twice,
  *                           and none that is `U`, `R`, `X`, `F`, `G`, `true` or `false`, byte for byte

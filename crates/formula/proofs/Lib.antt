@@ -7,3 +7,4 @@ pub mod Evaluation
 pub mod Empty
 pub mod Checking
 pub mod Unique
+pub mod Sequencing

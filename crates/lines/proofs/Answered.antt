@@ -6,7 +6,7 @@ use Prim.Native.Nat.{ℕ, _+_, _≤_}
 use native.Mathlib.Omega.{arith}
 use lib.ListN.{length, take, drop, length-append, length-map}
 use lib.Seq.{length-take-le}
-use Rattle.file.specs.Format.{Parts}
+use Rattle.file.specs.Format.{Parts, Good}
 use Rattle.rules.specs.Answers.{over}
 use Rattle.formula.specs.Nodes.{Spells, codes}
 use Rattle.formula.specs.Nodes as walk
@@ -33,70 +33,75 @@ use Rattle.lines.proofs.Shown.{front}
 use Rattle.lines.proofs.Searching.{Roomy, FoundAt, found-at, none-says, full-says, refused-says}
 
 -- a part of a lent list that begins with new contents
-part-in : (new old list : List ℕ) (n : ℕ) → list ≡ over new old → n ≡ length new → n ≤ length list
+pub part-in : (new old list : List ℕ) (n : ℕ) → list ≡ over new old → n ≡ length new → n ≤ length list
 part-in new old list n e h = omega (arith, ap length e, length-append new (drop (length new) old))
 
-part-is : (new old list : List ℕ) (n : ℕ) → list ≡ over new old → n ≡ length new → take n list ≡ new
+pub part-is : (new old list : List ℕ) (n : ℕ) → list ≡ over new old → n ≡ length new → take n list ≡ new
 part-is new old list n e h = ap (take n) e ∙ front new old n h
+
+-- the columns of a table in which a formula was found
+module _ {p : Parts} {g : Good p} {room : ℕ} {t : Cols} {roomy : Roomy t} {u : Cols} {root : Node} {c : Counts} (this : FoundAt p g room t roomy u root c) where
+  abbrev n : ℕ
+  n = c .kept
+
+  long : (f : walk.Node → ℕ) → n ≡ length (map (λ c. f (c .node)) (this .table))
+  long f = sym (length-map (this .table) (λ c. f (c .node)) ∙ this .as-many)
+
+  pub codes-in : n ≤ length (u .codes)
+  codes-in = part-in (map (λ c. c .node .code) (this .table)) (t .codes) (u .codes) n (ap (λ (x : Cols). x .codes) (this .holds)) (long (λ x. x .code))
+
+  pub codes-part : n ≡ length (take n (u .codes))
+  codes-part = sym (length-take-le n (u .codes) codes-in)
+
+  pub lefts-in : n ≤ length (u .lefts)
+  lefts-in = part-in (map (λ c. c .node .left) (this .table)) (t .lefts) (u .lefts) n (ap (λ (x : Cols). x .lefts) (this .holds)) (long (λ x. x .left))
+
+  pub lefts-part : n ≡ length (take n (u .lefts))
+  lefts-part = sym (length-take-le n (u .lefts) lefts-in)
+
+  pub rights-in : n ≤ length (u .rights)
+  rights-in = part-in (map (λ c. c .node .right) (this .table)) (t .rights) (u .rights) n (ap (λ (x : Cols). x .rights) (this .holds)) (long (λ x. x .right))
+
+  pub rights-part : n ≡ length (take n (u .rights))
+  rights-part = sym (length-take-le n (u .rights) rights-in)
+
+  pub sizes-in : n ≤ length (u .sizes)
+  sizes-in = part-in (map (λ c. c .node .size) (this .table)) (t .sizes) (u .sizes) n (ap (λ (x : Cols). x .sizes) (this .holds)) (long (λ x. x .size))
+
+  pub sizes-part : n ≡ length (take n (u .sizes))
+  sizes-part = sym (length-take-le n (u .sizes) sizes-in)
+
+  abbrev pub lent : List walk.Node
+  lent = nodes (take n (u .codes)) (take n (u .lefts)) (take n (u .rights)) (take n (u .sizes))
+
+  pub kept-nodes : lent ≡ promises.nodes (this .table)
+  kept-nodes =
+      let k = this .table in
+      let b = part-is (map (λ c. c .node .code) k) (t .codes) (u .codes) n (ap (λ (x : Cols). x .codes) (this .holds)) (long (λ x. x .code)) in
+      let c = part-is (map (λ c. c .node .left) k) (t .lefts) (u .lefts) n (ap (λ (x : Cols). x .lefts) (this .holds)) (long (λ x. x .left)) in
+      let d = part-is (map (λ c. c .node .right) k) (t .rights) (u .rights) n (ap (λ (x : Cols). x .rights) (this .holds)) (long (λ x. x .right)) in
+      let f = part-is (map (λ c. c .node .size) k) (t .sizes) (u .sizes) n (ap (λ (x : Cols). x .sizes) (this .holds)) (long (λ x. x .size)) in
+      ap (λ (x : List ℕ). nodes x (take n (u .lefts)) (take n (u .rights)) (take n (u .sizes))) b
+      ∙ ap (λ (x : List ℕ). nodes (map (λ c. c .node .code) k) x (take n (u .rights)) (take n (u .sizes))) c
+      ∙ ap (λ (x : List ℕ). nodes (map (λ c. c .node .code) k) (map (λ c. c .node .left) k) x (take n (u .sizes))) d
+      ∙ ap (λ (x : List ℕ). nodes (map (λ c. c .node .code) k) (map (λ c. c .node .left) k) (map (λ c. c .node .right) k) x) f
+      ∙ columns k
+
+  pub nodes-many : length lent ≡ n
+  nodes-many = ap length kept-nodes ∙ length-map (this .table) (λ c. c .node) ∙ this .as-many
 
 module _ (file : List ℕ) (i : Input) (p : Parts) (g : Given file i p) (t : Cols) (roomy : Roomy t) (u : Cols) (a : SearchAnswer) (w : Searched i t a u) where
   moved : (b : SearchAnswer) → a ≡ b → Searched (inputOf p (i .room)) t b u
   moved b e = subst (λ (c : SearchAnswer). Searched (inputOf p (i .room)) t c u) e (subst (λ (j : Input). Searched j t a u) (g .same) w)
 
   module _ {root : Node} {c : Counts} (e : a ≡ Found root c) where
-    abbrev n : ℕ
-    n = c .kept
-
-    this : FoundAt p (g .good) (i .room) t roomy u root c
+    pub this : FoundAt p (g .good) (i .room) t roomy u root c
     this = found-at p (g .good) (i .room) t roomy u root c (moved (Found root c) e)
 
-    long : (f : walk.Node → ℕ) → n ≡ length (map (λ c. f (c .node)) (this .table))
-    long f = sym (length-map (this .table) (λ c. f (c .node)) ∙ this .as-many)
+    unbroken : Broken (length (p .names)) (lent this) (nodeOf root) → ⊥
+    unbroken = subst (λ (k : List walk.Node). Broken (length (p .names)) k (nodeOf root) → ⊥) (sym (kept-nodes this)) (this .whole)
 
-    pub codes-in : n ≤ length (u .codes)
-    codes-in = part-in (map (λ c. c .node .code) (this .table)) (t .codes) (u .codes) n (ap (λ (x : Cols). x .codes) (this .holds)) (long (λ x. x .code))
-
-    pub codes-part : n ≡ length (take n (u .codes))
-    codes-part = sym (length-take-le n (u .codes) codes-in)
-
-    pub lefts-in : n ≤ length (u .lefts)
-    lefts-in = part-in (map (λ c. c .node .left) (this .table)) (t .lefts) (u .lefts) n (ap (λ (x : Cols). x .lefts) (this .holds)) (long (λ x. x .left))
-
-    pub lefts-part : n ≡ length (take n (u .lefts))
-    lefts-part = sym (length-take-le n (u .lefts) lefts-in)
-
-    pub rights-in : n ≤ length (u .rights)
-    rights-in = part-in (map (λ c. c .node .right) (this .table)) (t .rights) (u .rights) n (ap (λ (x : Cols). x .rights) (this .holds)) (long (λ x. x .right))
-
-    pub rights-part : n ≡ length (take n (u .rights))
-    rights-part = sym (length-take-le n (u .rights) rights-in)
-
-    pub sizes-in : n ≤ length (u .sizes)
-    sizes-in = part-in (map (λ c. c .node .size) (this .table)) (t .sizes) (u .sizes) n (ap (λ (x : Cols). x .sizes) (this .holds)) (long (λ x. x .size))
-
-    pub sizes-part : n ≡ length (take n (u .sizes))
-    sizes-part = sym (length-take-le n (u .sizes) sizes-in)
-
-    abbrev lent : List walk.Node
-    lent = nodes (take n (u .codes)) (take n (u .lefts)) (take n (u .rights)) (take n (u .sizes))
-
-    kept-nodes : lent ≡ promises.nodes (this .table)
-    kept-nodes =
-        let k = this .table in
-        let b = part-is (map (λ c. c .node .code) k) (t .codes) (u .codes) n (ap (λ (x : Cols). x .codes) (this .holds)) (long (λ x. x .code)) in
-        let c = part-is (map (λ c. c .node .left) k) (t .lefts) (u .lefts) n (ap (λ (x : Cols). x .lefts) (this .holds)) (long (λ x. x .left)) in
-        let d = part-is (map (λ c. c .node .right) k) (t .rights) (u .rights) n (ap (λ (x : Cols). x .rights) (this .holds)) (long (λ x. x .right)) in
-        let f = part-is (map (λ c. c .node .size) k) (t .sizes) (u .sizes) n (ap (λ (x : Cols). x .sizes) (this .holds)) (long (λ x. x .size)) in
-        ap (λ (x : List ℕ). nodes x (take n (u .lefts)) (take n (u .rights)) (take n (u .sizes))) b
-        ∙ ap (λ (x : List ℕ). nodes (map (λ c. c .node .code) k) x (take n (u .rights)) (take n (u .sizes))) c
-        ∙ ap (λ (x : List ℕ). nodes (map (λ c. c .node .code) k) (map (λ c. c .node .left) k) x (take n (u .sizes))) d
-        ∙ ap (λ (x : List ℕ). nodes (map (λ c. c .node .code) k) (map (λ c. c .node .left) k) (map (λ c. c .node .right) k) x) f
-        ∙ columns k
-
-    unbroken : Broken (length (p .names)) lent (nodeOf root) → ⊥
-    unbroken = subst (λ (k : List walk.Node). Broken (length (p .names)) k (nodeOf root) → ⊥) (sym kept-nodes) (this .whole)
-
-    pub showable : Showable file lent (nodeOf root)
+    pub showable : Showable file (lent this) (nodeOf root)
     showable = record {
       names = p .names;
       next = g .next;
@@ -104,18 +109,15 @@ module _ (file : List ℕ) (i : Input) (p : Parts) (g : Given file i p) (t : Col
       whole = unbroken;
     }
 
-    nodes-many : length lent ≡ n
-    nodes-many = ap length kept-nodes ∙ length-map (this .table) (λ c. c .node) ∙ this .as-many
+    pub as-many : length (take (c .kept) (u .codes)) ≡ length (lent this)
+    as-many = sym (codes-part this) ∙ sym (nodes-many this)
 
-    pub as-many : length (take n (u .codes)) ≡ length lent
-    as-many = sym codes-part ∙ sym nodes-many
-
-    pub found-returns : {old new : List ℕ} {r : ℕ} → 512 ≤ length old → ShownBy file lent (nodeOf root) (c .tried) old r new → Written p (i .room) old r new
+    pub found-returns : {old new : List ℕ} {r : ℕ} → 512 ≤ length old → ShownBy file (lent this) (nodeOf root) (c .tried) old r new → Written p (i .room) old r new
     found-returns {old} {new} {r} room shown =
         let (f, s, v) = shown (p .names) (g .next) (g .front) in
-        let lines = foundLine (root .size) (c .tried) (length lent) ++ (text (p .names) f ++ newline) in
-        let b = found-short (root .size) (c .tried) (length lent) in
-        let d = text-in file lent (nodeOf root) (p .names) (g .next) (g .front) unbroken f s in
+        let lines = foundLine (root .size) (c .tried) (length (lent this)) ++ (text (p .names) f ++ newline) in
+        let b = found-short (root .size) (c .tried) (length (lent this)) in
+        let d = text-in file (lent this) (nodeOf root) (p .names) (g .next) (g .front) unbroken f s in
         record {
           lines = lines;
           says = record {
@@ -126,14 +128,14 @@ module _ (file : List ℕ) (i : Input) (p : Parts) (g : Given file i p) (t : Col
               this .is,
               (
                 f,
-                subst (λ (k : List walk.Node). Spells codes k (nodeOf root) f) kept-nodes s,
-                ap (λ (k : ℕ). foundLine (root .size) (c .tried) k ++ (text (p .names) f ++ newline)) (nodes-many ∙ sym (this .as-many)),
+                subst (λ (k : List walk.Node). Spells codes k (nodeOf root) f) (kept-nodes this) s,
+                ap (λ (k : ℕ). foundLine (root .size) (c .tried) k ++ (text (p .names) f ++ newline)) ((nodes-many this) ∙ sym (this .as-many)),
               ),
             );
             outside = λ o. absurd (this .inside o);
           };
           wrote = v;
-          fits = omega (arith, length-append (foundLine (root .size) (c .tried) (length lent)) (text (p .names) f ++ newline), length-append (text (p .names) f) newline);
+          fits = omega (arith, length-append (foundLine (root .size) (c .tried) (length (lent this))) (text (p .names) f ++ newline), length-append (text (p .names) f) newline);
         }
 
   pub none-returns : {c : Counts} → a ≡ None c → {old new : List ℕ} {r : ℕ} → 512 ≤ length old → Wrote old 0 (noneLine (c .tried) (c .kept)) new r

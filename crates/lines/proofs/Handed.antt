@@ -78,7 +78,7 @@ front-room p = front-in (section nameBytes (p .names)) _
     front-in x y = omega (arith, length-append x y)
 
 -- bytes written from the start on
-over-start : {old new lines : List ℕ} {x : ℕ} → Wrote old 0 lines new x → length lines ≤ length old → (x ≡ length lines) × (new ≡ over lines old)
+pub over-start : {old new lines : List ℕ} {x : ℕ} → Wrote old 0 lines new x → length lines ≤ length old → (x ≡ length lines) × (new ≡ over lines old)
 over-start {old} {new} {lines} {x} w h = (
   omega (arith, w .next),
   w .holds ∙ sets-eq lines old 0 (omega arith) ∙ ap (λ (i : ℕ). lines ++ drop i old) (let i : 0 + length lines ≡ length lines = omega arith in i),
@@ -191,10 +191,10 @@ module _ (file : List ℕ) (bytes : Bytes file) (l : Lent) (wide : Wide l) (a : 
 
   -- as a search is given it
   module _ {r m n u b constants bound : ℕ} (h : Handed r m n u b constants bound) (room : ℕ) where
-    abbrev input : Input
+    abbrev pub input : Input
     input = walking.inputOf r m bound room constants (take r marks) (take r lengths) (take (m * r) words) (take u unary) (take b binary)
 
-    same : input ≡ inputOf (h .parts) room
+    pub same : input ≡ inputOf (h .parts) room
     same =
         ap (λ (z : ℕ). walking.inputOf z m bound room constants (take r marks) (take r lengths) (take (m * r) words) (take u unary) (take b binary)) (h .count)
         ∙ ap (λ (z : ℕ). walking.inputOf (length (h .parts .sessions)) z bound room constants (take r marks) (take r lengths) (take (m * r) words) (take u unary) (take b binary)) (h .width)

@@ -48,7 +48,7 @@ module _ (p : Parts) (g : Good p) (room : ℕ) (t : Cols) (roomy : Roomy t) wher
   i : Input
   i = inputOf p room
 
-  data-pass : Decided (dataRows (length (p .sessions)) (length (p .names)) (marksOf p) (lengthsOf p) (wordsOf p)) 0
+  pub data-pass : Decided (dataRows (length (p .sessions)) (length (p .names)) (marksOf p) (lengthsOf p) (wordsOf p)) 0
   data-pass = simp append-nil at (handed-out-passes p g [] [] [])
 
   pub in-room : 1 ≤ room → room ≤ mostRoom → Decided (searchRows (inputOf p room) t) 0

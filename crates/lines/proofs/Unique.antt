@@ -54,7 +54,7 @@ module _ (p : Parts) (room : ℕ) (x y : List ℕ) (a : GoodSays p room x) (b : 
         | no h ↦ beyond (inl (lt-of-not-le h))
       ]
 
-says-one : (g : Got Parts) (room : ℕ) (x y : List ℕ) → Says g room x → Says g room y → x ≡ y
+pub says-one : (g : Got Parts) (room : ℕ) (x y : List ℕ) → Says g room x → Says g room y → x ≡ y
 says-one (bad o) room x y a b = a ∙ sym b
 says-one (got p next) room x y a b = good-one p room x y a b
 

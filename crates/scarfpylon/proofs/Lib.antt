@@ -7,3 +7,4 @@ pub mod Parsing
 pub mod Reading
 pub mod Unique
 pub mod Promises
+pub mod Reporting

@@ -1,6 +1,7 @@
-// The C boundary: operators, search, check, print and the readers of formulas and files on numbers and slices of numbers. Every function returns 0 where it answered, else a refusal's number, and
-// answers in the slice `out`.
+// The C boundary: operators, search, check, print, the readers of formulas and files, and the report, on numbers and slices of numbers. Every
+// function returns 0 where it answered, else a refusal's number, and answers in the slice `out`.
 mod out;
+mod reports;
 mod short;
 
 use formula::kinds::Node;
@@ -19,6 +20,7 @@ ghost use Rattle.scarfpylon.specs.Check.{CheckDone};
 ghost use Rattle.scarfpylon.specs.Print.{PrintDone};
 ghost use Rattle.scarfpylon.specs.Parse.{ParseDone};
 ghost use Rattle.scarfpylon.specs.Read.{done, readDone};
+ghost use Rattle.scarfpylon.specs.Report.{ReportDone};
 
 // The unary operator of a code on a sequence.
 #[no_mangle]
@@ -251,4 +253,70 @@ pub extern "C" fn scarfpylon_read(
     let answer = file::read(file, marks, lengths, words, unary, binary);
     out::put_read(answer, out);
     out::read_number(answer)
+}
+
+// Per session and node under the root: the first snapshot where it holds, the first where it doesn't, and at how many it holds.
+#[no_mangle]
+pub extern "C" fn scarfpylon_report(
+    r: usize,
+    m: usize,
+    marks: &[u8],
+    lengths: &[u8],
+    words: &[u64],
+    codes: &[u8],
+    lefts: &[u16],
+    rights: &[u16],
+    sizes: &[u8],
+    code: u8,
+    left: u16,
+    right: u16,
+    size: u8,
+    text: &mut [u8],
+    out: &mut [u64],
+) -> u64
+    ensures { λ k. ⌜ ReportDone
+        (recording r m (now (marks .entry)) (now (lengths .entry)) (now (words .entry)))
+        (nodes (now (codes .entry)) (now (lefts .entry)) (now (rights .entry)) (now (sizes .entry)))
+        (node code left right size)
+        (now (text .entry))
+        (now (out .entry))
+        k
+        (now (text .exit))
+        (now (out .exit)) ⌝ }
+{
+    let root = Node {
+        code,
+        left: Place(left),
+        right: Place(right),
+        size,
+    };
+    if out.len() < out::WORDS {
+        return reports::unanswered(
+            r,
+            m,
+            marks,
+            lengths,
+            words,
+            codes,
+            lefts,
+            rights,
+            sizes,
+            root,
+        );
+    }
+    let answer = report::report(
+        r,
+        m,
+        marks,
+        lengths,
+        words,
+        codes,
+        lefts,
+        rights,
+        sizes,
+        root,
+        text,
+    );
+    reports::put_length(answer, out);
+    reports::number(answer)
 }

@@ -4,7 +4,7 @@ use Prim.Native.Nat.{ℕ}
 use lib.ListN.{length-replicate, replicate}
 use Rattle.search.specs.Table.{cols}
 use Rattle.lines.proofs.Searching.{Roomy}
-use Rattle.lines.proofs.Answered.{codes-in, codes-part, lefts-in, lefts-part, rights-in, rights-part, sizes-in, sizes-part, showable, as-many, found-returns, none-returns, full-returns, refused-returns}
+use Rattle.lines.proofs.Answered.{this, codes-in, codes-part, lefts-in, lefts-part, rights-in, rights-part, sizes-in, sizes-part, showable, as-many, found-returns, none-returns, full-returns, refused-returns}
 use borrow.Author.Needs.{needs}
 use Rattle.lines.proofs.searched.Statement.{statement}
 use Rattle.lines.proofs.searched.Tie as tie
@@ -41,28 +41,28 @@ enum-known-answer : tie.Need-enum-known-answer
 enum-known-answer c = search needs
 
 array-share-prefix-codes : tie.Need-array-share-prefix-codes
-array-share-prefix-codes c = codes-in (c .before .before .before .before .before .before .before .before .before .before .before .before .before .before .before .before .before .before .before .before .before .args .names .now) _ (c .before .before .before .before .before .before .before .before .before .before .before .before .before .before .before .before .before .before .before .before .before .pre .0 .0) (c .before .before .before .before .before .before .before .before .before .before .before .before .before .before .before .before .before .before .before .before .before .pre .0 .1) _ roomy _ (c .before .before .before .before .before .before .before .before .search .result) (c .before .before .before .before .before .before .before .before .search .ensures) (c .before .answer .given .1)
+array-share-prefix-codes c = codes-in (this (c .before .before .before .before .before .before .before .before .before .before .before .before .before .before .before .before .before .before .before .before .before .args .names .now) _ (c .before .before .before .before .before .before .before .before .before .before .before .before .before .before .before .before .before .before .before .before .before .pre .0 .0) (c .before .before .before .before .before .before .before .before .before .before .before .before .before .before .before .before .before .before .before .before .before .pre .0 .1) _ roomy _ (c .before .before .before .before .before .before .before .before .search .result) (c .before .before .before .before .before .before .before .before .search .ensures) (c .before .answer .given .1))
 
 slice-aggregate-found : tie.Need-slice-aggregate-found
-slice-aggregate-found c = codes-part (c .before .before .before .before .before .before .before .before .before .before .before .before .before .before .before .before .before .before .before .before .before .before .args .names .now) _ (c .before .before .before .before .before .before .before .before .before .before .before .before .before .before .before .before .before .before .before .before .before .before .pre .0 .0) (c .before .before .before .before .before .before .before .before .before .before .before .before .before .before .before .before .before .before .before .before .before .before .pre .0 .1) _ roomy _ (c .before .before .before .before .before .before .before .before .before .search .result) (c .before .before .before .before .before .before .before .before .before .search .ensures) (c .before .before .answer .given .1)
+slice-aggregate-found c = codes-part (this (c .before .before .before .before .before .before .before .before .before .before .before .before .before .before .before .before .before .before .before .before .before .before .args .names .now) _ (c .before .before .before .before .before .before .before .before .before .before .before .before .before .before .before .before .before .before .before .before .before .before .pre .0 .0) (c .before .before .before .before .before .before .before .before .before .before .before .before .before .before .before .before .before .before .before .before .before .before .pre .0 .1) _ roomy _ (c .before .before .before .before .before .before .before .before .before .search .result) (c .before .before .before .before .before .before .before .before .before .search .ensures) (c .before .before .answer .given .1))
 
 array-share-prefix-lefts : tie.Need-array-share-prefix-lefts
-array-share-prefix-lefts c = lefts-in (c .before .before .before .before .before .before .before .before .before .before .before .before .before .before .before .before .before .before .before .before .before .before .args .names .now) _ (c .before .before .before .before .before .before .before .before .before .before .before .before .before .before .before .before .before .before .before .before .before .before .pre .0 .0) (c .before .before .before .before .before .before .before .before .before .before .before .before .before .before .before .before .before .before .before .before .before .before .pre .0 .1) _ roomy _ (c .before .before .before .before .before .before .before .before .before .search .result) (c .before .before .before .before .before .before .before .before .before .search .ensures) (c .before .before .answer .given .1)
+array-share-prefix-lefts c = lefts-in (this (c .before .before .before .before .before .before .before .before .before .before .before .before .before .before .before .before .before .before .before .before .before .before .args .names .now) _ (c .before .before .before .before .before .before .before .before .before .before .before .before .before .before .before .before .before .before .before .before .before .before .pre .0 .0) (c .before .before .before .before .before .before .before .before .before .before .before .before .before .before .before .before .before .before .before .before .before .before .pre .0 .1) _ roomy _ (c .before .before .before .before .before .before .before .before .before .search .result) (c .before .before .before .before .before .before .before .before .before .search .ensures) (c .before .before .answer .given .1))
 
 slice-aggregate-found-2 : tie.Need-slice-aggregate-found-2
-slice-aggregate-found-2 c = lefts-part (c .before .before .before .before .before .before .before .before .before .before .before .before .before .before .before .before .before .before .before .before .before .before .before .args .names .now) _ (c .before .before .before .before .before .before .before .before .before .before .before .before .before .before .before .before .before .before .before .before .before .before .before .pre .0 .0) (c .before .before .before .before .before .before .before .before .before .before .before .before .before .before .before .before .before .before .before .before .before .before .before .pre .0 .1) _ roomy _ (c .before .before .before .before .before .before .before .before .before .before .search .result) (c .before .before .before .before .before .before .before .before .before .before .search .ensures) (c .before .before .before .answer .given .1)
+slice-aggregate-found-2 c = lefts-part (this (c .before .before .before .before .before .before .before .before .before .before .before .before .before .before .before .before .before .before .before .before .before .before .before .args .names .now) _ (c .before .before .before .before .before .before .before .before .before .before .before .before .before .before .before .before .before .before .before .before .before .before .before .pre .0 .0) (c .before .before .before .before .before .before .before .before .before .before .before .before .before .before .before .before .before .before .before .before .before .before .before .pre .0 .1) _ roomy _ (c .before .before .before .before .before .before .before .before .before .before .search .result) (c .before .before .before .before .before .before .before .before .before .before .search .ensures) (c .before .before .before .answer .given .1))
 
 array-share-prefix-rights : tie.Need-array-share-prefix-rights
-array-share-prefix-rights c = rights-in (c .before .before .before .before .before .before .before .before .before .before .before .before .before .before .before .before .before .before .before .before .before .before .before .args .names .now) _ (c .before .before .before .before .before .before .before .before .before .before .before .before .before .before .before .before .before .before .before .before .before .before .before .pre .0 .0) (c .before .before .before .before .before .before .before .before .before .before .before .before .before .before .before .before .before .before .before .before .before .before .before .pre .0 .1) _ roomy _ (c .before .before .before .before .before .before .before .before .before .before .search .result) (c .before .before .before .before .before .before .before .before .before .before .search .ensures) (c .before .before .before .answer .given .1)
+array-share-prefix-rights c = rights-in (this (c .before .before .before .before .before .before .before .before .before .before .before .before .before .before .before .before .before .before .before .before .before .before .before .args .names .now) _ (c .before .before .before .before .before .before .before .before .before .before .before .before .before .before .before .before .before .before .before .before .before .before .before .pre .0 .0) (c .before .before .before .before .before .before .before .before .before .before .before .before .before .before .before .before .before .before .before .before .before .before .before .pre .0 .1) _ roomy _ (c .before .before .before .before .before .before .before .before .before .before .search .result) (c .before .before .before .before .before .before .before .before .before .before .search .ensures) (c .before .before .before .answer .given .1))
 
 slice-aggregate-found-3 : tie.Need-slice-aggregate-found-3
-slice-aggregate-found-3 c = rights-part (c .before .before .before .before .before .before .before .before .before .before .before .before .before .before .before .before .before .before .before .before .before .before .before .before .args .names .now) _ (c .before .before .before .before .before .before .before .before .before .before .before .before .before .before .before .before .before .before .before .before .before .before .before .before .pre .0 .0) (c .before .before .before .before .before .before .before .before .before .before .before .before .before .before .before .before .before .before .before .before .before .before .before .before .pre .0 .1) _ roomy _ (c .before .before .before .before .before .before .before .before .before .before .before .search .result) (c .before .before .before .before .before .before .before .before .before .before .before .search .ensures) (c .before .before .before .before .answer .given .1)
+slice-aggregate-found-3 c = rights-part (this (c .before .before .before .before .before .before .before .before .before .before .before .before .before .before .before .before .before .before .before .before .before .before .before .before .args .names .now) _ (c .before .before .before .before .before .before .before .before .before .before .before .before .before .before .before .before .before .before .before .before .before .before .before .before .pre .0 .0) (c .before .before .before .before .before .before .before .before .before .before .before .before .before .before .before .before .before .before .before .before .before .before .before .before .pre .0 .1) _ roomy _ (c .before .before .before .before .before .before .before .before .before .before .before .search .result) (c .before .before .before .before .before .before .before .before .before .before .before .search .ensures) (c .before .before .before .before .answer .given .1))
 
 array-share-prefix-sizes : tie.Need-array-share-prefix-sizes
-array-share-prefix-sizes c = sizes-in (c .before .before .before .before .before .before .before .before .before .before .before .before .before .before .before .before .before .before .before .before .before .before .before .before .args .names .now) _ (c .before .before .before .before .before .before .before .before .before .before .before .before .before .before .before .before .before .before .before .before .before .before .before .before .pre .0 .0) (c .before .before .before .before .before .before .before .before .before .before .before .before .before .before .before .before .before .before .before .before .before .before .before .before .pre .0 .1) _ roomy _ (c .before .before .before .before .before .before .before .before .before .before .before .search .result) (c .before .before .before .before .before .before .before .before .before .before .before .search .ensures) (c .before .before .before .before .answer .given .1)
+array-share-prefix-sizes c = sizes-in (this (c .before .before .before .before .before .before .before .before .before .before .before .before .before .before .before .before .before .before .before .before .before .before .before .before .args .names .now) _ (c .before .before .before .before .before .before .before .before .before .before .before .before .before .before .before .before .before .before .before .before .before .before .before .before .pre .0 .0) (c .before .before .before .before .before .before .before .before .before .before .before .before .before .before .before .before .before .before .before .before .before .before .before .before .pre .0 .1) _ roomy _ (c .before .before .before .before .before .before .before .before .before .before .before .search .result) (c .before .before .before .before .before .before .before .before .before .before .before .search .ensures) (c .before .before .before .before .answer .given .1))
 
 slice-aggregate-found-4 : tie.Need-slice-aggregate-found-4
-slice-aggregate-found-4 c = sizes-part (c .before .before .before .before .before .before .before .before .before .before .before .before .before .before .before .before .before .before .before .before .before .before .before .before .before .args .names .now) _ (c .before .before .before .before .before .before .before .before .before .before .before .before .before .before .before .before .before .before .before .before .before .before .before .before .before .pre .0 .0) (c .before .before .before .before .before .before .before .before .before .before .before .before .before .before .before .before .before .before .before .before .before .before .before .before .before .pre .0 .1) _ roomy _ (c .before .before .before .before .before .before .before .before .before .before .before .before .search .result) (c .before .before .before .before .before .before .before .before .before .before .before .before .search .ensures) (c .before .before .before .before .before .answer .given .1)
+slice-aggregate-found-4 c = sizes-part (this (c .before .before .before .before .before .before .before .before .before .before .before .before .before .before .before .before .before .before .before .before .before .before .before .before .before .args .names .now) _ (c .before .before .before .before .before .before .before .before .before .before .before .before .before .before .before .before .before .before .before .before .before .before .before .before .before .pre .0 .0) (c .before .before .before .before .before .before .before .before .before .before .before .before .before .before .before .before .before .before .before .before .before .before .before .before .before .pre .0 .1) _ roomy _ (c .before .before .before .before .before .before .before .before .before .before .before .before .search .result) (c .before .before .before .before .before .before .before .before .before .before .before .before .search .ensures) (c .before .before .before .before .before .answer .given .1))
 
 found-requires : tie.Need-found-requires
 found-requires c κs = (

@@ -1,0 +1,2 @@
+-- What the program's private functions say of what they read. Nothing public cites it.
+pub mod Input

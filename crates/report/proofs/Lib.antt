@@ -1,0 +1,5 @@
+pub mod Firsts
+pub mod Marking
+pub mod Length
+pub mod Unique
+pub mod Composing

@@ -1,0 +1,26 @@
+-- `put_blank_first` meets its contract: one after the other.
+-- Assumes nothing.
+use Rattle.writing.proofs.Writing.{wrote-both}
+use Rattle.report.specs.Lines.{blank, firstText}
+use borrow.Author.Needs.{needs}
+use Rattle.report.proofs.line.put_blank_first.Statement.{statement}
+use Rattle.report.proofs.line.put_blank_first.Tie as tie
+
+slice-aggregate-put : tie.Need-slice-aggregate-put
+slice-aggregate-put c = search needs
+
+put-requires : tie.Need-put-requires
+put-requires c κs = search needs
+
+put-first-requires : tie.Need-put-first-requires
+put-first-requires c κs = search needs
+
+same-length : tie.Need-same-length
+same-length c = search needs
+
+returns : tie.Need-returns
+returns c = let a = c .before .before .before .before .before .before .before .before .before .before .args in wrote-both blank (firstText (a .first)) (c .before .before .before .before .before .before .put .ensures) (c .before .before .put-first .ensures)
+
+pub put-blank-first-spec : {M : Type 1} → statement M
+put-blank-first-spec =
+    tie.close (tie.spec slice-aggregate-put put-requires put-first-requires same-length returns)

@@ -1,0 +1,43 @@
+-- `scarfpylon_report` meets its contract: where `out` is too short by what comes before the last 3, and else by the report.
+-- Assumes nothing.
+use borrow.Author.Needs.{needs}
+use Rattle.scarfpylon.proofs.Reporting.{report-short, report-long}
+use Rattle.scarfpylon.proofs.scarfpylon_report.Statement.{statement}
+use Rattle.scarfpylon.proofs.scarfpylon_report.Tie as tie
+
+unanswered-requires : tie.Need-unanswered-requires
+unanswered-requires c κs = search needs
+
+returns : tie.Need-returns
+returns c = report-short _ _ _ _ _ (c .before .if1 .taken) _ (c .unanswered .ensures)
+
+report-requires : tie.Need-report-requires
+report-requires c κs = search needs
+
+put-length-requires : tie.Need-put-length-requires
+put-length-requires c κs = search needs
+
+number-requires : tie.Need-number-requires
+number-requires c κs = search needs
+
+same-length : tie.Need-same-length
+same-length c = search needs
+
+same-length-2 : tie.Need-same-length-2
+same-length-2 c = search needs
+
+returns-2 : tie.Need-returns-2
+returns-2 c = rw (c .number .ensures) (report-long _ _ _ _ _ (c .before .before .before .before .before .before .before .before .before .if1 .left) (c .before .before .before .before .before .before .before .report .result) _ _ (c .before .before .before .before .before .before .before .report .ensures) (c .before .before .before .put-length .ensures))
+
+pub scarfpylon-report-spec : {M : Type 1} → statement M
+scarfpylon-report-spec =
+    tie.close
+    (tie.spec
+    unanswered-requires
+    returns
+    report-requires
+    put-length-requires
+    number-requires
+    same-length
+    same-length-2
+    returns-2)
