@@ -1,4 +1,4 @@
-// The loops behind acceptance and comparison.
+// The loop behind acceptance.
 use sequence::CharSeq;
 ghost use mathlib.Core.Path.{_≡_};
 ghost use mathlib.Core.Bool.{Bool·beq};
@@ -6,8 +6,8 @@ ghost use lib.Dec.{eqb};
 ghost use Rattle.rules.specs.Lists.{count};
 ghost use Rattle.walk.specs.Rows.{acceptsRow};
 ghost use Rattle.walk.specs.Input.{every};
-ghost use Rattle.table.specs.Compare.{agreesAt, KnownAsk};
-ghost use Rattle.table.specs.Inner.{Long, FirstDiffers, FirstEqual};
+ghost use Rattle.table.specs.Compare.{agreesAt};
+ghost use Rattle.table.specs.Inner.{Long};
 
 fn agrees_at(x: u64, length: u8, mark: u8) -> bool
     ensures { λ b. ⌜ b ≡ Bool·beq (acceptsRow length x) (eqb mark 1) ⌝ }
@@ -33,36 +33,4 @@ pub(crate) fn all_agree(r: usize, marks: &[u8], lengths: &[u8], rows: &[u64]) ->
         }
     }
     true
-}
-
-// The first row that differs from x's, or r.
-pub(crate) fn first_difference(r: usize, x: &[u64], rows: &[u64]) -> usize
-    requires { ⌜ Long r (now x) × Long r (now rows) ⌝ }
-    ensures { λ j. ⌜ FirstDiffers r (now (x .entry)) (now (rows .entry)) j ⌝ }
-{
-    let mut j: usize = 0;
-    while j < r {
-        if rows[j] != x[j] {
-            return j;
-        }
-        j += 1;
-    }
-    r
-}
-
-// The first place whose matrix is equal, or `kept`.
-pub(crate) fn first_equal(r: usize, matrices: &[u64], rows: &[u64], kept: usize) -> usize
-    requires { ⌜ KnownAsk r (now matrices) (now rows) kept ⌝ }
-    ensures { λ p. ⌜ FirstEqual r (now (matrices .entry)) (now (rows .entry)) kept p ⌝ }
-{
-    let mut p: usize = 0;
-    let mut from: usize = 0;
-    while p < kept {
-        if first_difference(r, &matrices[from..], rows) == r {
-            return p;
-        }
-        from += r;
-        p += 1;
-    }
-    kept
 }

@@ -177,13 +177,15 @@ module _ {L U B Mat : Type 0} (O : Offer L U B Mat) (C : ℕ) (Z : Lawful O) whe
         ∙ foldl-append (consider O C) (going [] (tally 0 0)) before (c ∷ behind)
         ∙ ap (λ (st : State Mat). foldl (consider O C) st (c ∷ behind)) goes)
 
+    front : (new : List (Candidate Mat)) × (kept (walk O C b) ≡ k ++ new)
+    front = let g = grown O C Z (c ∷ behind) (going k n) in (g .new, whole ∙ g .longer)
+
     by-place : known O (c .matrix) k ≡ true → (p : ℕ) × (p < length k) × SuperfluousBy (kept (walk O C b)) before c p
     by-place h =
         let (p, l, e, m) = known-place (c .matrix) k h c in
-        let g = grown O C Z (c ∷ behind) (going k n) in
-        let longer = whole ∙ g .longer in
-        let size = ap length longer ∙ length-append k (g .new) in
-        let old = ap (λ (x : List (Candidate Mat)). getD x p c) longer ∙ List·getD-append k (g .new) c p l in
+        let (new, longer) = front in
+        let size = ap length longer ∙ length-append k new in
+        let old = ap (λ (x : List (Candidate Mat)). getD x p c) longer ∙ List·getD-append k new c p l in
         let matrix = ap (λ (u : Candidate Mat). u .matrix) old ∙ e in (
           p,
           l,
@@ -199,6 +201,13 @@ module _ {L U B Mat : Type 0} (O : Offer L U B Mat) (C : ℕ) (Z : Lawful O) whe
             earlier = subst (λ (u : Candidate Mat). u ∈ before) (sym old) (kept-before (getD k p c) m);
           },
         )
+
+-- those kept by then stand at the front of those kept at the end
+pub drops-front : (i : Input) (e : Ending) (k : Table) (n : Tally) → search i ≡ ended e k n → (before : Table) (c : Candidate (List ℕ)) (d : Drops i before c)
+    → (new : Table) × (k ≡ d .so-far ++ new)
+drops-front i e k n q before c d =
+    let (new, w) = front (offer i) (i .room) (lawful i) (i .bound) before (d .behind) c (d .in-turn) (d .so-far) (d .counts) (d .goes) in
+    (new, ap kept (sym q) ∙ w)
 
 pub dropped-by : DroppedBy
 unfolding consider
