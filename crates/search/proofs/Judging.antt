@@ -1,6 +1,7 @@
 -- One candidate: the table's tests are the walk's, so it comes to what the walk makes of it.
 -- Assumes nothing.
 use mathlib.Core.Path.{_≡_, refl, sym, ap, _∙_, subst}
+use mathlib.Core.Logic.{_⊎_, inl, inr}
 use mathlib.Core.Bool.{Bool, true, false}
 use mathlib.Core.List.{List, [], _∷_, _++_, map}
 use Prim.Native.Nat.{ℕ, suc, _+_, _-_, _*_, _≤_, _<_}
@@ -9,10 +10,13 @@ use native.Mathlib.Numerals.{add-one}
 use native.Mathlib.Decide.{decLe}
 use lib.ListN.{length, getD, take, length-append, List·getD-append}
 use lib.Seq.{getD-append-seam}
+use denote.Enum.Declared.{tagOf}
 use borrow.Author.Tests.{le-leb, lt-leb}
 use Rattle.rules.specs.declared.kinds.Place.{Place}
-use Rattle.formula.specs.Nodes.{Node}
-use Rattle.walk.specs.Walk.{Candidate, found, full, going, ended, judge, consider}
+use Rattle.formula.specs.declared.kinds.Node.{Node}
+use Rattle.formula.specs.Kinds.{nodeOf}
+use Rattle.formula.specs.Nodes as nodes
+use Rattle.walk.specs.Walk.{Candidate, found, full, State, going, ended, kept, judge, consider}
 use Rattle.walk.specs.Walk as walk
 use Rattle.walk.specs.Input.{Input, Passes, separating, offer}
 use Rattle.walk.specs.Promises.{Table}
@@ -23,21 +27,28 @@ use Rattle.order.specs.Size.{Cand, cand, start}
 use Rattle.order.specs.Ahead.{rest}
 use Rattle.order.specs.Steps.{Rises, Steps}
 use Rattle.order.proofs.Rest.{step-left, step-safe}
+use Rattle.table.specs.declared.Known.{Known}
 use Rattle.table.specs.declared.Known.the-variants.{At, New}
 use Rattle.table.specs.Slices.{Cols}
 use Rattle.rows.specs.Rows.{RowsAnswer}
 use Rattle.rows.specs.Formulas.{nothing, Makes, Fine, Stored, Masks}
 use Rattle.rows.proofs.Matrices.{rows-made, made-fine}
+use Rattle.rows.proofs.Products.{place-end}
+use Rattle.table.proofs.Known.{the-type as known-type}
 use Rattle.table.specs.Compare.{agreeing, KnownAnswer}
 use Rattle.table.specs.Keep.{KeepAnswer}
 use Rattle.table.specs.Formulas.{Holds, RoomAt}
-use Rattle.rows.specs.Formulas as rows
+use Rattle.table.specs.Promises.{isAt}
+use Rattle.rows.specs.Formulas as matrices
 use Rattle.table.proofs.Acceptance.{agrees-separating}
 use Rattle.table.proofs.Duplicates.{known-is-known}
 use Rattle.table.proofs.Kept.{held-is-stored, keep-grows}
-use Rattle.search.specs.Turns.{made, make, sizesLeft, layerAt, walkLeft, Standing}
+use Rattle.search.specs.declared.given.Given.{Given}
+use Rattle.search.specs.declared.turns.Stand.{Stand}
+use Rattle.search.specs.declared.turns.Stand.the-variants.{Going, Found, Full}
+use Rattle.search.specs.Turns.{input, Room, Stood, Posed, make, sizesLeft, layerAt, walkLeft, Standing}
 use Rattle.search.proofs.Making.{made-written, made-base, safe-makes}
-use Rattle.search.proofs.Left.{left-ended, left-less}
+use Rattle.search.proofs.Left.{left-less}
 
 -- ---- what the table's functions answered
 
@@ -52,9 +63,29 @@ pub record Repeats (r : ℕ) (matrices rows : List ℕ) (kept : ℕ) : Type 0 wh
 pub record Fresh (r : ℕ) (matrices rows : List ℕ) (kept : ℕ) : Type 0 where
   pub answer : KnownAnswer r matrices rows kept New
 
-pub record Keeps (r : ℕ) (rows : List ℕ) (place : ℕ) (node : Node) (t t′ : Cols) : Type 0 where
+pub record Keeps (r : ℕ) (rows : List ℕ) (place : ℕ) (node : nodes.Node) (t t′ : Cols) : Type 0 where
   pub done : Bool
   pub answer : KeepAnswer r rows place node t t′ done
+
+module _ {r : ℕ} {matrices rows : List ℕ} {kept : ℕ} where
+  pub repeats : (known : Known) → tagOf known-type known ≡ 0 → KnownAnswer r matrices rows kept known → Repeats r matrices rows kept
+  repeats (At p) e w = record { place = p; answer = w }
+  repeats New e w = absurd (omega (arith, e))
+
+  pub fresh : (known : Known) → tagOf known-type known ≡ 1 → KnownAnswer r matrices rows kept known → Fresh r matrices rows kept
+  fresh (At p) e w = absurd (omega (arith, e))
+  fresh New e w = record { answer = w }
+
+-- there is room at a place below C
+pub room-at : {g : Given} {marks lengths words unary binary : List ℕ} {t₀ : Cols} (kept : ℕ) → Room g t₀ → kept < g .room
+    → RoomAt (input g marks lengths words unary binary) kept t₀
+room-at {g} kept w h = record {
+  codes = omega (arith, w .codes);
+  lefts = omega (arith, w .lefts);
+  rights = omega (arith, w .rights);
+  sizes = omega (arith, w .sizes);
+  matrices = omega (arith, w .matrices, place-end kept (g .room) (g .sessions) h);
+}
 
 -- ---- the walk's rule for one candidate
 
@@ -77,43 +108,140 @@ module _ (i : Input) (k : Table) (n : ℕ) (x : Candidate (List ℕ)) where
   unfolding consider judge
   con-kept e f h = rw (e, f, lt-leb (i .room) (length k) h, add-one)
 
--- ---- one more formula
+-- ---- the program's tests, over a table that the slices hold
 
-module _ {i : Input} {t₀ t t′ : Cols} {k₀ k : Table} {starts : List ℕ} {s kept : ℕ} (w : Standing i t₀ t k₀ k starts s kept) (x : Candidate (List ℕ))
-    (size : x .node .size ≡ s) (h : Holds i (k ++ (x ∷ [])) t₀ t′) where
-  more : length (k ++ (x ∷ [])) ≡ length k + 1
-  more = length-append k (x ∷ [])
+module _ {i : Input} (ok : Passes i) {t₀ t : Cols} {k : Table} (h : Holds i k t₀ t) {node : Node} {x : Candidate (List ℕ)} (p : Posed i k node x)
+    {masks old rows : List ℕ} (m : Masks i masks) (long : i .recording .sessions ≤ length old)
+    (written : Written (i .recording .sessions) (i .recording .propositions) masks (i .recording .words) (t .matrices) (node .code) (node .left .0) (node .right .0) old rows) where
+  stored : Stored i k (t .matrices)
+  stored = held-is-stored i k t₀ t h
 
-  old : (p : ℕ) → p < length k → getD (k ++ (x ∷ [])) p nothing ≡ getD k p nothing
-  old p l = List·getD-append k (x ∷ []) nothing p l
+  made-rows : (length rows ≡ length old) × (take (i .recording .sessions) rows ≡ matrices.made i k (p .makes))
+  made-rows =
+      let w = rows-made i ok k masks (t .matrices) old rows m stored long (node .code) (node .left .0) (node .right .0) (p .makes) (written .filled) (written .answer) in
+      (w .1, w .2)
 
-  old-size : (p : ℕ) → p < length k → sizeAt nothing (k ++ (x ∷ [])) p ≡ sizeAt nothing k p
-  old-size p l = ap (λ (c : Candidate (List ℕ)). c .node .size) (old p l)
+  rows-long : i .recording .sessions ≤ length rows
+  rows-long = omega (arith, made-rows .0)
 
-  new-size : (p : ℕ) → length k ≤ p → p < length (k ++ (x ∷ [])) → sizeAt nothing (k ++ (x ∷ [])) p ≡ s
-  new-size p l m =
-      let e : p ≡ length k = omega (arith, more) in
-      ap (λ (q : ℕ). sizeAt nothing (k ++ (x ∷ [])) q) e ∙ ap (λ (c : Candidate (List ℕ)). c .node .size) (getD-append-seam k x [] nothing) ∙ size
+  rows-are : take (i .recording .sessions) rows ≡ x .matrix
+  rows-are = made-rows .1 ∙ p .matrix-is
 
-  pub standing-more : Standing i t₀ t′ k₀ (k ++ (x ∷ [])) starts s (kept + 1)
-  standing-more = record {
-    counted = omega (arith, w .counted, more);
-    holds = h;
-    rising = λ p q a b. elim (decLe (suc q) (length k)) [
-      | yes z ↦ omega (arith, old-size p (omega arith), old-size q z, w .rising p q a z)
-      | no z ↦ elim (decLe (suc p) (length k)) [
-        | yes y ↦ omega (arith, old-size p y, new-size q (omega arith) b, w .small p y)
-        | no y ↦ omega (arith, new-size p (omega arith) (omega arith), new-size q (omega arith) b)
-      ]
-    ];
-    small = λ p a. elim (decLe (suc p) (length k)) [
-      | yes z ↦ omega (arith, old-size p z, w .small p z)
-      | no z ↦ omega (arith, new-size p (omega arith) a)
-    ];
-    less = omega (arith, more, w .less);
-    same = λ p a. old p (omega (arith, w .less)) ∙ w .same p a;
-    begins = w .begins;
-  }
+  fine : Fine i (x .matrix)
+  fine = subst (Fine i) (p .matrix-is) (made-fine i ok k (i .recording .propositions) (length k) (node .code) (node .left .0) (node .right .0) (p .makes) (omega arith))
+
+  separates : (v : Bool) → v ≡ agreeing (i .recording .sessions) (i .recording .marks) (i .recording .lengths) rows → separating i (x .matrix) ≡ v
+  separates v e = ap (separating i) (sym rows-are) ∙ sym (agrees-separating i ok rows rows-long) ∙ sym e
+
+  module _ (n kept : ℕ) (counted : kept ≡ length k) where
+    pub stands-found : true ≡ agreeing (i .recording .sessions) (i .recording .marks) (i .recording .lengths) rows
+        → Stood i t₀ (consider (offer i) (i .room) (going k n) x) t (Found node (record { tried = n + 1; kept = kept }))
+    stands-found e = record {
+      table = k;
+      is = con-found i k n x (separates true e) ∙ ap (λ (z : nodes.Node). ended (found z) k (n + 1)) (p .node-is);
+      counted = counted;
+      holds = h;
+    }
+
+    module _ (e : false ≡ agreeing (i .recording .sessions) (i .recording .marks) (i .recording .lengths) rows) (few : kept ≤ i .room) where
+      knows : (a : Known) → KnownAnswer (i .recording .sessions) (t .matrices) rows kept a → walk.known (offer i) (x .matrix) k ≡ isAt a
+      knows a v =
+          ap (λ (y : List ℕ). walk.known (offer i) y k) (sym rows-are)
+          ∙ known-is-known i ok k (t .matrices) rows stored (omega (arith, counted)) rows-long a
+          (subst (λ (z : ℕ). KnownAnswer (i .recording .sessions) (t .matrices) rows z a) counted v)
+
+      pub stands-dropped : Repeats (i .recording .sessions) (t .matrices) rows kept
+          → Stood i t₀ (consider (offer i) (i .room) (going k n) x) t (Going (record { tried = n + 1; kept = kept }))
+      stands-dropped v = record { table = k; is = con-known i k n x (separates false e) (knows (At (v .place)) (v .answer)); counted = counted; holds = h }
+
+      module _ (v : Fresh (i .recording .sessions) (t .matrices) rows kept) where
+        pub stands-full : i .room ≤ kept → Stood i t₀ (consider (offer i) (i .room) (going k n) x) t (Full (node .size) (record { tried = n + 1; kept = kept }))
+        stands-full l = record {
+          table = k;
+          is = con-full i k n x (separates false e) (knows New (v .answer)) (omega (arith, counted))
+              ∙ ap (λ (z : nodes.Node). ended (full (z .size)) k (n + 1)) (p .node-is);
+          counted = counted;
+          holds = h;
+        }
+
+        pub stands-kept : {t′ : Cols} → kept < i .room → RoomAt i kept t₀ → Keeps (i .recording .sessions) rows kept (nodeOf node) t t′
+            → Stood i t₀ (consider (offer i) (i .room) (going k n) x) t′ (Going (record { tried = n + 1; kept = kept + 1 }))
+        stands-kept {t′} l room z =
+            let room′ = subst (λ (q : ℕ). RoomAt i q t₀) counted room in
+            let a = subst (λ (q : ℕ). KeepAnswer (i .recording .sessions) rows q (nodeOf node) t t′ (z .done)) counted (z .answer) in
+            let b = subst (λ (q : nodes.Node). KeepAnswer (i .recording .sessions) rows (length k) q t t′ (z .done)) (sym (p .node-is)) a in
+            record {
+              table = k ++ (x ∷ []);
+              is = con-kept i k n x (separates false e) (knows New (v .answer)) (omega (arith, counted));
+              counted = omega (arith, counted, length-append k (x ∷ []));
+              holds = keep-grows i ok k t₀ t t′ h room′ rows x rows-long rows-are fine (z .done) b .1;
+            }
+
+-- ---- what a candidate leaves, where the walk goes on: the table as it was, or with this formula
+
+module _ (i : Input) (k k′ : Table) (n n′ : ℕ) (x : Candidate (List ℕ)) where
+  judged-table : (a b c : Bool) → judge (offer i) a b c x k n ≡ going k′ n′ → (k′ ≡ k) ⊎ (k′ ≡ k ++ (x ∷ []))
+  unfolding judge
+  judged-table true b c e = let z : _≡_ {A = ℕ} 0 1 = cc e in absurd (omega arith)
+  judged-table false true c e = inl (sym (ap kept e))
+  judged-table false false true e = let z : _≡_ {A = ℕ} 0 1 = cc e in absurd (omega arith)
+  judged-table false false false e = inr (sym (ap kept e))
+
+goes-table : (i : Input) (k k′ : Table) (n n′ : ℕ) (x : Candidate (List ℕ)) → consider (offer i) (i .room) (going k n) x ≡ going k′ n′ → (k′ ≡ k) ⊎ (k′ ≡ k ++ (x ∷ []))
+unfolding consider
+goes-table i k k′ n n′ x e = judged-table i k k′ (suc n) n′ x _ _ _ e
+
+module _ {i : Input} {t₀ t t′ : Cols} {k₀ k : Table} {starts : List ℕ} {s kept kept′ : ℕ} (w : Standing i t₀ t k₀ k starts s kept) (x : Candidate (List ℕ))
+    (size : x .node .size ≡ s) where
+  module _ (h : Holds i (k ++ (x ∷ [])) t₀ t′) (counted : kept′ ≡ length (k ++ (x ∷ []))) where
+    more : length (k ++ (x ∷ [])) ≡ length k + 1
+    more = length-append k (x ∷ [])
+
+    old : (p : ℕ) → p < length k → getD (k ++ (x ∷ [])) p nothing ≡ getD k p nothing
+    old p l = List·getD-append k (x ∷ []) nothing p l
+
+    old-size : (p : ℕ) → p < length k → sizeAt nothing (k ++ (x ∷ [])) p ≡ sizeAt nothing k p
+    old-size p l = ap (λ (c : Candidate (List ℕ)). c .node .size) (old p l)
+
+    new-size : (p : ℕ) → length k ≤ p → p < length (k ++ (x ∷ [])) → sizeAt nothing (k ++ (x ∷ [])) p ≡ s
+    new-size p l m =
+        let e : p ≡ length k = omega (arith, more) in
+        ap (λ (q : ℕ). sizeAt nothing (k ++ (x ∷ [])) q) e ∙ ap (λ (c : Candidate (List ℕ)). c .node .size) (getD-append-seam k x [] nothing) ∙ size
+
+    standing-more : Standing i t₀ t′ k₀ (k ++ (x ∷ [])) starts s kept′
+    standing-more = record {
+      counted = counted;
+      holds = h;
+      rising = λ p q a b. elim (decLe (suc q) (length k)) [
+        | yes z ↦ omega (arith, old-size p (omega arith), old-size q z, w .rising p q a z)
+        | no z ↦ elim (decLe (suc p) (length k)) [
+          | yes y ↦ omega (arith, old-size p y, new-size q (omega arith) b, w .small p y)
+          | no y ↦ omega (arith, new-size p (omega arith) (omega arith), new-size q (omega arith) b)
+        ]
+      ];
+      small = λ p a. elim (decLe (suc p) (length k)) [
+        | yes z ↦ omega (arith, old-size p z, w .small p z)
+        | no z ↦ omega (arith, new-size p (omega arith) a)
+      ];
+      less = omega (arith, more, w .less);
+      same = λ p a. old p (omega (arith, w .less)) ∙ w .same p a;
+      begins = w .begins;
+    }
+
+  pub standing-after : (k′ : Table) → (k′ ≡ k) ⊎ (k′ ≡ k ++ (x ∷ [])) → Holds i k′ t₀ t′ → kept′ ≡ length k′ → Standing i t₀ t′ k₀ k′ starts s kept′
+  standing-after k′ (inl e) h c =
+      subst (λ (z : Table). Standing i t₀ t′ k₀ z starts s kept′) (sym e)
+      (record {
+        counted = c ∙ ap length e;
+        holds = subst (λ (z : Table). Holds i z t₀ t′) e h;
+        rising = w .rising;
+        small = w .small;
+        less = w .less;
+        same = w .same;
+        begins = w .begins;
+      })
+  standing-after k′ (inr e) h c =
+      subst (λ (z : Table). Standing i t₀ t′ k₀ z starts s kept′) (sym e) (standing-more (subst (λ (z : Table). Holds i z t₀ t′) e h) (c ∙ ap length e))
 
 -- ---- the candidate that a step tells
 
@@ -132,70 +260,18 @@ module _ {i : Input} (ok : Passes i) {t₀ t : Cols} {k₀ k : Table} {starts : 
   makes : Makes (i .recording .propositions) (length k) code (a .0) (b .0)
   makes = safe-makes i ok s starts (length k) told (omega (arith, w .begins s low (omega arith) .inside, w .less)) (step-safe step rises)
 
-  matrix-is : rows.made i k makes ≡ formula .matrix
-  matrix-is = made-written i k makes ∙ made-base i k₀ k (w .same) makes-base
+  pub posed : Posed i k (record { code = code; left = a; right = b; size = s }) formula
+  posed = record { node-is = refl; makes = makes; matrix-is = made-written i k makes ∙ made-base i k₀ k (w .same) makes-base }
 
-  fine : Fine i (formula .matrix)
-  fine = subst (Fine i) matrix-is (made-fine i ok k (i .recording .propositions) (length k) code (a .0) (b .0) makes (omega arith))
-
-  tries : (n : ℕ) → walkLeft i k₀ k starts s at n
+  pub tries : (n : ℕ) → walkLeft i k₀ k starts s at n
       ≡ sizesLeft i (i .bound + 1 - s) s (map (make i k₀ s) (rest (layerAt i s starts) next)) (consider (offer i) (i .room) (going k n) formula)
   tries n =
       ap (λ (cs : List Cand). sizesLeft i (i .bound + 1 - s) s (map (make i k₀ s) cs) (going k n)) (step-left step)
       ∙ left-less i (i .bound + 1 - s) s formula (map (make i k₀ s) (rest (layerAt i s starts) next)) (going k n) (omega arith)
 
-  module _ {masks old rows : List ℕ} (m : Masks i masks) (long : i .recording .sessions ≤ length old)
-      (written : Written (i .recording .sessions) (i .recording .propositions) masks (i .recording .words) (t .matrices) code (a .0) (b .0) old rows) where
-    stored : Stored i k (t .matrices)
-    stored = held-is-stored i k t₀ t (w .holds)
+  module _ {t′ : Cols} (n : ℕ) {kept′ n′ : ℕ} (y : Stood i t₀ (consider (offer i) (i .room) (going k n) formula) t′ (Going (record { tried = n′; kept = kept′ }))) where
+    pub turn-stands : Standing i t₀ t′ k₀ (y .table) starts s kept′
+    turn-stands = standing-after w formula refl (y .table) (goes-table i k (y .table) n n′ formula (y .is)) (y .holds) (y .counted)
 
-    rows-long : i .recording .sessions ≤ length rows
-    rows-long = omega (arith, rows-made i ok k masks (t .matrices) old rows m stored long code (a .0) (b .0) makes (written .filled) (written .answer) .1)
-
-    rows-are : take (i .recording .sessions) rows ≡ formula .matrix
-    rows-are = rows-made i ok k masks (t .matrices) old rows m stored long code (a .0) (b .0) makes (written .filled) (written .answer) .2 ∙ matrix-is
-
-    separates : (v : Bool) → v ≡ agreeing (i .recording .sessions) (i .recording .marks) (i .recording .lengths) rows → separating i (formula .matrix) ≡ v
-    separates v e = ap (separating i) (sym rows-are) ∙ sym (agrees-separating i ok rows rows-long) ∙ sym e
-
-    pub turn-found : (n : ℕ) → true ≡ agreeing (i .recording .sessions) (i .recording .marks) (i .recording .lengths) rows → walkLeft i k₀ k starts s at n ≡ ended (found (formula .node)) k (n + 1)
-    turn-found n e =
-        tries n ∙ ap (sizesLeft i (i .bound + 1 - s) s (map (make i k₀ s) (rest (layerAt i s starts) next))) (con-found i k n formula (separates true e))
-        ∙ left-ended i (i .bound + 1 - s) s (map (make i k₀ s) (rest (layerAt i s starts) next)) (found (formula .node)) k (n + 1)
-
-    module _ (e : false ≡ agreeing (i .recording .sessions) (i .recording .marks) (i .recording .lengths) rows) (few : kept ≤ i .room) where
-      knows : Repeats (i .recording .sessions) (t .matrices) rows kept → walk.known (offer i) (formula .matrix) k ≡ true
-      knows v =
-          ap (λ (x : List ℕ). walk.known (offer i) x k) (sym rows-are)
-          ∙ known-is-known i ok k (t .matrices) rows stored (omega (arith, w .counted)) rows-long (At (v .place))
-          (subst (λ (n : ℕ). KnownAnswer (i .recording .sessions) (t .matrices) rows n (At (v .place))) (w .counted) (v .answer))
-
-      unknown : Fresh (i .recording .sessions) (t .matrices) rows kept → walk.known (offer i) (formula .matrix) k ≡ false
-      unknown v =
-          ap (λ (x : List ℕ). walk.known (offer i) x k) (sym rows-are)
-          ∙ known-is-known i ok k (t .matrices) rows stored (omega (arith, w .counted)) rows-long New
-          (subst (λ (n : ℕ). KnownAnswer (i .recording .sessions) (t .matrices) rows n New) (w .counted) (v .answer))
-
-      pub turn-known : (n : ℕ) → Repeats (i .recording .sessions) (t .matrices) rows kept → walkLeft i k₀ k starts s at n ≡ walkLeft i k₀ k starts s next (n + 1)
-      turn-known n v = tries n ∙ ap (sizesLeft i (i .bound + 1 - s) s (map (make i k₀ s) (rest (layerAt i s starts) next))) (con-known i k n formula (separates false e) (knows v))
-
-      module _ (v : Fresh (i .recording .sessions) (t .matrices) rows kept) (n : ℕ) where
-        pub turn-full : i .room ≤ kept → walkLeft i k₀ k starts s at n ≡ ended (full s) k (n + 1)
-        turn-full h =
-            tries n
-            ∙ ap (sizesLeft i (i .bound + 1 - s) s (map (make i k₀ s) (rest (layerAt i s starts) next)))
-            (con-full i k n formula (separates false e) (unknown v) (omega (arith, w .counted)))
-            ∙ left-ended i (i .bound + 1 - s) s (map (make i k₀ s) (rest (layerAt i s starts) next)) (full s) k (n + 1)
-
-        pub turn-kept : kept < i .room → walkLeft i k₀ k starts s at n ≡ walkLeft i k₀ (k ++ (formula ∷ [])) starts s next (n + 1)
-        turn-kept h =
-            tries n
-            ∙ ap (sizesLeft i (i .bound + 1 - s) s (map (make i k₀ s) (rest (layerAt i s starts) next)))
-            (con-kept i k n formula (separates false e) (unknown v) (omega (arith, w .counted)))
-
-        pub turn-stands : {t′ : Cols} → RoomAt i kept t₀ → Keeps (i .recording .sessions) rows kept (formula .node) t t′
-            → Standing i t₀ t′ k₀ (k ++ (formula ∷ [])) starts s (kept + 1)
-        turn-stands {t′} room z =
-            let room′ = subst (λ (p : ℕ). RoomAt i p t₀) (w .counted) room in
-            let z′ = subst (λ (p : ℕ). KeepAnswer (i .recording .sessions) rows p (formula .node) t t′ (z .done)) (w .counted) (z .answer) in
-            standing-more w formula refl (keep-grows i ok k t₀ t t′ (w .holds) room′ rows formula rows-long rows-are fine (z .done) z′ .1)
+    pub turn-goes : walkLeft i k₀ k starts s at n ≡ walkLeft i k₀ (y .table) starts s next n′
+    turn-goes = tries n ∙ ap (sizesLeft i (i .bound + 1 - s) s (map (make i k₀ s) (rest (layerAt i s starts) next))) (y .is)

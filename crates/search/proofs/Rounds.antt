@@ -1,6 +1,7 @@
 -- The loop of the search: what is left where it stands comes to what was left at the point that it went on from, and what is still to try gets less.
 -- Assumes nothing.
 use mathlib.Core.Path.{_≡_, refl, sym, ap, _∙_, subst}
+use mathlib.Core.Logic.{_⊎_, inl, inr}
 use mathlib.Core.Bool.{Bool, true, false}
 use mathlib.Core.List.{List, [], _∷_, _++_, map}
 use Prim.Native.Nat.{ℕ, suc, _+_, _-_, _*_, _/_, _^_, _≤_, _<_}
@@ -13,7 +14,8 @@ use denote.Enum.Declared.{tagOf}
 use Rattle.rules.specs.Limits.{mostSessions, mostSize, mostRoom}
 use Rattle.rules.specs.declared.kinds.Place.{Place}
 use Rattle.formula.specs.declared.kinds.Node.{Node}
-use Rattle.walk.specs.Walk.{Candidate, State, going, layer}
+use Rattle.formula.specs.Kinds.{nodeOf}
+use Rattle.walk.specs.Walk.{Candidate, found, full, State, going, layer}
 use Rattle.walk.specs.Input.{Input, Passes, offer}
 use Rattle.walk.specs.Promises.{Table}
 use Rattle.order.specs.declared.Cursor.{Cursor}
@@ -28,24 +30,22 @@ use Rattle.order.proofs.Counting.{starts-long, starts-rise, starts-within}
 use Rattle.order.proofs.Few.{rest-few}
 use Rattle.order.proofs.Layers.{first-layer, column-begins}
 use Rattle.order.proofs.Rest.{step-left, end-left}
-use Rattle.table.specs.declared.Known.{Known}
-use Rattle.table.specs.declared.Known.the-variants.{At, New}
-use Rattle.table.proofs.Known.{the-type as known-type}
 use Rattle.rows.specs.Rows.{MasksAnswer}
 use Rattle.rows.specs.Formulas.{nothing, Masks}
 use Rattle.rows.proofs.Matrices.{length-map, masks-made}
-use Rattle.rows.proofs.Products.{place-end}
-use Rattle.table.specs.Compare.{agreeing, KnownAnswer}
-use Rattle.table.specs.Formulas.{Holds, RoomAt}
+use Rattle.table.specs.Formulas.{Holds}
+use Rattle.search.specs.declared.counts.Counts.{Counts}
 use Rattle.search.specs.declared.given.Given.{Given}
 use Rattle.search.specs.declared.turns.Point.{Point}
+use Rattle.search.specs.declared.turns.Stand.{Stand}
 use Rattle.search.specs.declared.turns.Stand.the-variants.{Going, Found, Full}
+use Rattle.search.proofs.turns.Stand.{the-type as stand-type}
 use Rattle.search.specs.Costs.{operators, perSize, inAll}
 use Rattle.search.specs.Table.{Cols}
-use Rattle.search.specs.Turns.{input, Room, Stood, make, sizesLeft, layerAt, walkLeft, Standing, GoAsks, GoDoes}
+use Rattle.search.specs.Turns.{input, Room, stateOf, make, sizesLeft, layerAt, walkLeft, Standing, JudgeDoes, GoAsks, GoDoes}
 use Rattle.search.proofs.Making.{offered}
-use Rattle.search.proofs.Left.{left-next, left-none}
-use Rattle.search.proofs.Judging.{Written, Repeats, Fresh, Keeps, turn-found, turn-known, turn-full, turn-kept, turn-stands}
+use Rattle.search.proofs.Left.{left-next, left-none, left-ended}
+use Rattle.search.proofs.Judging.{posed, tries, turn-stands, turn-goes}
 
 pub record SameLengths (t t′ : Cols) : Type 0 where
   pub codes : length (t′ .codes) ≡ length (t .codes)
@@ -59,11 +59,11 @@ abbrev pub todo : Given → List ℕ → List ℕ → List ℕ → ℕ → Curso
 todo g unary binary starts s at = (perSize + 1) * (g .bound - s) + length (rest (layerOf s starts (g .propositions) (g .constants) unary binary) at)
 
 -- where the walk has come to, from st on
-pub record Sofar (i : Input) (t₀ t′ : Cols) (st : State (List ℕ)) (starts : List ℕ) (s : ℕ) (at : Cursor) (kept n : ℕ) : Type 0 where
+pub record Sofar (i : Input) (t₀ t′ : Cols) (st : State (List ℕ)) (starts : List ℕ) (s : ℕ) (at : Cursor) (n : Counts) : Type 0 where
   pub base : Table
   pub table : Table
-  pub stands : Standing i t₀ t′ base table starts s kept
-  pub is : st ≡ walkLeft i base table starts s at n
+  pub stands : Standing i t₀ t′ base table starts s (n .kept)
+  pub is : st ≡ walkLeft i base table starts s at (n .tried)
 
 -- where a size begins, whatever the table
 pub record Began (starts : List ℕ) (s : ℕ) : Type 0 where
@@ -82,17 +82,17 @@ began sizes kept s h l = record {
 }
 
 pub record Loop (g : Given) (marks lengths words unary binary : List ℕ) (from : Point) (t t′ : Cols) (starts : List ℕ) (s : ℕ) (at : Cursor)
-    (kept n : ℕ) : Type 0 where
+    (n : Counts) : Type 0 where
   pub low : 1 ≤ s
   pub high : s ≤ g .bound
-  pub kept-in : kept ≤ g .room
-  pub counts : n + todo g unary binary starts s at ≤ from .tried + inAll
+  pub kept-in : n .kept ≤ g .room
+  pub counts : n .tried + todo g unary binary starts s at ≤ from .counts .tried + inAll
   pub long : SameLengths t t′
   pub begun : Began starts s
   pub runs : (t₀ : Cols) (k₀ k : Table) → Passes (input g marks lengths words unary binary) → Room g t₀
-      → Standing (input g marks lengths words unary binary) t₀ t k₀ k (startsOf (t .sizes) (from .kept)) (from .size) (from .kept)
+      → Standing (input g marks lengths words unary binary) t₀ t k₀ k (startsOf (t .sizes) (from .counts .kept)) (from .size) (from .counts .kept)
       → Sofar (input g marks lengths words unary binary) t₀ t′
-      (walkLeft (input g marks lengths words unary binary) k₀ k (startsOf (t .sizes) (from .kept)) (from .size) (from .at) (from .tried)) starts s at kept n
+      (walkLeft (input g marks lengths words unary binary) k₀ k (startsOf (t .sizes) (from .counts .kept)) (from .size) (from .at) (from .counts .tried)) starts s at n
 
 -- a size has few candidates
 few-left : {g : Given} {unary binary : List ℕ} {from : Point} → GoAsks g unary binary from → (starts : List ℕ) (s : ℕ) (at : Cursor) → Began starts s → s ≤ g .bound
@@ -102,11 +102,11 @@ few-left {g} {unary} {binary} a starts s at b h =
     omega (arith, w, a .bound-in, a .propositions-in)
 
 pub loop-start : {g : Given} {marks lengths words unary binary : List ℕ} {from : Point} {t : Cols} {starts : List ℕ} → GoAsks g unary binary from
-    → starts ≡ startsOf (t .sizes) (from .kept) → Loop g marks lengths words unary binary from t t starts (from .size) (from .at) (from .kept) (from .tried)
+    → starts ≡ startsOf (t .sizes) (from .counts .kept) → Loop g marks lengths words unary binary from t t starts (from .size) (from .at) (from .counts)
 loop-start {g} {marks} {lengths} {words} {unary} {binary} {from} {t} a e =
-    subst (λ (x : List ℕ). Loop g marks lengths words unary binary from t t x (from .size) (from .at) (from .kept) (from .tried)) (sym e)
-    (let starts = startsOf (t .sizes) (from .kept) in
-    let b = began (t .sizes) (from .kept) (from .size) (omega (arith, a .kept-in, a .room-in)) (omega (arith, a .size-in, a .bound-in)) in
+    subst (λ (x : List ℕ). Loop g marks lengths words unary binary from t t x (from .size) (from .at) (from .counts)) (sym e)
+    (let starts = startsOf (t .sizes) (from .counts .kept) in
+    let b = began (t .sizes) (from .counts .kept) (from .size) (omega (arith, a .kept-in, a .room-in)) (omega (arith, a .size-in, a .bound-in)) in
     record {
       low = a .size-in .0;
       high = a .size-in .1;
@@ -123,25 +123,33 @@ kept-sizes {k = k} {t₀} {t} {kept} e h =
     ap (λ (x : Cols). take kept (x .sizes)) (h .are)
     ∙ take-at (map (λ c. c .node .size) k) _ kept (length-map (λ c. c .node .size) k ∙ sym e)
 
-module _ {g : Given} {marks lengths words unary binary : List ℕ} {from : Point} {t t′ : Cols} {starts : List ℕ} {s : ℕ} {at : Cursor} {kept n : ℕ}
-    (a : GoAsks g unary binary from) (v : Loop g marks lengths words unary binary from t t′ starts s at kept n) where
+-- a stand at which the walk has ended stays
+stays-ended : (i : Input) (d s : ℕ) (cs : List (Candidate (List ℕ))) (stand : Stand) → (tagOf stand-type stand ≡ 1) ⊎ (tagOf stand-type stand ≡ 2) → (k : Table)
+    → sizesLeft i d s cs (stateOf stand k) ≡ stateOf stand k
+stays-ended i d s cs (Going n) (inl e) k = absurd (omega (arith, e))
+stays-ended i d s cs (Going n) (inr e) k = absurd (omega (arith, e))
+stays-ended i d s cs (Found root n) e k = left-ended i d s cs (found (nodeOf root)) k (n .tried)
+stays-ended i d s cs (Full size n) e k = left-ended i d s cs (full size) k (n .tried)
+
+module _ {g : Given} {marks lengths words unary binary : List ℕ} {from : Point} {t t′ : Cols} {starts : List ℕ} {s : ℕ} {at : Cursor} {n : Counts}
+    (a : GoAsks g unary binary from) (v : Loop g marks lengths words unary binary from t t′ starts s at n) where
   abbrev i : Input
   i = input g marks lengths words unary binary
 
   -- ---- the end of a size
 
   module _ (step : Steps (layerAt i s starts) at End) where
-    none-left : (k₀ k : Table) → walkLeft i k₀ k starts s at n ≡ sizesLeft i (g .bound + 1 - s) s [] (going k n)
-    none-left k₀ k = ap (λ (cs : List Cand). sizesLeft i (g .bound + 1 - s) s (map (make i k₀ s) cs) (going k n)) (end-left step)
+    none-left : (k₀ k : Table) → walkLeft i k₀ k starts s at (n .tried) ≡ sizesLeft i (g .bound + 1 - s) s [] (going k (n .tried))
+    none-left k₀ k = ap (λ (cs : List Cand). sizesLeft i (g .bound + 1 - s) s (map (make i k₀ s) cs) (going k (n .tried))) (end-left step)
 
     -- of the last one
-    pub stops-none : g .bound ≤ s → GoDoes g marks lengths words unary binary from t t′ (Going n kept)
+    pub stops-none : g .bound ≤ s → GoDoes g marks lengths words unary binary from t t′ (Going n)
     stops-none h = record {
       runs = λ t₀ k₀ k ok room w.
           let z = v .runs t₀ k₀ k ok room w in
           record {
             table = z .table;
-            is = z .is ∙ none-left (z .base) (z .table) ∙ left-none i (g .bound + 1 - s) s (going (z .table) n) (omega (arith, v .high));
+            is = z .is ∙ none-left (z .base) (z .table) ∙ left-none i (g .bound + 1 - s) s (going (z .table) (n .tried)) (omega (arith, v .high));
             counted = z .stands .counted;
             holds = z .stands .holds;
           };
@@ -150,12 +158,12 @@ module _ {g : Given} {marks lengths words unary binary : List ℕ} {from : Point
     -- and of another
     module _ (h : s < g .bound) where
       abbrev next-starts : List ℕ
-      next-starts = startsOf (t′ .sizes) kept
+      next-starts = startsOf (t′ .sizes) (n .kept)
 
       next-began : Began next-starts (s + 1)
-      next-began = began (t′ .sizes) kept (s + 1) (omega (arith, v .kept-in, a .room-in)) (omega (arith, a .bound-in))
+      next-began = began (t′ .sizes) (n .kept) (s + 1) (omega (arith, v .kept-in, a .room-in)) (omega (arith, a .bound-in))
 
-      begins : {t₀ : Cols} {k₀ k : Table} → Standing i t₀ t′ k₀ k starts s kept → Standing i t₀ t′ k k next-starts (s + 1) kept
+      begins : {t₀ : Cols} {k₀ k : Table} → Standing i t₀ t′ k₀ k starts s (n .kept) → Standing i t₀ t′ k k next-starts (s + 1) (n .kept)
       begins {k = k} w = record {
         counted = w .counted;
         holds = w .holds;
@@ -163,17 +171,17 @@ module _ {g : Given} {marks lengths words unary binary : List ℕ} {from : Point
         small = λ p l. omega (arith, w .small p l);
         less = omega arith;
         same = λ p l. refl;
-        begins = λ u l m. column-begins nothing k (t′ .sizes) kept (w .rising) (kept-sizes (w .counted) (w .holds)) u (omega (arith, a .bound-in));
+        begins = λ u l m. column-begins nothing k (t′ .sizes) (n .kept) (w .rising) (kept-sizes (w .counted) (w .holds)) u (omega (arith, a .bound-in));
       }
 
-      next-layer : {t₀ : Cols} {k₀ k : Table} → Passes i → Standing i t₀ t′ k₀ k starts s kept
+      next-layer : {t₀ : Cols} {k₀ k : Table} → Passes i → Standing i t₀ t′ k₀ k starts s (n .kept)
           → layer (offer i) (suc s) k ≡ map (make i k (s + 1)) (rest (layerAt i (s + 1) next-starts) (first next-starts (s + 1)))
       next-layer {k = k} ok w =
           ap (λ (x : ℕ). layer (offer i) x k) (sym (add-one s))
           ∙ sym (first-layer (offer i) nothing k (layerAt i (s + 1) next-starts) (offered i ok (s + 1) next-starts k)
           (begins w .begins) (omega arith) (omega (arith, next-began .long, a .bound-in)))
 
-      pub turn-size : Loop g marks lengths words unary binary from t t′ (startsOf (t′ .sizes) kept) (s + 1) (first (startsOf (t′ .sizes) kept) (s + 1)) kept n
+      pub turn-size : Loop g marks lengths words unary binary from t t′ (startsOf (t′ .sizes) (n .kept)) (s + 1) (first (startsOf (t′ .sizes) (n .kept)) (s + 1)) n
       turn-size = record {
         low = omega arith;
         high = omega arith;
@@ -190,14 +198,14 @@ module _ {g : Given} {marks lengths words unary binary : List ℕ} {from : Point
               table = z .table;
               stands = begins (z .stands);
               is = z .is ∙ none-left (z .base) (z .table)
-                  ∙ left-next i (g .bound + 1 - s) (g .bound - s - 1) s (z .table) n cs (omega arith) (next-layer ok (z .stands))
-                  ∙ ap (λ (x : ℕ). sizesLeft i x (suc s) cs (going (z .table) n)) e
-                  ∙ ap (λ (x : ℕ). sizesLeft i (g .bound + 1 - (s + 1)) x cs (going (z .table) n)) (sym (add-one s));
+                  ∙ left-next i (g .bound + 1 - s) (g .bound - s - 1) s (z .table) (n .tried) cs (omega arith) (next-layer ok (z .stands))
+                  ∙ ap (λ (x : ℕ). sizesLeft i x (suc s) cs (going (z .table) (n .tried))) e
+                  ∙ ap (λ (x : ℕ). sizesLeft i (g .bound + 1 - (s + 1)) x cs (going (z .table) (n .tried))) (sym (add-one s));
             };
       }
 
       -- less is to be tried
-      pub less-size : todo g unary binary (startsOf (t′ .sizes) kept) (s + 1) (first (startsOf (t′ .sizes) kept) (s + 1)) < todo g unary binary starts s at
+      pub less-size : todo g unary binary (startsOf (t′ .sizes) (n .kept)) (s + 1) (first (startsOf (t′ .sizes) (n .kept)) (s + 1)) < todo g unary binary starts s at
       less-size = omega (arith, few-left a next-starts (s + 1) (first next-starts (s + 1)) next-began (omega arith))
 
   -- ---- a candidate
@@ -207,109 +215,63 @@ module _ {g : Given} {marks lengths words unary binary : List ℕ} {from : Point
     shorter = ap length (step-left step) ∙ omega arith
 
     -- the count fits
-    pub counts-one : n + 1 < 2 ^ 64
+    pub counts-one : n .tried + 1 < 2 ^ 64
     counts-one = omega (arith, v .counts, a .counts, shorter)
 
     pub less-one : todo g unary binary starts s next < todo g unary binary starts s at
     less-one = omega (arith, shorter)
 
-    less-counts : n + 1 + todo g unary binary starts s next ≤ from .tried + inAll
-    less-counts = omega (arith, v .counts, shorter)
+    abbrev node : Node
+    node = record { code = code; left = l; right = q; size = s }
 
-    module _ {masks old rows : List ℕ} (m : Passes i → Masks i masks) (long : mostSessions ≤ length old)
-        (written : Written (g .sessions) (g .propositions) masks words (t′ .matrices) code (l .0) (q .0) old rows) where
-      in-rows : Passes i → g .sessions ≤ length old
-      in-rows ok = omega (arith, ok .sessions-in)
-
-      pub stops-found : true ≡ agreeing (g .sessions) marks lengths rows
-          → GoDoes g marks lengths words unary binary from t t′ (Found (record { code = code; left = l; right = q; size = s }) (n + 1) kept)
-      stops-found e = record {
+    module _ {masks rows : List ℕ} {u : Cols} (m : Passes i → Masks i masks) (long : mostSessions ≤ length rows) where
+      -- the walk goes on
+      pub turn-goes-on : {after : Counts} → SameLengths t u → JudgeDoes g marks lengths words masks node n rows t′ u (Going after)
+          → Loop g marks lengths words unary binary from t u starts s next after
+      turn-goes-on {after} same j = record {
+        low = v .low;
+        high = v .high;
+        kept-in = j .kept-in;
+        counts = omega (arith, v .counts, shorter, j .tries);
+        long = same;
+        begun = v .begun;
         runs = λ t₀ k₀ k ok room w.
             let z = v .runs t₀ k₀ k ok room w in
+            let f = make i (z .base) s (cand code (l .0) (q .0)) in
+            let y = j .runs unary binary t₀ (z .table) f ok room (m ok) (omega (arith, ok .sessions-in)) (z .stands .holds) (z .stands .counted)
+            (posed ok (z .stands) (v .low) (v .high) (v .begun .rises) step) in
             record {
-              table = z .table;
-              is = z .is ∙ turn-found ok (z .stands) (v .low) (v .high) (v .begun .rises) step (m ok) (in-rows ok) written n e;
-              counted = z .stands .counted;
-              holds = z .stands .holds;
+              base = z .base;
+              table = y .table;
+              stands = turn-stands ok (z .stands) (v .low) (v .high) (v .begun .rises) step (n .tried) y;
+              is = z .is ∙ turn-goes ok (z .stands) (v .low) (v .high) (v .begun .rises) step (n .tried) y;
             };
       }
 
-      module _ (e : false ≡ agreeing (g .sessions) marks lengths rows) where
-        pub turn-dropped : Repeats (g .sessions) (t′ .matrices) rows kept
-            → Loop g marks lengths words unary binary from t t′ starts s next kept (n + 1)
-        turn-dropped y = record {
-          low = v .low;
-          high = v .high;
-          kept-in = v .kept-in;
-          counts = less-counts;
-          long = v .long;
-          begun = v .begun;
-          runs = λ t₀ k₀ k ok room w.
-              let z = v .runs t₀ k₀ k ok room w in
-              record {
-                base = z .base;
-                table = z .table;
-                stands = z .stands;
-                is = z .is ∙ turn-known ok (z .stands) (v .low) (v .high) (v .begun .rises) step (m ok) (in-rows ok) written e (v .kept-in) n y;
-              };
-        }
-
-        module _ (y : Fresh (g .sessions) (t′ .matrices) rows kept) where
-          pub stops-full : g .room ≤ kept → GoDoes g marks lengths words unary binary from t t′ (Full s (n + 1) kept)
-          stops-full h = record {
-            runs = λ t₀ k₀ k ok room w.
-                let z = v .runs t₀ k₀ k ok room w in
-                record {
-                  table = z .table;
-                  is = z .is ∙ turn-full ok (z .stands) (v .low) (v .high) (v .begun .rises) step (m ok) (in-rows ok) written e (v .kept-in) y n h;
-                  counted = z .stands .counted;
-                  holds = z .stands .holds;
-                };
-          }
-
-          room-at : {t₀ : Cols} → Room g t₀ → kept < g .room → RoomAt i kept t₀
-          room-at w h = record {
-            codes = omega (arith, w .codes);
-            lefts = omega (arith, w .lefts);
-            rights = omega (arith, w .rights);
-            sizes = omega (arith, w .sizes);
-            matrices = omega (arith, w .matrices, place-end kept (g .room) (g .sessions) h);
-          }
-
-          pub turn-new : {u : Cols} → kept < g .room → SameLengths t u
-              → Keeps (g .sessions) rows kept (record { code = code; left = l .0; right = q .0; size = s }) t′ u
-              → Loop g marks lengths words unary binary from t u starts s next (kept + 1) (n + 1)
-          turn-new h same x = record {
-            low = v .low;
-            high = v .high;
-            kept-in = omega arith;
-            counts = less-counts;
-            long = same;
-            begun = v .begun;
-            runs = λ t₀ k₀ k ok room w.
-                let z = v .runs t₀ k₀ k ok room w in
-                record {
-                  base = z .base;
-                  table = z .table ++ (make i (z .base) s (cand code (l .0) (q .0)) ∷ []);
-                  stands = turn-stands ok (z .stands) (v .low) (v .high) (v .begun .rises) step (m ok) (in-rows ok) written e (v .kept-in) y n (room-at room h) x;
-                  is = z .is ∙ turn-kept ok (z .stands) (v .low) (v .high) (v .begun .rises) step (m ok) (in-rows ok) written e (v .kept-in) y n h;
-                };
-          }
+      -- or has ended
+      pub stops : (stand : Stand) → (tagOf stand-type stand ≡ 1) ⊎ (tagOf stand-type stand ≡ 2) → JudgeDoes g marks lengths words masks node n rows t′ u stand
+          → GoDoes g marks lengths words unary binary from t u stand
+      stops stand e j = record {
+        runs = λ t₀ k₀ k ok room w.
+            let z = v .runs t₀ k₀ k ok room w in
+            let f = make i (z .base) s (cand code (l .0) (q .0)) in
+            let y = j .runs unary binary t₀ (z .table) f ok room (m ok) (omega (arith, ok .sessions-in)) (z .stands .holds) (z .stands .counted)
+            (posed ok (z .stands) (v .low) (v .high) (v .begun .rises) step) in
+            let cs = map (make i (z .base) s) (rest (layerAt i s starts) next) in
+            record {
+              table = y .table;
+              is = z .is ∙ tries ok (z .stands) (v .low) (v .high) (v .begun .rises) step (n .tried)
+                  ∙ ap (sizesLeft i (g .bound + 1 - s) s cs) (y .is) ∙ stays-ended i (g .bound + 1 - s) s cs stand e (y .table);
+              counted = y .counted;
+              holds = y .holds;
+            };
+      }
 
 -- ---- what the callees answered, by the case that was taken
 
 pub ended : {y : Layer} {at : Cursor} (step : Step) → tagOf step-type step ≡ 1 → Steps y at step → Steps y at End
 ended (Told code l q next) e w = absurd (omega (arith, e))
 ended End e w = w
-
-module _ {r : ℕ} {matrices rows : List ℕ} {kept : ℕ} where
-  pub repeats : (known : Known) → tagOf known-type known ≡ 0 → KnownAnswer r matrices rows kept known → Repeats r matrices rows kept
-  repeats (At p) e w = record { place = p; answer = w }
-  repeats New e w = absurd (omega (arith, e))
-
-  pub fresh : (known : Known) → tagOf known-type known ≡ 1 → KnownAnswer r matrices rows kept known → Fresh r matrices rows kept
-  fresh (At p) e w = absurd (omega (arith, e))
-  fresh New e w = record { answer = w }
 
 -- the masks are those of the sessions
 pub masked : (g : Given) (marks lengths words unary binary new : List ℕ) (done : Bool) → MasksAnswer (g .sessions) lengths (replicate {A = ℕ} 32 0) new done

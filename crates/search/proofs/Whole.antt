@@ -86,14 +86,14 @@ module _ (i : Input) (t : Cols) (d : Decided (searchRows i t) 0) where
     answered : (stand : Stand) → Stood i t (after (offer i) (i .room) (i .bound)) t′ stand
         → Searched i t (answerOf stand) t′
     unfolding finish
-    answered (Going tried n) w =
-        let e = walk-end (Going tried n) w in
+    answered (Going n) w =
+        let e = walk-end (Going n) w in
         record { decided = d; outcome = (rw (e, w .counted), w .holds .are ∙ ap (λ (st : State (List ℕ)). tableOver (kept st) t) (sym e)) }
-    answered (Found root tried n) w =
-        let e = walk-end (Found root tried n) w in
+    answered (Found root n) w =
+        let e = walk-end (Found root n) w in
         record { decided = d; outcome = (rw (e, w .counted), w .holds .are ∙ ap (λ (st : State (List ℕ)). tableOver (kept st) t) (sym e)) }
-    answered (Full size tried n) w =
-        let e = walk-end (Full size tried n) w in
+    answered (Full size n) w =
+        let e = walk-end (Full size n) w in
         record { decided = d; outcome = (rw (e, w .counted), w .holds .are ∙ ap (λ (st : State (List ℕ)). tableOver (kept st) t) (sym e)) }
 
     pub search-answers : (stand : Stand) → GoDoes (givenOf i) (i .recording .marks) (i .recording .lengths) (i .recording .words) (i .unary) (i .binary) firstPoint t t′ stand → Searched i t (answerOf stand) t′

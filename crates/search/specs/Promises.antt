@@ -11,6 +11,7 @@ use Rattle.walk.specs.Walk.{Ending, found, none, full, trail}
 use Rattle.walk.specs.Input.{Input, separating, offer}
 use Rattle.walk.specs.Promises.{Table, NoneBelow, Kept, DecidedAt, AgreeWhereRead, Wider}
 use Rattle.walk.specs.Promises as walk
+use Rattle.search.specs.declared.counts.Counts.{Counts}
 use Rattle.search.specs.declared.SearchAnswer.{SearchAnswer}
 use Rattle.search.specs.declared.SearchAnswer.the-variants.{Found, None, Full, Refused}
 use Rattle.search.specs.Table.{Cols, tableOver}
@@ -37,37 +38,37 @@ pub record Holding (i : Input) (t u : Cols) (kept : ℕ) (k : Table) : Type 0 wh
 -- "a formula found uses only what was offered, keeps to the bound, separates the sessions, and no smaller one over what was offered does": it is
 -- the root node over the table
 abbrev pub FoundSmallest : Type 0
-FoundSmallest = (i : Input) (t u : Cols) (root : Node) (tried kept : ℕ) → Searched i t (Found root tried kept) u
-    → (k : Table) × Holding i t u kept k × walk.Found i (nodeOf root) k
+FoundSmallest = (i : Input) (t u : Cols) (root : Node) (n : Counts) → Searched i t (Found root n) u
+    → (k : Table) × Holding i t u (n .kept) k × walk.Found i (nodeOf root) k
 
 -- ""None" only where no such formula within the bound separates"
 abbrev pub NoneMeansNone : Type 0
-NoneMeansNone = (i : Input) (t u : Cols) (tried kept : ℕ) → Searched i t (None tried kept) u
-    → (k : Table) × Holding i t u kept k × NoneBelow i (i .bound + 1)
+NoneMeansNone = (i : Input) (t u : Cols) (n : Counts) → Searched i t (None n) u
+    → (k : Table) × Holding i t u (n .kept) k × NoneBelow i (i .bound + 1)
 
 -- ""Full at size s" only where the walk needs a place beyond the table's room, and then no such formula smaller than s separates": with any larger
 -- room the walk keeps the same table and one formula more, of that size
 abbrev pub FullNeedsRoom : Type 0
-FullNeedsRoom = (i : Input) (t u : Cols) (size tried kept : ℕ) → Searched i t (Full size tried kept) u
-    → (k : Table) × Holding i t u kept k × walk.Full i size k
+FullNeedsRoom = (i : Input) (t u : Cols) (size : ℕ) (n : Counts) → Searched i t (Full size n) u
+    → (k : Table) × Holding i t u (n .kept) k × walk.Full i size k
 
 -- "With the same sessions, operators in the same order and choice of constants, a larger bound or table never changes a formula found": where a
 -- search of j, which is i with a larger or equal bound and room, isn't refused, its whole answer is the same, and its slices hold the same table
 abbrev pub LargerSame : Type 0
-LargerSame = (i j : Input) → Wider i j → (t u : Cols) (root : Node) (tried kept : ℕ) → Searched i t (Found root tried kept) u
+LargerSame = (i j : Input) → Wider i j → (t u : Cols) (root : Node) (n : Counts) → Searched i t (Found root n) u
     → (t′ : Cols) (a : SearchAnswer) (v : Cols) → Searched j t′ a v → said a .number ≡ 0
-    → (a ≡ Found root tried kept) × ((k : Table) × Holding i t u kept k × Holding j t′ v kept k)
+    → (a ≡ Found root n) × ((k : Table) × Holding i t u (n .kept) k × Holding j t′ v (n .kept) k)
 
 -- ---- the counts
 
 -- the table that the slices hold, and of the candidates in 01's order the deciding one at the position told, counted from 1; at NONE they were as many
-abbrev pub CountedTo : Input → Cols → Cols → ℕ → Ending → ℕ → Type 0
-CountedTo i t u kept e tried = (k : Table) × Holding i t u kept k × DecidedAt (separating i) (trail (offer i) (i .room) (i .bound)) e k tried
+abbrev pub CountedTo : Input → Cols → Cols → Ending → Counts → Type 0
+CountedTo i t u e n = (k : Table) × Holding i t u (n .kept) k × DecidedAt (separating i) (trail (offer i) (i .room) (i .bound)) e k (n .tried)
 
 abbrev pub Counted : Input → Cols → Cols → SearchAnswer → Type 0
-Counted i t u (Found root tried kept) = CountedTo i t u kept (found (nodeOf root)) tried
-Counted i t u (None tried kept) = CountedTo i t u kept none tried
-Counted i t u (Full size tried kept) = CountedTo i t u kept (full size) tried
+Counted i t u (Found root n) = CountedTo i t u (found (nodeOf root)) n
+Counted i t u (None n) = CountedTo i t u none n
+Counted i t u (Full size n) = CountedTo i t u (full size) n
 Counted i t u (Refused k) = Unit {0}
 
 -- "the number of candidates tried, up to and including the deciding one, and the number kept"

@@ -8,6 +8,7 @@ use lib.ListN.{length, getD}
 use lib.Dec.{eqb}
 use Rattle.rules.specs.Limits.{mostPropositions, mostSize, mostRoom}
 use Rattle.sequence.specs.Operators.{unaryCode, binaryCode, unaryOf, binaryOf}
+use Rattle.formula.specs.declared.kinds.Node.{Node}
 use Rattle.formula.specs.Kinds.{nodeOf}
 use Rattle.formula.specs.Formula.{Leaf, proposition, constant}
 use Rattle.walk.specs.Walk.{Candidate, found, full, State, going, ended, consider, through}
@@ -19,7 +20,9 @@ use Rattle.order.specs.Size.{Cand, Layer, layerOf, start}
 use Rattle.order.specs.Ahead.{rest, first, leafCursor}
 use Rattle.order.specs.Starts.{startsOf}
 use Rattle.table.specs.Formulas.{Holds}
-use Rattle.rows.specs.Formulas.{nothing, matrixAt}
+use Rattle.rows.specs.Formulas.{nothing, matrixAt, Makes, Masks}
+use Rattle.rows.specs.Formulas as rows
+use Rattle.search.specs.declared.counts.Counts.{Counts}
 use Rattle.search.specs.declared.given.Given.{Given}
 use Rattle.search.specs.declared.SearchAnswer.{SearchAnswer}
 use Rattle.search.specs.declared.SearchAnswer.the-variants as answer
@@ -45,27 +48,27 @@ pub record Room (g : Given) (t : Cols) : Type 0 where
 
 -- ---- stands
 
+abbrev pub countsOf : Stand → Counts
+countsOf (Going n) = n
+countsOf (Found root n) = n
+countsOf (Full size n) = n
+
 -- a stand of the program as a state of the walk
 abbrev pub stateOf : Stand → Table → State (List ℕ)
-stateOf (Going t n) k = going k t
-stateOf (Found root t n) k = ended (found (nodeOf root)) k t
-stateOf (Full size t n) k = ended (full size) k t
-
-abbrev pub keptOf : Stand → ℕ
-keptOf (Going t n) = n
-keptOf (Found root t n) = n
-keptOf (Full size t n) = n
+stateOf (Going n) k = going k (n .tried)
+stateOf (Found root n) k = ended (found (nodeOf root)) k (n .tried)
+stateOf (Full size n) k = ended (full size) k (n .tried)
 
 -- and as an answer: "After the last, NONE."
 abbrev pub answerOf : Stand → SearchAnswer
-answerOf (Going t n) = answer.None t n
-answerOf (Found root t n) = answer.Found root t n
-answerOf (Full size t n) = answer.Full size t n
+answerOf (Going n) = answer.None n
+answerOf (Found root n) = answer.Found root n
+answerOf (Full size n) = answer.Full size n
 
 pub record Stood (i : Input) (t₀ : Cols) (st : State (List ℕ)) (t : Cols) (stand : Stand) : Type 0 where
   pub table : Table
   pub is : st ≡ stateOf stand table
-  pub counted : keptOf stand ≡ length table
+  pub counted : countsOf stand .kept ≡ length table
   pub holds : Holds i table t₀ t
 
 -- ---- a candidate by its code and fields, as the walk's formula
@@ -121,7 +124,28 @@ startOf sizes kept s = record { starts = startsOf sizes kept; at = first (starts
 
 -- the point before the first candidate
 abbrev pub firstPoint : Point
-firstPoint = record { size = 1; at = leafCursor 0; kept = 0; tried = 0 }
+firstPoint = record { size = 1; at = leafCursor 0; counts = record { tried = 0; kept = 0 } }
+
+-- a candidate over the table k: its node, and the matrix that its code and fields make
+pub record Posed (i : Input) (k : Table) (node : Node) (x : Candidate (List ℕ)) : Type 0 where
+  pub node-is : x .node ≡ nodeOf node
+  pub makes : Makes (i .recording .propositions) (length k) (node .code) (node .left .0) (node .right .0)
+  pub matrix-is : rows.made i k makes ≡ x .matrix
+
+pub record JudgeAsks (g : Given) (before : Counts) : Type 0 where
+  pub room-in : g .room ≤ mostRoom
+  pub kept-in : before .kept ≤ g .room
+  pub counts : before .tried + 1 < 2 ^ 64
+
+-- it is counted, and comes to what the walk makes of it
+pub record JudgeDoes (g : Given) (marks lengths words masks : List ℕ) (node : Node) (before : Counts) (rows : List ℕ) (t t′ : Cols) (stand : Stand) : Type 0 where
+  pub tries : countsOf stand .tried ≡ before .tried + 1
+  pub kept-in : countsOf stand .kept ≤ g .room
+  pub runs : (unary binary : List ℕ) (t₀ : Cols) (k : Table) (x : Candidate (List ℕ)) → Passes (input g marks lengths words unary binary) → Room g t₀
+      → Masks (input g marks lengths words unary binary) masks → g .sessions ≤ length rows
+      → Holds (input g marks lengths words unary binary) k t₀ t → before .kept ≡ length k → Posed (input g marks lengths words unary binary) k node x
+      → Stood (input g marks lengths words unary binary) t₀
+      (consider (offer (input g marks lengths words unary binary)) (g .room) (going k (before .tried)) x) t′ stand
 
 pub record GoAsks (g : Given) (unary binary : List ℕ) (from : Point) : Type 0 where
   pub bound-in : g .bound ≤ mostSize
@@ -130,11 +154,11 @@ pub record GoAsks (g : Given) (unary binary : List ℕ) (from : Point) : Type 0 
   pub unary-few : length unary ≤ operators
   pub binary-few : length binary ≤ operators
   pub size-in : (1 ≤ from .size) × (from .size ≤ g .bound)
-  pub kept-in : from .kept ≤ g .room
-  pub counts : from .tried + inAll < 2 ^ 64
+  pub kept-in : from .counts .kept ≤ g .room
+  pub counts : from .counts .tried + inAll < 2 ^ 64
 
 pub record GoDoes (g : Given) (marks lengths words unary binary : List ℕ) (from : Point) (t t′ : Cols) (stand : Stand) : Type 0 where
   pub runs : (t₀ : Cols) (k₀ k : Table) → Passes (input g marks lengths words unary binary) → Room g t₀
-      → Standing (input g marks lengths words unary binary) t₀ t k₀ k (startsOf (t .sizes) (from .kept)) (from .size) (from .kept)
+      → Standing (input g marks lengths words unary binary) t₀ t k₀ k (startsOf (t .sizes) (from .counts .kept)) (from .size) (from .counts .kept)
       → Stood (input g marks lengths words unary binary) t₀
-      (walkLeft (input g marks lengths words unary binary) k₀ k (startsOf (t .sizes) (from .kept)) (from .size) (from .at) (from .tried)) t′ stand
+      (walkLeft (input g marks lengths words unary binary) k₀ k (startsOf (t .sizes) (from .counts .kept)) (from .size) (from .at) (from .counts .tried)) t′ stand

@@ -1,7 +1,9 @@
 // The search: the walk of document 01 over a table in lent slices (aux.rs, cache.rs, cm.rs).
+pub mod counts;
 mod given;
 mod turns;
 
+use crate::counts::Counts;
 use crate::given::Given;
 use crate::turns::Stand;
 use formula::kinds::Node;
@@ -11,11 +13,11 @@ ghost use Rattle.search.specs.Turns.{answerOf};
 ghost use Rattle.walk.specs.Input.{inputOf};
 ghost use Rattle.search.specs.Search.{Searched};
 
-// FOUND with the root node over the kept list, NONE, FULL at a size, each with the number tried and the number kept; or a refusal.
+// FOUND with the root node over the kept list, NONE, FULL at a size, each with the counts; or a refusal.
 pub enum SearchAnswer {
-    Found { root: Node, tried: u64, kept: usize },
-    None { tried: u64, kept: usize },
-    Full { size: u8, tried: u64, kept: usize },
+    Found { root: Node, counts: Counts },
+    None(Counts),
+    Full { size: u8, counts: Counts },
     Refused(u8),
 }
 
@@ -24,9 +26,9 @@ fn answer_of(stand: Stand) -> SearchAnswer
     ensures { λ answer. ⌜ answer ≡ answerOf stand ⌝ }
 {
     match stand {
-        Stand::Going { tried, kept } => SearchAnswer::None { tried, kept },
-        Stand::Found { root, tried, kept } => SearchAnswer::Found { root, tried, kept },
-        Stand::Full { size, tried, kept } => SearchAnswer::Full { size, tried, kept },
+        Stand::Going(counts) => SearchAnswer::None(counts),
+        Stand::Found { root, counts } => SearchAnswer::Found { root, counts },
+        Stand::Full { size, counts } => SearchAnswer::Full { size, counts },
     }
 }
 

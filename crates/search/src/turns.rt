@@ -1,4 +1,5 @@
 // The search as one loop (enum_aux in aux.rs): the next candidate, its rows, FOUND, the comparison with what is kept, FULL, kept.
+use crate::counts::Counts;
 use crate::given::Given;
 use formula::kinds::Node;
 use order::Cursor;
@@ -10,22 +11,20 @@ use table::Known;
 ghost use mathlib.Core.Path.{_≡_};
 ghost use Prim.Native.Nat.{_^_, _<_};
 ghost use Rattle.search.specs.Table.{cols};
-ghost use Rattle.search.specs.Turns.{firstPoint, startOf, GoAsks, GoDoes};
+ghost use Rattle.search.specs.Turns.{firstPoint, startOf, JudgeAsks, JudgeDoes, GoAsks, GoDoes};
 
-// A point of the walk before a candidate: the size, where its candidates go on, the number kept and the number tried. With the table it is all that the
-// walk needs to go on.
+// A point of the walk before a candidate: the size, where its candidates go on, and the counts. With the table it is all that the walk needs to go on.
 pub struct Point {
     pub size: usize,
     pub at: Cursor,
-    pub kept: usize,
-    pub tried: u64,
+    pub counts: Counts,
 }
 
-// Where the walk stands: after its last candidate, or at the one that ended it.
+// Where the walk stands: after a candidate that didn't end it, or at the one that did.
 pub enum Stand {
-    Going { tried: u64, kept: usize },
-    Found { root: Node, tried: u64, kept: usize },
-    Full { size: u8, tried: u64, kept: usize },
+    Going(Counts),
+    Found { root: Node, counts: Counts },
+    Full { size: u8, counts: Counts },
 }
 
 // Where a size begins: the first place of each size up to it, and its first cursor.
@@ -57,9 +56,76 @@ pub(crate) fn first_point() -> Point
             operator: 0,
             second: false,
         },
-        kept: 0,
-        tried: 0,
+        counts: Counts { tried: 0, kept: 0 },
     }
+}
+
+// One candidate: it is counted, its rows are made, then FOUND, the comparison with what is kept, FULL, kept. `rows` is room for its rows.
+fn judge(
+    given: Given,
+    marks: &[u8],
+    lengths: &[u8],
+    words: &[u64],
+    masks: &[u64],
+    node: Node,
+    before: Counts,
+    rows: &mut [u64],
+    codes: &mut [u8],
+    lefts: &mut [u16],
+    rights: &mut [u16],
+    sizes: &mut [u8],
+    matrices: &mut [u64],
+) -> Stand
+    requires { ⌜ JudgeAsks given before ⌝ }
+    ensures { λ stand. ⌜ JudgeDoes given (now (marks .entry)) (now (lengths .entry)) (now (words .entry)) (now (masks .entry)) node before (now (rows .entry))
+        (cols (now (codes .entry)) (now (lefts .entry)) (now (rights .entry)) (now (sizes .entry)) (now (matrices .entry)))
+        (cols (now (codes .exit)) (now (lefts .exit)) (now (rights .exit)) (now (sizes .exit)) (now (matrices .exit))) stand ⌝ }
+{
+    let r = given.sessions;
+    let kept = before.kept;
+    let tried = before.tried + 1;
+    rows::rows_of(
+        r,
+        given.propositions,
+        masks,
+        words,
+        matrices,
+        node.code,
+        node.left,
+        node.right,
+        rows,
+    );
+    if table::agrees(r, marks, lengths, rows) {
+        return Stand::Found {
+            root: node,
+            counts: Counts { tried, kept },
+        };
+    }
+    let known = table::known_at(r, matrices, rows, kept);
+    let Known::New = known else {
+        return Stand::Going(Counts { tried, kept });
+    };
+    if given.room <= kept {
+        return Stand::Full {
+            size: node.size,
+            counts: Counts { tried, kept },
+        };
+    }
+    table::keep(
+        r,
+        rows,
+        Place(kept as u16),
+        node,
+        codes,
+        lefts,
+        rights,
+        sizes,
+        matrices,
+    );
+    Stand::Going(Counts {
+        tried,
+        kept: kept + 1,
+    })
 }
 
 // The walk from a point on.
@@ -82,19 +148,16 @@ pub(crate) fn go_on(
         (cols (now (codes .entry)) (now (lefts .entry)) (now (rights .entry)) (now (sizes .entry)) (now (matrices .entry)))
         (cols (now (codes .exit)) (now (lefts .exit)) (now (rights .exit)) (now (sizes .exit)) (now (matrices .exit))) stand ⌝ }
 {
-    let r = given.sessions;
     let m = given.propositions;
     let bound = given.bound;
-    let room = given.room;
     let constants = given.constants;
     let mut masks = [0u64; rules::SESSIONS];
-    rows::masks_of(r, lengths, &mut masks);
+    rows::masks_of(given.sessions, lengths, &mut masks);
     let mut rows = [0u64; rules::SESSIONS];
     let mut s = from.size;
     let mut at = from.at;
-    let mut k = from.kept;
-    let mut n = from.tried;
-    let mut starts = of_table(sizes, k as u16);
+    let mut counts = from.counts;
+    let mut starts = of_table(sizes, counts.kept as u16);
     loop {
         let step = order::next(at, &starts, s, m as u8, constants, unary, binary);
         let Step::Candidate {
@@ -105,52 +168,39 @@ pub(crate) fn go_on(
         } = step
         else {
             if bound <= s {
-                return Stand::Going { tried: n, kept: k };
+                return Stand::Going(counts);
             }
             s += 1;
-            let start = begin(sizes, k, s);
+            let start = begin(sizes, counts.kept, s);
             starts = start.starts;
             at = start.at;
             continue;
         };
-        n += 1;
         at = next;
-        rows::rows_of(r, m, &masks, words, matrices, code, left, right, &mut rows);
         let node = Node {
             code,
             left,
             right,
             size: s as u8,
         };
-        if table::agrees(r, marks, lengths, &rows) {
-            return Stand::Found {
-                root: node,
-                tried: n,
-                kept: k,
-            };
-        }
-        let known = table::known_at(r, matrices, &rows, k);
-        let Known::New = known else {
-            continue;
-        };
-        if room <= k {
-            return Stand::Full {
-                size: s as u8,
-                tried: n,
-                kept: k,
-            };
-        }
-        table::keep(
-            r,
-            &rows,
-            Place(k as u16),
+        let stand = judge(
+            given,
+            marks,
+            lengths,
+            words,
+            &masks,
             node,
+            counts,
+            &mut rows,
             codes,
             lefts,
             rights,
             sizes,
             matrices,
         );
-        k += 1;
+        let Stand::Going(after) = stand else {
+            return stand;
+        };
+        counts = after;
     }
 }
