@@ -127,9 +127,9 @@ few i t t′ say e p l =
 
 kept-within : (i : Input) (t t′ : Cols) (a : SearchAnswer) → Searched i t a t′ → length (t′ .codes) ≡ length (t .codes) → keptOf a ≤ length (t .codes)
 unfolding keptIn
-kept-within i t t′ (Found root tried k) s l = few i t t′ (said (Found root tried k)) (s .outcome .0) (s .outcome .1) l
-kept-within i t t′ (None tried k) s l = few i t t′ (said (None tried k)) (s .outcome .0) (s .outcome .1) l
-kept-within i t t′ (Full size tried k) s l = few i t t′ (said (Full size tried k)) (s .outcome .0) (s .outcome .1) l
+kept-within i t t′ (Found root n) s l = few i t t′ (said (Found root n)) (s .outcome .0) (s .outcome .1) l
+kept-within i t t′ (None n) s l = few i t t′ (said (None n)) (s .outcome .0) (s .outcome .1) l
+kept-within i t t′ (Full size n) s l = few i t t′ (said (Full size n)) (s .outcome .0) (s .outcome .1) l
 kept-within i t t′ (Refused k) s l = omega arith
 
 pub kept-in-room : (i : Input) (t t′ : Cols) (a : SearchAnswer) (n k : ℕ) → Searched i t a t′ → length (t′ .codes) ≡ length (t .codes)
@@ -203,12 +203,12 @@ module _ (i : Input) (n : ℕ) (old : List ℕ) (d : Done) (new : List ℕ) (ran
   outcome-over : (a : SearchAnswer) → d .answer ≡ a → Outcome i (ran .given) a (ran .left)
       → ((d .kept ≤ room) × (d .kept ≤ n)) × Outcome i (columns ns old) a (columns (putOver d ns) new)
   unfolding Answered keptIn
-  outcome-over (Found root tried k) e o =
-      let x = answered (said (Found root tried k)) (ran .kept-is ∙ ap keptOf e) (o .0) (o .1) in (x .0, (o .0, x .1))
-  outcome-over (None tried k) e o =
-      let x = answered (said (None tried k)) (ran .kept-is ∙ ap keptOf e) (o .0) (o .1) in (x .0, (o .0, x .1))
-  outcome-over (Full size tried k) e o =
-      let x = answered (said (Full size tried k)) (ran .kept-is ∙ ap keptOf e) (o .0) (o .1) in (x .0, (o .0, x .1))
+  outcome-over (Found root n) e o =
+      let x = answered (said (Found root n)) (ran .kept-is ∙ ap keptOf e) (o .0) (o .1) in (x .0, (o .0, x .1))
+  outcome-over (None n) e o =
+      let x = answered (said (None n)) (ran .kept-is ∙ ap keptOf e) (o .0) (o .1) in (x .0, (o .0, x .1))
+  outcome-over (Full size n) e o =
+      let x = answered (said (Full size n)) (ran .kept-is ∙ ap keptOf e) (o .0) (o .1) in (x .0, (o .0, x .1))
   outcome-over (Refused k) e o =
       let z : d .kept ≡ 0 = ran .kept-is ∙ ap keptOf e in
       let m : new ≡ old = sym (ran .new-is) ∙ ap (λ (x : Cols). x .matrices) (o .1) ∙ ran .old-is in

@@ -58,9 +58,9 @@ room = mostRoom
 
 -- the number kept, 0 at a refusal
 abbrev pub keptOf : SearchAnswer → ℕ
-keptOf (Found root tried kept) = kept
-keptOf (None tried kept) = kept
-keptOf (Full size tried kept) = kept
+keptOf (Found root n) = n .kept
+keptOf (None n) = n .kept
+keptOf (Full size n) = n .kept
 keptOf (Refused k) = 0
 
 -- the kept nodes, over what was there before

@@ -124,17 +124,9 @@ fn kept_in(answer: SearchAnswer) -> usize
     ensures { λ r. ⌜ r ≡ keptOf answer ⌝ }
 {
     match answer {
-        SearchAnswer::Found {
-            root: _,
-            tried: _,
-            kept,
-        } => kept,
-        SearchAnswer::None { tried: _, kept } => kept,
-        SearchAnswer::Full {
-            size: _,
-            tried: _,
-            kept,
-        } => kept,
+        SearchAnswer::Found { root: _, counts } => counts.kept,
+        SearchAnswer::None(counts) => counts.kept,
+        SearchAnswer::Full { size: _, counts } => counts.kept,
         SearchAnswer::Refused(_) => 0,
     }
 }

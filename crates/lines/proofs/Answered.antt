@@ -19,10 +19,11 @@ use Rattle.formula.specs.Rule.{Broken}
 use Rattle.text.specs.Text.{text}
 use Rattle.text.proofs.Promises.{text-in}
 use Rattle.writing.specs.Writing.{Wrote}
+use Rattle.search.specs.declared.counts.Counts.{Counts}
 use Rattle.search.specs.declared.SearchAnswer.{SearchAnswer}
 use Rattle.search.specs.declared.SearchAnswer.the-variants.{Found, None, Full, Refused}
 use Rattle.search.specs.Table.{Cols}
-use Rattle.search.specs.Search.{Searched}
+use Rattle.search.specs.Search.{tallyOf, Searched}
 use Rattle.lines.specs.Line.{newline, foundLine, noneLine, fullLine, refusedLine}
 use Rattle.lines.specs.Bench.{inputOf}
 use Rattle.lines.specs.Inner.{Showable, ShownBy, Given, Written}
@@ -42,9 +43,9 @@ module _ (file : List ℕ) (i : Input) (p : Parts) (g : Given file i p) (t : Col
   moved : (b : SearchAnswer) → a ≡ b → Searched (inputOf p (i .room)) t b u
   moved b e = subst (λ (c : SearchAnswer). Searched (inputOf p (i .room)) t c u) e (subst (λ (j : Input). Searched j t a u) (g .same) w)
 
-  module _ {root : Node} {tried n : ℕ} (e : a ≡ Found root tried n) where
-    this : FoundAt p (g .good) (i .room) t roomy u root tried n
-    this = found-at p (g .good) (i .room) t roomy u root tried n (moved (Found root tried n) e)
+  module _ {root : Node} {n : Counts} (e : a ≡ Found root n) where
+    this : FoundAt p (g .good) (i .room) t roomy u root n
+    this = found-at p (g .good) (i .room) t roomy u root n (moved (Found root n) e)
 
     long : (f : walk.Node → ℕ) → n ≡ length (map (λ c. f (c .node)) (this .table))
     long f = sym (length-map (this .table) (λ c. f (c .node)) ∙ this .as-many)
@@ -106,11 +107,11 @@ module _ (file : List ℕ) (i : Input) (p : Parts) (g : Given file i p) (t : Col
     pub as-many : length (take n (u .codes)) ≡ length lent
     as-many = sym codes-part ∙ sym nodes-many
 
-    pub found-returns : {old new : List ℕ} {r : ℕ} → 512 ≤ length old → ShownBy file lent (nodeOf root) tried old r new → Written p (i .room) old r new
+    pub found-returns : {old new : List ℕ} {r : ℕ} → 512 ≤ length old → ShownBy file lent (nodeOf root) (n .tried) (n .dropped) old r new → Written p (i .room) old r new
     found-returns {old} {new} {r} room shown =
         let (f, s, v) = shown (p .names) (g .next) (g .front) in
-        let lines = foundLine (root .size) tried (length lent) ++ (text (p .names) f ++ newline) in
-        let b = found-short (root .size) tried (length lent) in
+        let lines = foundLine (root .size) (n .tried) (length lent) (n .dropped) ++ (text (p .names) f ++ newline) in
+        let b = found-short (root .size) (n .tried) (length lent) (n .dropped) in
         let c = text-in file lent (nodeOf root) (p .names) (g .next) (g .front) unbroken f s in
         record {
           lines = lines;
@@ -118,34 +119,34 @@ module _ (file : List ℕ) (i : Input) (p : Parts) (g : Given file i p) (t : Col
             searched = λ x y. (
               found (nodeOf root),
               this .table,
-              tried,
+              tallyOf n,
               this .is,
               (
                 f,
                 subst (λ (k : List walk.Node). Spells codes k (nodeOf root) f) kept-nodes s,
-                ap (λ (k : ℕ). foundLine (root .size) tried k ++ (text (p .names) f ++ newline)) (nodes-many ∙ sym (this .as-many)),
+                ap (λ (k : ℕ). foundLine (root .size) (n .tried) k (n .dropped) ++ (text (p .names) f ++ newline)) (nodes-many ∙ sym (this .as-many)),
               ),
             );
             outside = λ o. absurd (this .inside o);
           };
           wrote = v;
-          fits = omega (arith, length-append (foundLine (root .size) tried (length lent)) (text (p .names) f ++ newline), length-append (text (p .names) f) newline);
+          fits = omega (arith, length-append (foundLine (root .size) (n .tried) (length lent) (n .dropped)) (text (p .names) f ++ newline), length-append (text (p .names) f) newline);
         }
 
-  pub none-returns : {tried n : ℕ} → a ≡ None tried n → {old new : List ℕ} {r : ℕ} → 512 ≤ length old → Wrote old 0 (noneLine tried n) new r → Written p (i .room) old r new
-  none-returns {tried} {n} e h v = record {
-    lines = noneLine tried n;
-    says = none-says p (g .good) (i .room) t roomy u tried n (moved (None tried n) e);
+  pub none-returns : {n : Counts} → a ≡ None n → {old new : List ℕ} {r : ℕ} → 512 ≤ length old → Wrote old 0 (noneLine (n .tried) (n .kept) (n .dropped)) new r → Written p (i .room) old r new
+  none-returns {n} e h v = record {
+    lines = noneLine (n .tried) (n .kept) (n .dropped);
+    says = none-says p (g .good) (i .room) t roomy u n (moved (None n) e);
     wrote = v;
-    fits = omega (arith, none-short tried n);
+    fits = omega (arith, none-short (n .tried) (n .kept) (n .dropped));
   }
 
-  pub full-returns : {size tried n : ℕ} → a ≡ Full size tried n → {old new : List ℕ} {r : ℕ} → 512 ≤ length old → Wrote old 0 (fullLine size tried n) new r → Written p (i .room) old r new
-  full-returns {size} {tried} {n} e h v = record {
-    lines = fullLine size tried n;
-    says = full-says p (g .good) (i .room) t roomy u size tried n (moved (Full size tried n) e);
+  pub full-returns : {size : ℕ} {n : Counts} → a ≡ Full size n → {old new : List ℕ} {r : ℕ} → 512 ≤ length old → Wrote old 0 (fullLine size (n .tried) (n .kept) (n .dropped)) new r → Written p (i .room) old r new
+  full-returns {size} {n} e h v = record {
+    lines = fullLine size (n .tried) (n .kept) (n .dropped);
+    says = full-says p (g .good) (i .room) t roomy u size n (moved (Full size n) e);
     wrote = v;
-    fits = omega (arith, full-short size tried n);
+    fits = omega (arith, full-short size (n .tried) (n .kept) (n .dropped));
   }
 
   pub refused-returns : {n : ℕ} → a ≡ Refused n → {old new : List ℕ} {r : ℕ} → 512 ≤ length old → Wrote old 0 (refusedLine n) new r → Written p (i .room) old r new

@@ -23,10 +23,11 @@ use Rattle.walk.proofs.Reading.{lawful}
 use Rattle.formula.specs.declared.kinds.Node.{Node}
 use Rattle.formula.specs.Kinds.{nodeOf}
 use Rattle.formula.specs.Rule.{Broken}
+use Rattle.search.specs.declared.counts.Counts.{Counts}
 use Rattle.search.specs.declared.SearchAnswer.the-variants.{Found, None, Full, Refused}
 use Rattle.search.specs.Table.{Cols, tableOver}
 use Rattle.checks.specs.Refusals.{searchRows}
-use Rattle.search.specs.Search.{walkSaid, Searched}
+use Rattle.search.specs.Search.{tallyOf, walkSaid, Searched}
 use Rattle.checks.proofs.Decide.{is-two, is-zero, settings-fine, room-fine, codes-fine}
 use Rattle.checks.proofs.Passing.{passes-whole}
 use Rattle.search.proofs.Promises.{found-end, none-end, full-end}
@@ -73,23 +74,23 @@ module _ (p : Parts) (g : Good p) (room : ℕ) (t : Cols) (roomy : Roomy t) wher
     not-outside : (n : ℕ) → Decided (searchRows i t) n → n ≡ 0 → Outside 1 mostRoom room → ⊥
     not-outside n d z o = let e = decided-unique (searchRows i t) n 2 d (out-room o) in omega arith
 
-    pub none-says : (tried n : ℕ) → Searched (inputOf p room) t (None tried n) u → GoodSays p room (noneLine tried n)
+    pub none-says : (n : Counts) → Searched (inputOf p room) t (None n) u → GoodSays p room (noneLine (n .tried) (n .kept) (n .dropped))
     unfolding i
-    none-says tried n w = record {
+    none-says n w = record {
       searched = λ a b.
           let (e, k, m, q) = walk.walk-ends (inputOf p room) in
-          let (s, l) = none-end (inputOf p room) tried n e k m q (w .outcome .0 ∙ ap walkSaid q) in
-          (none, k, tried, s, ap (noneLine tried) (sym l));
+          let (s, l) = none-end (inputOf p room) n e k m q (w .outcome .0 ∙ ap walkSaid q) in
+          (none, k, tallyOf n, s, ap (λ (z : ℕ). noneLine (n .tried) z (n .dropped)) (sym l));
       outside = λ o. absurd (not-outside 0 (w .decided) refl o);
     }
 
-    pub full-says : (size tried n : ℕ) → Searched (inputOf p room) t (Full size tried n) u → GoodSays p room (fullLine size tried n)
+    pub full-says : (size : ℕ) (n : Counts) → Searched (inputOf p room) t (Full size n) u → GoodSays p room (fullLine size (n .tried) (n .kept) (n .dropped))
     unfolding i
-    full-says size tried n w = record {
+    full-says size n w = record {
       searched = λ a b.
           let (e, k, m, q) = walk.walk-ends (inputOf p room) in
-          let (s, l) = full-end (inputOf p room) size tried n e k m q (w .outcome .0 ∙ ap walkSaid q) in
-          (full size, k, tried, s, ap (fullLine size tried) (sym l));
+          let (s, l) = full-end (inputOf p room) size n e k m q (w .outcome .0 ∙ ap walkSaid q) in
+          (full size, k, tallyOf n, s, ap (λ (z : ℕ). fullLine size (n .tried) z (n .dropped)) (sym l));
       outside = λ o. absurd (not-outside 0 (w .decided) refl o);
     }
 
@@ -101,23 +102,23 @@ module _ (p : Parts) (g : Good p) (room : ℕ) (t : Cols) (roomy : Roomy t) wher
     }
 
     -- what is known where a formula is found
-    pub record FoundAt (root : Node) (tried n : ℕ) : Type 0 where
+    pub record FoundAt (root : Node) (n : Counts) : Type 0 where
       pub table : Table
-      pub is : search (inputOf p room) ≡ ended (found (nodeOf root)) table tried
+      pub is : search (inputOf p room) ≡ ended (found (nodeOf root)) table (tallyOf n)
       pub as-many : length table ≡ n
       pub holds : u ≡ tableOver table t
       pub few : n ≤ 4096
       pub whole : Broken (length (p .names)) (nodes table) (nodeOf root) → ⊥
       pub inside : Outside 1 mostRoom room → ⊥
 
-    pub found-at : (root : Node) (tried n : ℕ) → Searched (inputOf p room) t (Found root tried n) u → FoundAt root tried n
+    pub found-at : (root : Node) (n : Counts) → Searched (inputOf p room) t (Found root n) u → FoundAt root n
     unfolding i
-    found-at root tried n w =
+    found-at root n w =
         let ok = passes-whole (inputOf p room) t .0 (w .decided) .0 in
         let (e, k, m, q) = walk.walk-ends (inputOf p room) in
-        let (s, l) = found-end (inputOf p room) root tried n e k m q (w .outcome .0 ∙ ap walkSaid q) in
-        let a = walk.kept-distinct (inputOf p room) ok (found (nodeOf root)) k tried s in
-        let f = walk.found-smallest (inputOf p room) ok (nodeOf root) k tried s in
+        let (s, l) = found-end (inputOf p room) root n e k m q (w .outcome .0 ∙ ap walkSaid q) in
+        let a = walk.kept-distinct (inputOf p room) ok (found (nodeOf root)) k (tallyOf n) s in
+        let f = walk.found-smallest (inputOf p room) ok (nodeOf root) k (tallyOf n) s in
         record {
           table = k;
           is = s;

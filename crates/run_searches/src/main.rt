@@ -5,6 +5,7 @@ mod sample;
 use formula::kinds::Node;
 use libc::STDOUT_FILENO;
 use search::SearchAnswer;
+use search::counts::Counts;
 
 fn say(text: &[u8]) {
     io::write_all(STDOUT_FILENO, text);
@@ -15,9 +16,9 @@ fn say_number(text: &[u8], x: u64) {
     io::print_decimal(STDOUT_FILENO, x);
 }
 
-fn say_counts(tried: u64, kept: usize) {
-    say_number(b" tried ", tried);
-    say_number(b" kept ", kept as u64);
+fn say_counts(counts: Counts) {
+    say_number(b" tried ", counts.tried);
+    say_number(b" kept ", counts.kept as u64);
 }
 
 fn say_node(node: Node) {
@@ -29,18 +30,18 @@ fn say_node(node: Node) {
 
 fn say_answer(answer: SearchAnswer) {
     match answer {
-        SearchAnswer::Found { root, tried, kept } => {
+        SearchAnswer::Found { root, counts } => {
             say_number(b"found size ", root.size as u64);
-            say_counts(tried, kept);
+            say_counts(counts);
             say_node(root);
         }
-        SearchAnswer::None { tried, kept } => {
+        SearchAnswer::None(counts) => {
             say(b"none");
-            say_counts(tried, kept);
+            say_counts(counts);
         }
-        SearchAnswer::Full { size, tried, kept } => {
+        SearchAnswer::Full { size, counts } => {
             say_number(b"full size ", size as u64);
-            say_counts(tried, kept);
+            say_counts(counts);
         }
         SearchAnswer::Refused(number) => say_number(b"refused ", number as u64),
     }

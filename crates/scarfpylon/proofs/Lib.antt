@@ -4,5 +4,6 @@ pub mod Searching
 pub mod Checking
 pub mod Printing
 pub mod Reading
+pub mod Comparing
 pub mod Unique
 pub mod Promises

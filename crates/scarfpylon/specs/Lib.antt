@@ -7,5 +7,6 @@ pub mod Search
 pub mod Check
 pub mod Print
 pub mod Read
+pub mod Compare
 pub mod Promises
 pub mod Inner

@@ -12,11 +12,12 @@ ghost use Rattle.formula.specs.Check.{saidVerdict};
 ghost use Rattle.text.specs.Print.{saidPrinted};
 ghost use Rattle.search.specs.Search.{said};
 ghost use Rattle.scarfpylon.specs.Out.{outWords, written, brokenAt, returnedOf, saidWords};
-ghost use Rattle.scarfpylon.specs.Search.{searchWords};
+ghost use Rattle.scarfpylon.specs.Search.{longWords, searchWords};
 ghost use Rattle.scarfpylon.specs.Inner.{Fits, SequencePut};
 
-// The words that `out` has to have.
+// The words that `out` has to have; at the search more.
 pub const WORDS: usize = 8;
+pub const LONG_WORDS: usize = 16;
 
 // Number 8 with its offset.
 fn broken_at(offset: usize) -> u64
@@ -46,46 +47,41 @@ pub(crate) fn search_number(answer: SearchAnswer) -> u64
     ensures { λ k. ⌜ k ≡ said answer .number ⌝ }
 {
     match answer {
-        SearchAnswer::Found {
-            root: _,
-            tried: _,
-            kept: _,
-        } => 0,
-        SearchAnswer::None { tried: _, kept: _ } => 0,
-        SearchAnswer::Full {
-            size: _,
-            tried: _,
-            kept: _,
-        } => 0,
+        SearchAnswer::Found { root: _, counts: _ } => 0,
+        SearchAnswer::None(_) => 0,
+        SearchAnswer::Full { size: _, counts: _ } => 0,
         SearchAnswer::Refused(number) => number as u64,
     }
 }
 
 pub(crate) fn put_search(answer: SearchAnswer, out: &mut [u64])
-    requires { ⌜ outWords ≤ length (now out) ⌝ }
+    requires { ⌜ longWords ≤ length (now out) ⌝ }
     ensures { λ u. ⌜ now (out .exit) ≡ written (searchWords answer) (now (out .entry)) ⌝ }
 {
     match answer {
-        SearchAnswer::Found { root, tried, kept } => {
+        SearchAnswer::Found { root, counts } => {
             out[0] = 1;
             out[1] = root.size as u64;
-            out[2] = tried;
-            out[3] = kept as u64;
+            out[2] = counts.tried;
+            out[3] = counts.kept as u64;
             out[4] = root.code as u64;
             out[5] = root.left.0 as u64;
             out[6] = root.right.0 as u64;
             out[7] = root.size as u64;
+            out[8] = counts.dropped;
         }
-        SearchAnswer::None { tried, kept } => {
+        SearchAnswer::None(counts) => {
             out[0] = 2;
-            out[2] = tried;
-            out[3] = kept as u64;
+            out[2] = counts.tried;
+            out[3] = counts.kept as u64;
+            out[8] = counts.dropped;
         }
-        SearchAnswer::Full { size, tried, kept } => {
+        SearchAnswer::Full { size, counts } => {
             out[0] = 3;
             out[1] = size as u64;
-            out[2] = tried;
-            out[3] = kept as u64;
+            out[2] = counts.tried;
+            out[3] = counts.kept as u64;
+            out[8] = counts.dropped;
         }
         SearchAnswer::Refused(_) => {}
     }

@@ -53,7 +53,7 @@ module _ (r place : ℕ) (matrices rows : List ℕ) where
       → saidCompared c .number ≡ saidCompared d .number
   number-of c d p q = decided-unique (compareRowsWith r place matrices rows []) (saidCompared c .number) (saidCompared d .number) (p .number) (q .number)
 
-  equal-one : (p : Place) → Compares r place matrices rows (saidCompared (Equal p)) → Same r matrices rows place r × (p .0 ≡ place)
+  pub equal-one : (p : Place) → Compares r place matrices rows (saidCompared (Equal p)) → Same r matrices rows place r × (p .0 ≡ place)
   unfolding value
   equal-one p a = go (a .passed refl)
     where
@@ -61,7 +61,7 @@ module _ (r place : ℕ) (matrices rows : List ℕ) where
       go (inl (s, e)) = (s, ap (value 1) e)
       go (inr (j, f, e)) = absurd (omega (arith, ap (value 0) e))
 
-  differs-one : (j : Session) → Compares r place matrices rows (saidCompared (Differs j)) → FirstDiffers r matrices rows place (j .0)
+  pub differs-one : (j : Session) → Compares r place matrices rows (saidCompared (Differs j)) → FirstDiffers r matrices rows place (j .0)
   unfolding value
   differs-one j a = go (a .passed refl)
     where
@@ -70,12 +70,19 @@ module _ (r place : ℕ) (matrices rows : List ℕ) where
       go (inr (h, f, e)) = subst (FirstDiffers r matrices rows place) (sym (ap (value 1) e)) f
 
   -- 0 is no refusal
-  not-none : (k : ℕ) → Compares r place matrices rows (saidCompared (Refused k)) → k ≡ 0 → ⊥
+  pub not-none : (k : ℕ) → Compares r place matrices rows (saidCompared (Refused k)) → k ≡ 0 → ⊥
   not-none k a e = go (a .passed e)
     where
       go : Outcome r place matrices rows (record { number = k; values = [] }) → ⊥
       go (inl (s, e)) = omega (arith, ap (λ (s : Said). length (s .values)) e)
       go (inr (h, f, e)) = omega (arith, ap (λ (s : Said). length (s .values)) e)
+
+  pub outcome-unique : (s u : Said) → Outcome r place matrices rows s → Outcome r place matrices rows u → s ≡ u
+  outcome-unique s u (inl (a, e)) (inl (b, f)) = e ∙ sym f
+  outcome-unique s u (inl (a, e)) (inr (j, g, f)) = absurd (g .differs (a j (g .there)))
+  outcome-unique s u (inr (j, g, e)) (inl (b, f)) = absurd (g .differs (b j (g .there)))
+  outcome-unique s u (inr (j, g, e)) (inr (h, w, f)) =
+      e ∙ ap differsSaid (first (λ t. getD rows t 0 ≡ getD matrices (place * r + t) 0) j h (g .before) (g .differs) (w .before) (w .differs)) ∙ sym f
 
   pub compare-unique : (c d : Compared) → Compares r place matrices rows (saidCompared c) → Compares r place matrices rows (saidCompared d) → c ≡ d
   unfolding seat spot
