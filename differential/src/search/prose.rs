@@ -23,6 +23,7 @@ fn holds(code: u8, n: u32, i: u32, f: u64, g: u64) -> bool {
 struct Walk<'a> {
     input: &'a Input,
     tried: u64,
+    dropped: u64,
     kept: Vec<(Node, Vec<u64>)>,
 }
 
@@ -46,6 +47,7 @@ impl Walk<'_> {
             return Some(Ending::Found(node));
         }
         if self.kept.iter().any(|kept| kept.1 == matrix) {
+            self.dropped += 1;
             return None;
         }
         if self.kept.len() == self.input.room {
@@ -132,6 +134,7 @@ pub fn outcome(input: &Input) -> Outcome {
     let mut walk = Walk {
         input,
         tried: 0,
+        dropped: 0,
         kept: vec![],
     };
     let mut ending = walk.leaves();
@@ -143,6 +146,7 @@ pub fn outcome(input: &Input) -> Outcome {
     Outcome {
         ending: ending.unwrap_or(Ending::None),
         tried: walk.tried,
+        dropped: walk.dropped,
         nodes: walk.kept.iter().map(|kept| kept.0).collect(),
         matrices: walk.kept.into_iter().flat_map(|kept| kept.1).collect(),
     }
