@@ -98,6 +98,17 @@ module _ (r place : ℕ) (matrices words old : List ℕ) (d : Decided (lengthRow
   same-there : (n : ℕ) → n ≤ r → Same r from words 0 n → Same r matrices words place n
   same-there n h s j g = s j g ∙ row-there j (omega arith)
 
+  -- so nothing is refused there
+  good : Decided (compareRowsWith r 0 from words []) 0
+  unfolding Decided
+  good = inr (
+    λ g. ⊎-elim (λ h. omega (arith, l .low)) (λ h. omega (arith, l .high)) g,
+    inr (
+      λ g. ⊎-elim (λ h. (let z = part-long matrices (place * r) r (l .there) in omega (arith, next-row 0 r, zero-mul r))) (λ h. omega (arith, l .long)) g,
+      refl,
+    ),
+  )
+
   pub answered : (c : Compared) → Compares r 0 from words (saidCompared c) → (returned : ℕ) (new : List ℕ) → ComparePut c place old returned new
       → CompareDone r place matrices words old returned new
   answered (Equal p) a returned new (e, w) = record {
@@ -121,18 +132,6 @@ module _ (r place : ℕ) (matrices words old : List ℕ) (d : Decided (lengthRow
         );
       }
   answered (Refused k) a returned new w = absurd (not-none r 0 from words k a (decided-unique (compareRowsWith r 0 from words []) k 0 (a .number) good))
-    where
-      good : Decided (compareRowsWith r 0 from words []) 0
-      unfolding Decided
-      good = inr (
-        λ g. ⊎-elim (λ h. omega (arith, l .low)) (λ h. omega (arith, l .high)) g,
-        inr (
-          λ g. ⊎-elim
-              (λ h. (let z = part-long matrices (place * r) r (l .there) in omega (arith, next-row 0 r, zero-mul r)))
-              (λ h. omega (arith, l .long)) g,
-          refl,
-        ),
-      )
 
 pub refused : (r place : ℕ) (matrices words old : List ℕ) (k : ℕ) → Decided (lengthRows r place (length matrices) (length words) (length old)) k → (k ≡ 0 → ⊥)
     → CompareDone r place matrices words old k old
