@@ -43,9 +43,12 @@ module _ (file : List ℕ) (i : Input) (p : Parts) (g : Given file i p) (t : Col
   moved : (b : SearchAnswer) → a ≡ b → Searched (inputOf p (i .room)) t b u
   moved b e = subst (λ (c : SearchAnswer). Searched (inputOf p (i .room)) t c u) e (subst (λ (j : Input). Searched j t a u) (g .same) w)
 
-  module _ {root : Node} {n : Counts} (e : a ≡ Found root n) where
-    this : FoundAt p (g .good) (i .room) t roomy u root n
-    this = found-at p (g .good) (i .room) t roomy u root n (moved (Found root n) e)
+  module _ {root : Node} {c : Counts} (e : a ≡ Found root c) where
+    abbrev n : ℕ
+    n = c .kept
+
+    this : FoundAt p (g .good) (i .room) t roomy u root c
+    this = found-at p (g .good) (i .room) t roomy u root c (moved (Found root c) e)
 
     long : (f : walk.Node → ℕ) → n ≡ length (map (λ c. f (c .node)) (this .table))
     long f = sym (length-map (this .table) (λ c. f (c .node)) ∙ this .as-many)
@@ -107,30 +110,30 @@ module _ (file : List ℕ) (i : Input) (p : Parts) (g : Given file i p) (t : Col
     pub as-many : length (take n (u .codes)) ≡ length lent
     as-many = sym codes-part ∙ sym nodes-many
 
-    pub found-returns : {old new : List ℕ} {r : ℕ} → 512 ≤ length old → ShownBy file lent (nodeOf root) (n .tried) (n .dropped) old r new → Written p (i .room) old r new
+    pub found-returns : {old new : List ℕ} {r : ℕ} → 512 ≤ length old → ShownBy file lent (nodeOf root) (c .tried) (c .dropped) old r new → Written p (i .room) old r new
     found-returns {old} {new} {r} room shown =
         let (f, s, v) = shown (p .names) (g .next) (g .front) in
-        let lines = foundLine (root .size) (n .tried) (length lent) (n .dropped) ++ (text (p .names) f ++ newline) in
-        let b = found-short (root .size) (n .tried) (length lent) (n .dropped) in
-        let c = text-in file lent (nodeOf root) (p .names) (g .next) (g .front) unbroken f s in
+        let lines = foundLine (root .size) (c .tried) (length lent) (c .dropped) ++ (text (p .names) f ++ newline) in
+        let b = found-short (root .size) (c .tried) (length lent) (c .dropped) in
+        let d = text-in file lent (nodeOf root) (p .names) (g .next) (g .front) unbroken f s in
         record {
           lines = lines;
           says = record {
             searched = λ x y. (
               found (nodeOf root),
               this .table,
-              tallyOf n,
+              tallyOf c,
               this .is,
               (
                 f,
                 subst (λ (k : List walk.Node). Spells codes k (nodeOf root) f) kept-nodes s,
-                ap (λ (k : ℕ). foundLine (root .size) (n .tried) k (n .dropped) ++ (text (p .names) f ++ newline)) (nodes-many ∙ sym (this .as-many)),
+                ap (λ (k : ℕ). foundLine (root .size) (c .tried) k (c .dropped) ++ (text (p .names) f ++ newline)) (nodes-many ∙ sym (this .as-many)),
               ),
             );
             outside = λ o. absurd (this .inside o);
           };
           wrote = v;
-          fits = omega (arith, length-append (foundLine (root .size) (n .tried) (length lent) (n .dropped)) (text (p .names) f ++ newline), length-append (text (p .names) f) newline);
+          fits = omega (arith, length-append (foundLine (root .size) (c .tried) (length lent) (c .dropped)) (text (p .names) f ++ newline), length-append (text (p .names) f) newline);
         }
 
   pub none-returns : {n : Counts} → a ≡ None n → {old new : List ℕ} {r : ℕ} → 512 ≤ length old → Wrote old 0 (noneLine (n .tried) (n .kept) (n .dropped)) new r → Written p (i .room) old r new

@@ -105,9 +105,9 @@ module _ (p : Parts) (g : Good p) (room : ℕ) (t : Cols) (roomy : Roomy t) wher
     pub record FoundAt (root : Node) (n : Counts) : Type 0 where
       pub table : Table
       pub is : search (inputOf p room) ≡ ended (found (nodeOf root)) table (tallyOf n)
-      pub as-many : length table ≡ n
+      pub as-many : length table ≡ n .kept
       pub holds : u ≡ tableOver table t
-      pub few : n ≤ 4096
+      pub few : n .kept ≤ 4096
       pub whole : Broken (length (p .names)) (nodes table) (nodeOf root) → ⊥
       pub inside : Outside 1 mostRoom room → ⊥
 

@@ -29,7 +29,7 @@ end-one names none k n x y a b = a ∙ sym b
 end-one names (full s) k n x y a b = a ∙ sym b
 
 -- a walk has one end
-same-end : (names : List (List ℕ)) (e f : Ending) (k l : Table) (n m : ℕ) (x y : List ℕ) → ended e k n ≡ ended f l m → EndSays names e k n x → EndSays names f l m y → x ≡ y
+same-end : (names : List (List ℕ)) (e f : Ending) (k l : Table) (n m : Tally) (x y : List ℕ) → ended e k n ≡ ended f l m → EndSays names e k n x → EndSays names f l m y → x ≡ y
 same-end names e f k l n m x y q a b =
     let h : e ≡ f = cc in
     let i : k ≡ l = cc in
