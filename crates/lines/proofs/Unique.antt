@@ -35,7 +35,7 @@ same-end names e f k l n m x y q a b =
     let i : k ≡ l = cc in
     let j : n ≡ m = cc in
     end-one names f l m x y
-    (subst (λ (d : ℕ). EndSays names f l d x) j (subst (λ (t : Table). EndSays names f t n x) i (subst (λ (d : Ending). EndSays names d k n x) h a))) b
+    (subst (λ (d : Tally). EndSays names f l d x) j (subst (λ (t : Table). EndSays names f t n x) i (subst (λ (d : Ending). EndSays names d k n x) h a))) b
 
 module _ (p : Parts) (room : ℕ) (x y : List ℕ) (a : GoodSays p room x) (b : GoodSays p room y) where
   beyond : Outside 1 mostRoom room → x ≡ y
