@@ -17,6 +17,7 @@ ghost use Rattle.scarfpylon.specs.Inner.{Fits, SequencePut};
 
 // The words that `out` has to have; at the search more.
 pub const WORDS: usize = 8;
+
 pub const LONG_WORDS: usize = 16;
 
 // Number 8 with its offset.
