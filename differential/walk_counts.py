@@ -33,10 +33,10 @@ def apply(op, lengths, x, y=None):
 
 
 def walk(sessions, unary, binary, constants, bound, room):
-    """sessions: (mark, length, words). Answers the ending, the number tried, and what is kept: (code, left, right, size, matrix)."""
+    """sessions: (mark, length, words). Answers the ending, the numbers tried and dropped, and what is kept: (code, left, right, size, matrix)."""
     marks = [s[0] for s in sessions]
     lengths = [s[1] for s in sessions]
-    kept, tried = [], 0
+    kept, tried, dropped = [], 0, 0
 
     def candidates(s):
         if s == 1:
@@ -60,11 +60,13 @@ def walk(sessions, unary, binary, constants, bound, room):
     for s in range(1, bound + 1):
         for c in candidates(s):
             tried += 1
-            if [x & 1 for x in c[4]] == marks: return ("found",) + c[:4], tried, kept
-            if any(c[4] == k[4] for k in kept): continue
-            if len(kept) == room: return ("full", s), tried, kept
+            if [x & 1 for x in c[4]] == marks: return ("found",) + c[:4], tried, dropped, kept
+            if any(c[4] == k[4] for k in kept):
+                dropped += 1
+                continue
+            if len(kept) == room: return ("full", s), tried, dropped, kept
             kept.append(c)
-    return ("none",), tried, kept
+    return ("none",), tried, dropped, kept
 
 
 ALL1, ALL2 = [0, 1, 2, 3, 4], [5, 6, 7, 8, 9, 10]
@@ -89,7 +91,7 @@ RUNS = {
 
 if __name__ == "__main__":
     for name, run in RUNS.items():
-        end, tried, kept = walk(*run)
-        print(name, end, "tried", tried, "kept", len(kept))
+        end, tried, dropped, kept = walk(*run)
+        print(name, end, "tried", tried, "kept", len(kept), "dropped", dropped)
         if "-v" in sys.argv:
             for k in kept: print("   ", k)

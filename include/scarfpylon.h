@@ -53,8 +53,8 @@
  *
  * So `result & 255` is the number, and for numbers 8, 11 and 13 `result >> 8` is the offset.
  *
- * Answers are written to the last slice, `out`, which has at least 8 words; a shorter one is refused with 3. A function names the words that it
- * writes; the others stay as they were.
+ * Answers are written to the last slice, `out`, which has at least 8 words, at the search 16; a shorter one is refused with 3. A function names the
+ * words that it writes; the others stay as they were.
  */
 #ifndef SCARFPYLON_H
 #define SCARFPYLON_H
@@ -99,6 +99,8 @@ uint64_t scarfpylon_binary(uint8_t code, uint64_t left_length, uint64_t left_wor
  *     out[2]  how many candidates were tried, with the one that decided
  *     out[3]  how many formulas are kept; a formula that is found is not among them
  *     out[4] to out[7]  found: its root's code, left, right and size, over the kept nodes; else not written
+ *     out[8]  how many candidates were dropped, since a kept formula has the same matrix: tried is kept and dropped together, and one more where a
+ *             formula was found or the room was full
  * Found: the formula separates, and no smaller one does. None: no formula up to the bound separates. Full: no formula below that size does.
  * Refuses with 1, 2, 3 (what is read, the room, `out`), 4, 5, 6, 7.
  */
@@ -201,6 +203,16 @@ uint64_t scarfpylon_read(const uint8_t *file, size_t file_count,
                          uint64_t *words, size_t words_count,
                          uint8_t *unary, size_t unary_count, uint8_t *binary, size_t binary_count,
                          uint64_t *out, size_t out_count);
+
+/*
+ * Compares a matrix, the first `sessions` of the words, with the one at a place of `matrices`, which has as many words for each place.
+ *
+ * Writes out[0]: 1 and out[1]: the place, where the two are equal in every word. Else out[0]: 0, and out[1]: the number, from 0, of the first session
+ * in which they differ.
+ * Refuses with 1 (`sessions`), then 3 (`matrices` with fewer words than the places up to this one have, `words`, `out`).
+ */
+uint64_t scarfpylon_compare(size_t sessions, size_t place, const uint64_t *matrices, size_t matrices_count, const uint64_t *words, size_t words_count,
+                            uint64_t *out, size_t out_count);
 
 #ifdef __cplusplus
 }

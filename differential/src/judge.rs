@@ -216,16 +216,19 @@ pub enum Answer {
         size: usize,
         tried: u64,
         kept: usize,
+        dropped: u64,
         text: String,
     },
     None {
         tried: u64,
         kept: usize,
+        dropped: u64,
     },
     Full {
         size: usize,
         tried: u64,
         kept: usize,
+        dropped: u64,
     },
     Refused {
         at: usize,
@@ -250,10 +253,16 @@ impl Answer {
                 size,
                 tried,
                 kept,
+                dropped,
                 text,
-            } => format!("found size {size} tried {tried} kept {kept}\n{text}\n"),
-            Answer::None { tried, kept } => format!("none tried {tried} kept {kept}\n"),
-            Answer::Full { size, tried, kept } => format!("full size {size} tried {tried} kept {kept}\n"),
+            } => format!("found size {size} tried {tried} kept {kept} dropped {dropped}\n{text}\n"),
+            Answer::None { tried, kept, dropped } => format!("none tried {tried} kept {kept} dropped {dropped}\n"),
+            Answer::Full {
+                size,
+                tried,
+                kept,
+                dropped,
+            } => format!("full size {size} tried {tried} kept {kept} dropped {dropped}\n"),
             Answer::Refused { at } => format!("refused 8 at {at}\n"),
         }
     }
@@ -272,6 +281,7 @@ struct Walk<'a> {
     limit: u64,
     kept: Vec<Kept>,
     tried: u64,
+    dropped: u64,
     cost: u64,
 }
 
@@ -293,6 +303,7 @@ impl Walk<'_> {
                 size,
                 tried: self.tried,
                 kept: self.kept.len(),
+                dropped: self.dropped,
                 text,
             }));
         }
@@ -300,6 +311,7 @@ impl Walk<'_> {
             return Err(End::TooLong);
         }
         if self.kept.iter().any(|kept| kept.matrix == matrix) {
+            self.dropped += 1;
             return Ok(());
         }
         if self.kept.len() == self.room {
@@ -307,6 +319,7 @@ impl Walk<'_> {
                 size,
                 tried: self.tried,
                 kept: self.room,
+                dropped: self.dropped,
             }));
         }
         self.kept.push(Kept {
@@ -406,12 +419,14 @@ pub fn judge(file: &[u8], room: usize, limit: u64) -> Option<Answer> {
         limit,
         kept: vec![],
         tried: 0,
+        dropped: 0,
         cost: 0,
     };
     match walk.all() {
         Ok(()) => Some(Answer::None {
             tried: walk.tried,
             kept: walk.kept.len(),
+            dropped: walk.dropped,
         }),
         Err(End::Answered(answer)) => Some(answer),
         Err(End::TooLong) => None,

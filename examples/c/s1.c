@@ -5,7 +5,7 @@
 
 #include "scarfpylon.h"
 
-enum { SESSIONS = 32, NAMES = 16, ROOM = 200, TEXT = 391, OUT = 8 };
+enum { SESSIONS = 32, NAMES = 16, ROOM = 200, TEXT = 391, OUT = 8, LONG_OUT = 16 };
 
 static const uint8_t file[] = {
     0x01, 0x01, 0x70,                                                             /* one name: p */
@@ -31,24 +31,24 @@ static int refused(const char *by, uint64_t result) {
 }
 
 int main(void) {
-    uint64_t parts[OUT], answer[OUT], written[OUT], verdict[OUT];
+    uint64_t parts[OUT], answer[LONG_OUT], written[OUT], verdict[OUT];
 
     if (refused("read", scarfpylon_read(file, sizeof file, marks, SESSIONS, lengths, SESSIONS, words, SESSIONS * NAMES, unary, 5, binary, 6, parts, OUT)))
         return 1;
     size_t r = parts[0], m = parts[1];
 
     if (refused("search", scarfpylon_search(r, m, parts[6], ROOM, (uint8_t)parts[5], marks, r, lengths, r, words, m * r, unary, parts[3], binary, parts[4],
-                                            codes, ROOM, lefts, ROOM, rights, ROOM, sizes, ROOM, matrices, ROOM * SESSIONS, answer, OUT)))
+                                            codes, ROOM, lefts, ROOM, rights, ROOM, sizes, ROOM, matrices, ROOM * SESSIONS, answer, LONG_OUT)))
         return 1;
-    unsigned long long tried = answer[2], kept = answer[3];
+    unsigned long long tried = answer[2], kept = answer[3], dropped = answer[8];
     if (answer[0] != 1) {
         if (answer[0] == 2)
-            printf("none tried %llu kept %llu\n", tried, kept);
+            printf("none tried %llu kept %llu dropped %llu\n", tried, kept, dropped);
         else
-            printf("full size %llu tried %llu kept %llu\n", (unsigned long long)answer[1], tried, kept);
+            printf("full size %llu tried %llu kept %llu dropped %llu\n", (unsigned long long)answer[1], tried, kept, dropped);
         return 0;
     }
-    printf("found size %llu tried %llu kept %llu\n", (unsigned long long)answer[1], tried, kept);
+    printf("found size %llu tried %llu kept %llu dropped %llu\n", (unsigned long long)answer[1], tried, kept, dropped);
 
     uint8_t code = (uint8_t)answer[4], size = (uint8_t)answer[7];
     uint16_t left = (uint16_t)answer[5], right = (uint16_t)answer[6];
@@ -70,5 +70,10 @@ int main(void) {
     if (refused("unary", scarfpylon_unary(1, 4, 6, next, OUT)) || refused("binary", scarfpylon_binary(7, 4, 3, 4, 4, until, OUT))) return 1;
     printf("X 6 = %llu\n", (unsigned long long)next[0]);
     printf("3 U 4 = %llu\n", (unsigned long long)until[0]);
+
+    /* p itself, the first kept formula, against the second: where they first differ */
+    uint64_t compared[OUT];
+    if (refused("compare", scarfpylon_compare(r, 1, matrices, ROOM * SESSIONS, matrices, r, compared, OUT))) return 1;
+    printf("places 0 and 1: %s %llu\n", compared[0] == 1 ? "equal at" : "differ in session", (unsigned long long)compared[1]);
     return 0;
 }

@@ -32,7 +32,7 @@ use Rattle.search.specs.declared.counts.Counts.{Counts}
 use Rattle.search.specs.declared.SearchAnswer.{SearchAnswer}
 use Rattle.search.specs.declared.SearchAnswer.the-variants.{Found, None, Full, Refused}
 use Rattle.search.specs.Table.{Cols}
-use Rattle.search.specs.Search.{walkSaid, Searched}
+use Rattle.search.specs.Search.{tallyOf, walkSaid, Searched}
 use Rattle.checks.specs.Refusals.{searchRows}
 use Rattle.lines.specs.Bench.{inputOf, Says, LinesOf}
 use Rattle.lines.proofs.Searching.{Roomy, FoundAt, found-at, data-pass, in-room}
@@ -139,7 +139,7 @@ module _ (file : List ℕ) (j : Input) (p : Parts) (g : Good p) (s : j ≡ input
 
     pub found-stands : {old new : List ℕ} {n : ℕ} → Stands (ReportOf (j .recording) (lent this) (nodeOf root)) old n new → Stands (ToldOf file j) old n new
     found-stands b =
-        let is : search j ≡ ended (found (nodeOf root)) (this .table) (c .tried) = ap search s ∙ this .is in
+        let is : search j ≡ ended (found (nodeOf root)) (this .table) (tallyOf c) = ap search s ∙ this .is in
         let text : ReportText (j .recording) (nodes (this .table)) (nodeOf root) (b .output) =
         subst (λ (k : List Node). ReportText (j .recording) k (nodeOf root) (b .output)) (kept-nodes this) (b .said) in
         record {
@@ -151,7 +151,7 @@ module _ (file : List ℕ) (j : Input) (p : Parts) (g : Good p) (s : j ≡ input
                 let y : this .table ≡ k = cc z in
                 subst (λ (l : Table). ReportText (j .recording) (nodes l) root′ (b .output)) y
                 (subst (λ (m : Node). ReportText (j .recording) (nodes (this .table)) m (b .output)) x text);
-            else = λ f. absurd (f (nodeOf root) (this .table) (c .tried, is));
+            else = λ f. absurd (f (nodeOf root) (this .table) (tallyOf c, is));
           };
           wrote = b .wrote;
         }

@@ -9,7 +9,7 @@ use Rattle.reading.specs.Reading.{Got, got, bad}
 use Rattle.file.specs.Format.{Parts}
 use Rattle.file.specs.Offence.{wholeFile}
 use Rattle.formula.specs.Nodes.{Node}
-use Rattle.walk.specs.Walk.{Ending, found, none, full, ended}
+use Rattle.walk.specs.Walk.{Ending, found, none, full, Tally, ended}
 use Rattle.walk.specs.Input.{search}
 use Rattle.walk.specs.Promises.{Table, nodes}
 use Rattle.walk.proofs.Promises.{walk-ends}
@@ -20,7 +20,7 @@ use Rattle.lines.proofs.Unique.{says-one}
 use Rattle.report.proofs.Unique.{one-report}
 use Rattle.explanation.specs.Explanation.{benchRoom, Finds, Explains, ExplanationOf}
 
-told-one : (p : Parts) (next : ℕ) (x y : List ℕ) (e : Ending) (k : Table) (n : ℕ) → search (inputOf p benchRoom) ≡ ended e k n → Explains (got p next) x
+told-one : (p : Parts) (next : ℕ) (x y : List ℕ) (e : Ending) (k : Table) (n : Tally) → search (inputOf p benchRoom) ≡ ended e k n → Explains (got p next) x
     → Explains (got p next) y → x ≡ y
 told-one p next x y (found root) k n q a b =
     one-report (inputOf p benchRoom .recording) (nodes k) root x y (a .report root k (n, q)) (b .report root k (n, q))

@@ -7,7 +7,7 @@ use Rattle.reading.specs.Reading.{Got, got, bad}
 use Rattle.file.specs.Format.{Parts}
 use Rattle.file.specs.Offence.{wholeFile}
 use Rattle.formula.specs.Nodes.{Node}
-use Rattle.walk.specs.Walk.{found, ended}
+use Rattle.walk.specs.Walk.{Tally, found, ended}
 use Rattle.walk.specs.Input.{Input, search}
 use Rattle.walk.specs.Promises.{Table, nodes}
 use Rattle.writing.specs.Writing.{Wrote}
@@ -20,7 +20,7 @@ benchRoom = 200
 
 -- the search over this input finds a formula: its root, and the table that is kept
 abbrev pub Finds : Input → Node → Table → Type 0
-Finds i root k = (n : ℕ) × (search i ≡ ended (found root) k n)
+Finds i root k = (n : Tally) × (search i ≡ ended (found root) k n)
 
 -- "where a formula is found its whole output is the report, else the bench's first line": what the bench says where none is found is that line alone
 pub record Told (i : Input) (bench : List ℕ → Type 0) (out : List ℕ) : Type 0 where

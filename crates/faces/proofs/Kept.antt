@@ -81,8 +81,9 @@ keptIn : List ℕ → ℕ
 keptIn [] = 0
 keptIn (a ∷ []) = 0
 keptIn (a ∷ b ∷ []) = 0
-keptIn (a ∷ b ∷ c ∷ []) = c
-keptIn (a ∷ b ∷ c ∷ d ∷ rest) = d
+keptIn (a ∷ b ∷ c ∷ []) = 0
+keptIn (a ∷ b ∷ c ∷ d ∷ []) = c
+keptIn (a ∷ b ∷ c ∷ d ∷ e ∷ rest) = d
 
 kept-walk : (S : State (List ℕ)) → keptIn (walkSaid S .values) ≡ length (kept S)
 unfolding keptIn

@@ -23,7 +23,7 @@ use Rattle.search.specs.declared.counts.Counts.{Counts}
 use Rattle.search.specs.declared.SearchAnswer.{SearchAnswer}
 use Rattle.search.specs.declared.SearchAnswer.the-variants.{Found, None, Full, Refused}
 use Rattle.search.specs.Table.{Cols}
-use Rattle.search.specs.Search.{Searched}
+use Rattle.search.specs.Search.{tallyOf, Searched}
 use Rattle.lines.specs.Line.{newline, foundLine, noneLine, fullLine, refusedLine}
 use Rattle.lines.specs.Bench.{inputOf}
 use Rattle.lines.specs.Inner.{Showable, ShownBy, Given, Written}
@@ -112,11 +112,11 @@ module _ (file : List ℕ) (i : Input) (p : Parts) (g : Given file i p) (t : Col
     pub as-many : length (take (c .kept) (u .codes)) ≡ length (lent this)
     as-many = sym (codes-part this) ∙ sym (nodes-many this)
 
-    pub found-returns : {old new : List ℕ} {r : ℕ} → 512 ≤ length old → ShownBy file (lent this) (nodeOf root) (c .tried) old r new → Written p (i .room) old r new
+    pub found-returns : {old new : List ℕ} {r : ℕ} → 512 ≤ length old → ShownBy file (lent this) (nodeOf root) (c .tried) (c .dropped) old r new → Written p (i .room) old r new
     found-returns {old} {new} {r} room shown =
         let (f, s, v) = shown (p .names) (g .next) (g .front) in
-        let lines = foundLine (root .size) (c .tried) (length (lent this)) ++ (text (p .names) f ++ newline) in
-        let b = found-short (root .size) (c .tried) (length (lent this)) in
+        let lines = foundLine (root .size) (c .tried) (length (lent this)) (c .dropped) ++ (text (p .names) f ++ newline) in
+        let b = found-short (root .size) (c .tried) (length (lent this)) (c .dropped) in
         let d = text-in file (lent this) (nodeOf root) (p .names) (g .next) (g .front) unbroken f s in
         record {
           lines = lines;
@@ -124,36 +124,34 @@ module _ (file : List ℕ) (i : Input) (p : Parts) (g : Given file i p) (t : Col
             searched = λ x y. (
               found (nodeOf root),
               this .table,
-              (c .tried),
+              tallyOf c,
               this .is,
               (
                 f,
                 subst (λ (k : List walk.Node). Spells codes k (nodeOf root) f) (kept-nodes this) s,
-                ap (λ (k : ℕ). foundLine (root .size) (c .tried) k ++ (text (p .names) f ++ newline)) ((nodes-many this) ∙ sym (this .as-many)),
+                ap (λ (k : ℕ). foundLine (root .size) (c .tried) k (c .dropped) ++ (text (p .names) f ++ newline)) ((nodes-many this) ∙ sym (this .as-many)),
               ),
             );
             outside = λ o. absurd (this .inside o);
           };
           wrote = v;
-          fits = omega (arith, length-append (foundLine (root .size) (c .tried) (length (lent this))) (text (p .names) f ++ newline), length-append (text (p .names) f) newline);
+          fits = omega (arith, length-append (foundLine (root .size) (c .tried) (length (lent this)) (c .dropped)) (text (p .names) f ++ newline), length-append (text (p .names) f) newline);
         }
 
-  pub none-returns : {c : Counts} → a ≡ None c → {old new : List ℕ} {r : ℕ} → 512 ≤ length old → Wrote old 0 (noneLine (c .tried) (c .kept)) new r
-      → Written p (i .room) old r new
-  none-returns {c} e h v = record {
-    lines = noneLine (c .tried) (c .kept);
-    says = none-says p (g .good) (i .room) t roomy u c (moved (None c) e);
+  pub none-returns : {n : Counts} → a ≡ None n → {old new : List ℕ} {r : ℕ} → 512 ≤ length old → Wrote old 0 (noneLine (n .tried) (n .kept) (n .dropped)) new r → Written p (i .room) old r new
+  none-returns {n} e h v = record {
+    lines = noneLine (n .tried) (n .kept) (n .dropped);
+    says = none-says p (g .good) (i .room) t roomy u n (moved (None n) e);
     wrote = v;
-    fits = omega (arith, none-short (c .tried) (c .kept));
+    fits = omega (arith, none-short (n .tried) (n .kept) (n .dropped));
   }
 
-  pub full-returns : {size : ℕ} {c : Counts} → a ≡ Full size c → {old new : List ℕ} {r : ℕ} → 512 ≤ length old
-      → Wrote old 0 (fullLine size (c .tried) (c .kept)) new r → Written p (i .room) old r new
-  full-returns {size} {c} e h v = record {
-    lines = fullLine size (c .tried) (c .kept);
-    says = full-says p (g .good) (i .room) t roomy u size c (moved (Full size c) e);
+  pub full-returns : {size : ℕ} {n : Counts} → a ≡ Full size n → {old new : List ℕ} {r : ℕ} → 512 ≤ length old → Wrote old 0 (fullLine size (n .tried) (n .kept) (n .dropped)) new r → Written p (i .room) old r new
+  full-returns {size} {n} e h v = record {
+    lines = fullLine size (n .tried) (n .kept) (n .dropped);
+    says = full-says p (g .good) (i .room) t roomy u size n (moved (Full size n) e);
     wrote = v;
-    fits = omega (arith, full-short size (c .tried) (c .kept));
+    fits = omega (arith, full-short size (n .tried) (n .kept) (n .dropped));
   }
 
   pub refused-returns : {n : ℕ} → a ≡ Refused n → {old new : List ℕ} {r : ℕ} → 512 ≤ length old → Wrote old 0 (refusedLine n) new r → Written p (i .room) old r new

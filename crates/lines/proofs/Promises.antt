@@ -11,11 +11,12 @@ use Rattle.file.specs.Offence.{wholeFile}
 use Rattle.file.proofs.Whole.{passed-is-good, good-passes}
 use Rattle.formula.specs.Formula.{Formula, size}
 use Rattle.formula.proofs.Spelled.{one-formula}
-use Rattle.walk.specs.Walk.{Ending, found, none, full, ended}
+use Rattle.walk.specs.Walk.{Ending, found, none, full, Tally, ended}
 use Rattle.walk.specs.Input.{Input, Passes, search}
 use Rattle.walk.specs.Promises.{Table, nodes}
 use Rattle.walk.proofs.Promises as walk
 use Rattle.walk.proofs.Position.{tried-is-position}
+use Rattle.walk.proofs.Dropped.{tried-adds-up}
 use Rattle.text.specs.Text.{text}
 use Rattle.search.specs.Table.{Cols, cols}
 use Rattle.checks.proofs.Passing.{passes-whole}
@@ -51,19 +52,19 @@ module _ (p : Parts) (room : ℕ) (ok : Passes (inputOf p room)) (out : List ℕ
   abbrev i : Input
   i = inputOf p room
 
-  counts : (e : Ending) (k : Table) (n : ℕ) → search i ≡ ended e k n → Counts i e k n (length k)
-  counts e k n s = record { as-many = refl; formulas = walk.kept-distinct i ok e k n s; position = tried-is-position i e k n s }
+  counts : (e : Ending) (k : Table) (n : Tally) → search i ≡ ended e k n → Counts i e k (n .tried) (length k) (n .dropped)
+  counts e k n s = record { as-many = refl; formulas = walk.kept-distinct i ok e k n s; position = tried-is-position i e k n s; adds-up = tried-adds-up i e k n s }
 
-  meant : (e : Ending) (k : Table) (n : ℕ) → search i ≡ ended e k n → EndSays (p .names) e k n out → Meant p room out
+  meant : (e : Ending) (k : Table) (n : Tally) → search i ≡ ended e k n → EndSays (p .names) e k n out → Meant p room out
   meant (found root) k n s (t, spelled, q) =
       let f = walk.found-smallest i ok root k n s in
       let same : t ≡ f .formula = one-formula (nodes k) root t (f .formula) spelled (f .spelled) in
-      let line : out ≡ foundLine (size (f .formula)) n (length k) ++ (text (p .names) (f .formula) ++ newline) =
-      q ∙ ap (λ (z : ℕ). foundLine z n (length k) ++ (text (p .names) t ++ newline)) (f .sized)
-      ∙ ap (λ (u : Formula). foundLine (size (f .formula)) n (length k) ++ (text (p .names) u ++ newline)) same in
-      is-found (f .formula) root k n (length k) line (f .offered) (f .within) (f .separates) (f .smallest) (f .spelled) (counts (found root) k n s)
-  meant none k n s q = is-none k n (length k) q (walk.none-means-none i ok k n s) (counts none k n s)
-  meant (full z) k n s q = is-full z k n (length k) q (walk.full-needs-room i ok z k n s) (counts (full z) k n s)
+      let line : out ≡ foundLine (size (f .formula)) (n .tried) (length k) (n .dropped) ++ (text (p .names) (f .formula) ++ newline) =
+      q ∙ ap (λ (z : ℕ). foundLine z (n .tried) (length k) (n .dropped) ++ (text (p .names) t ++ newline)) (f .sized)
+      ∙ ap (λ (u : Formula). foundLine (size (f .formula)) (n .tried) (length k) (n .dropped) ++ (text (p .names) u ++ newline)) same in
+      is-found (f .formula) root k (n .tried) (length k) (n .dropped) line (f .offered) (f .within) (f .separates) (f .smallest) (f .spelled) (counts (found root) k n s)
+  meant none k n s q = is-none k (n .tried) (length k) (n .dropped) q (walk.none-means-none i ok k n s) (counts none k n s)
+  meant (full z) k n s q = is-full z k (n .tried) (length k) (n .dropped) q (walk.full-needs-room i ok z k n s) (counts (full z) k n s)
 
 module _ (file : List ℕ) (bytes : (i : ℕ) → getD file i 0 < 256) (room : ℕ) (out : List ℕ) (says : Says (wholeFile file) room out) where
   good-says : (p : Parts) → Good p → fileBytes p ≡ file → GoodSays p room out

@@ -27,7 +27,7 @@ use Rattle.search.specs.declared.counts.Counts.{Counts}
 use Rattle.search.specs.declared.SearchAnswer.the-variants.{Found, None, Full, Refused}
 use Rattle.search.specs.Table.{Cols, tableOver}
 use Rattle.checks.specs.Refusals.{searchRows}
-use Rattle.search.specs.Search.{walkSaid, Searched}
+use Rattle.search.specs.Search.{tallyOf, walkSaid, Searched}
 use Rattle.checks.proofs.Decide.{is-two, is-zero, settings-fine, room-fine, codes-fine}
 use Rattle.checks.proofs.Passing.{passes-whole}
 use Rattle.search.proofs.Promises.{found-end, none-end, full-end}
@@ -74,23 +74,23 @@ module _ (p : Parts) (g : Good p) (room : ℕ) (t : Cols) (roomy : Roomy t) wher
     not-outside : (n : ℕ) → Decided (searchRows i t) n → n ≡ 0 → Outside 1 mostRoom room → ⊥
     not-outside n d z o = let e = decided-unique (searchRows i t) n 2 d (out-room o) in omega arith
 
-    pub none-says : (c : Counts) → Searched (inputOf p room) t (None c) u → GoodSays p room (noneLine (c .tried) (c .kept))
+    pub none-says : (n : Counts) → Searched (inputOf p room) t (None n) u → GoodSays p room (noneLine (n .tried) (n .kept) (n .dropped))
     unfolding i
-    none-says c w = record {
+    none-says n w = record {
       searched = λ a b.
           let (e, k, m, q) = walk.walk-ends (inputOf p room) in
-          let (s, l) = none-end (inputOf p room) c e k m q (w .outcome .0 ∙ ap walkSaid q) in
-          (none, k, c .tried, s, ap (noneLine (c .tried)) (sym l));
+          let (s, l) = none-end (inputOf p room) n e k m q (w .outcome .0 ∙ ap walkSaid q) in
+          (none, k, tallyOf n, s, ap (λ (z : ℕ). noneLine (n .tried) z (n .dropped)) (sym l));
       outside = λ o. absurd (not-outside 0 (w .decided) refl o);
     }
 
-    pub full-says : (size : ℕ) (c : Counts) → Searched (inputOf p room) t (Full size c) u → GoodSays p room (fullLine size (c .tried) (c .kept))
+    pub full-says : (size : ℕ) (n : Counts) → Searched (inputOf p room) t (Full size n) u → GoodSays p room (fullLine size (n .tried) (n .kept) (n .dropped))
     unfolding i
-    full-says size c w = record {
+    full-says size n w = record {
       searched = λ a b.
           let (e, k, m, q) = walk.walk-ends (inputOf p room) in
-          let (s, l) = full-end (inputOf p room) size c e k m q (w .outcome .0 ∙ ap walkSaid q) in
-          (full size, k, c .tried, s, ap (fullLine size (c .tried)) (sym l));
+          let (s, l) = full-end (inputOf p room) size n e k m q (w .outcome .0 ∙ ap walkSaid q) in
+          (full size, k, tallyOf n, s, ap (λ (z : ℕ). fullLine size (n .tried) z (n .dropped)) (sym l));
       outside = λ o. absurd (not-outside 0 (w .decided) refl o);
     }
 
@@ -102,23 +102,23 @@ module _ (p : Parts) (g : Good p) (room : ℕ) (t : Cols) (roomy : Roomy t) wher
     }
 
     -- what is known where a formula is found
-    pub record FoundAt (root : Node) (c : Counts) : Type 0 where
+    pub record FoundAt (root : Node) (n : Counts) : Type 0 where
       pub table : Table
-      pub is : search (inputOf p room) ≡ ended (found (nodeOf root)) table (c .tried)
-      pub as-many : length table ≡ c .kept
+      pub is : search (inputOf p room) ≡ ended (found (nodeOf root)) table (tallyOf n)
+      pub as-many : length table ≡ n .kept
       pub holds : u ≡ tableOver table t
-      pub few : c .kept ≤ 4096
+      pub few : n .kept ≤ 4096
       pub whole : Broken (length (p .names)) (nodes table) (nodeOf root) → ⊥
       pub inside : Outside 1 mostRoom room → ⊥
 
-    pub found-at : (root : Node) (c : Counts) → Searched (inputOf p room) t (Found root c) u → FoundAt root c
+    pub found-at : (root : Node) (n : Counts) → Searched (inputOf p room) t (Found root n) u → FoundAt root n
     unfolding i
-    found-at root c w =
+    found-at root n w =
         let ok = passes-whole (inputOf p room) t .0 (w .decided) .0 in
         let (e, k, m, q) = walk.walk-ends (inputOf p room) in
-        let (s, l) = found-end (inputOf p room) root c e k m q (w .outcome .0 ∙ ap walkSaid q) in
-        let a = walk.kept-distinct (inputOf p room) ok (found (nodeOf root)) k (c .tried) s in
-        let f = walk.found-smallest (inputOf p room) ok (nodeOf root) k (c .tried) s in
+        let (s, l) = found-end (inputOf p room) root n e k m q (w .outcome .0 ∙ ap walkSaid q) in
+        let a = walk.kept-distinct (inputOf p room) ok (found (nodeOf root)) k (tallyOf n) s in
+        let f = walk.found-smallest (inputOf p room) ok (nodeOf root) k (tallyOf n) s in
         record {
           table = k;
           is = s;
@@ -126,7 +126,7 @@ module _ (p : Parts) (g : Good p) (room : ℕ) (t : Cols) (roomy : Roomy t) wher
           holds = w .outcome .1 ∙ ap (λ (st : State (List ℕ)). tableOver (kept st) t) s;
           few = omega (arith, a .room, ok .room-in);
           whole = kept-whole (inputOf p room) (nodeOf root) k a f
-              (λ d h. let z = walk-small (offer (inputOf p room)) (lawful (inputOf p room)) room (p .bound) d (subst (λ (st : State (List ℕ)). d ∈ kept st) (sym s) h) in omega (arith, g .lowBound))
+              (λ c h. let z = walk-small (offer (inputOf p room)) (lawful (inputOf p room)) room (p .bound) c (subst (λ (st : State (List ℕ)). c ∈ kept st) (sym s) h) in omega (arith, g .lowBound))
               (omega (arith, ok .room-in)) (omega (arith, g .lowBound));
           inside = λ o. not-outside 0 (w .decided) refl o;
         }

@@ -87,15 +87,15 @@ module _ (file : List ℕ) (k : List Node) (root : Node) (s : Showable file k ro
       }
 
   -- the counts, the text and the line's end, one after the other
-  pub found-written : {n : ℕ} → Front n → (names : List (List ℕ)) (next : ℕ) → wholeNames file ≡ got names next → (size tried kept : ℕ) → kept ≡ length k
-      → {l m x q : List ℕ} {a b r : ℕ} → Wrote l 0 (foundLine size tried kept) m a → Wrote m a (take n new) x b → Wrote x b newline q r
-      → (t : Formula) × Spells codes k root t × Wrote l 0 (foundLine size tried (length k) ++ (text names t ++ newline)) q r
-  found-written {n} f names next e size tried kept h {l} {m} {x} {q} {a} {b} {r} u v z =
+  pub found-written : {n : ℕ} → Front n → (names : List (List ℕ)) (next : ℕ) → wholeNames file ≡ got names next → (size tried kept dropped : ℕ) → kept ≡ length k
+      → {l m x q : List ℕ} {a b r : ℕ} → Wrote l 0 (foundLine size tried kept dropped) m a → Wrote m a (take n new) x b → Wrote x b newline q r
+      → (t : Formula) × Spells codes k root t × Wrote l 0 (foundLine size tried (length k) dropped ++ (text names t ++ newline)) q r
+  found-written {n} f names next e size tried kept dropped h {l} {m} {x} {q} {a} {b} {r} u v z =
       let same : s .names ≡ names = got-value (sym (s .good) ∙ e) in (
         f .formula,
         f .spelled,
-        subst (λ (j : ℕ). Wrote l 0 (foundLine size tried j ++ (text names (f .formula) ++ newline)) q r) h
-            (wrote-both (foundLine size tried kept) (text names (f .formula) ++ newline) u
+        subst (λ (j : ℕ). Wrote l 0 (foundLine size tried j dropped ++ (text names (f .formula) ++ newline)) q r) h
+            (wrote-both (foundLine size tried kept dropped) (text names (f .formula) ++ newline) u
             (wrote-both (text names (f .formula)) newline
             (subst (λ (y : List ℕ). Wrote m a y x b) (f .is ∙ ap (λ (ns : List (List ℕ)). text ns (f .formula)) same) v) z)),
       )

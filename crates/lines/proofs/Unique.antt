@@ -14,7 +14,7 @@ use Rattle.reading.specs.Reading.{Got, got, bad}
 use Rattle.file.specs.Offence.{wholeFile}
 use Rattle.rules.specs.Answers.{over}
 use Rattle.formula.specs.Formula.{Formula}
-use Rattle.walk.specs.Walk.{Ending, found, none, full, ended}
+use Rattle.walk.specs.Walk.{Ending, found, none, full, Tally, ended}
 use Rattle.walk.specs.Promises.{Table, nodes}
 use Rattle.text.specs.Text.{text}
 use Rattle.formula.proofs.Spelled.{one-formula}
@@ -22,20 +22,20 @@ use Rattle.lines.specs.Line.{newline, foundLine}
 use Rattle.lines.specs.Bench.{EndSays, GoodSays, Says, LinesOf}
 
 -- one end has its lines
-end-one : (names : List (List ℕ)) (e : Ending) (k : Table) (n : ℕ) (x y : List ℕ) → EndSays names e k n x → EndSays names e k n y → x ≡ y
+end-one : (names : List (List ℕ)) (e : Ending) (k : Table) (n : Tally) (x y : List ℕ) → EndSays names e k n x → EndSays names e k n y → x ≡ y
 end-one names (found root) k n x y a b =
-    a .2 ∙ ap (λ (t : Formula). foundLine (root .size) n (length k) ++ (text names t ++ newline)) (one-formula (nodes k) root (a .0) (b .0) (a .1) (b .1)) ∙ sym (b .2)
+    a .2 ∙ ap (λ (t : Formula). foundLine (root .size) (n .tried) (length k) (n .dropped) ++ (text names t ++ newline)) (one-formula (nodes k) root (a .0) (b .0) (a .1) (b .1)) ∙ sym (b .2)
 end-one names none k n x y a b = a ∙ sym b
 end-one names (full s) k n x y a b = a ∙ sym b
 
 -- a walk has one end
-same-end : (names : List (List ℕ)) (e f : Ending) (k l : Table) (n m : ℕ) (x y : List ℕ) → ended e k n ≡ ended f l m → EndSays names e k n x → EndSays names f l m y → x ≡ y
+same-end : (names : List (List ℕ)) (e f : Ending) (k l : Table) (n m : Tally) (x y : List ℕ) → ended e k n ≡ ended f l m → EndSays names e k n x → EndSays names f l m y → x ≡ y
 same-end names e f k l n m x y q a b =
     let h : e ≡ f = cc in
     let i : k ≡ l = cc in
     let j : n ≡ m = cc in
     end-one names f l m x y
-    (subst (λ (d : ℕ). EndSays names f l d x) j (subst (λ (t : Table). EndSays names f t n x) i (subst (λ (d : Ending). EndSays names d k n x) h a))) b
+    (subst (λ (d : Tally). EndSays names f l d x) j (subst (λ (t : Table). EndSays names f t n x) i (subst (λ (d : Ending). EndSays names d k n x) h a))) b
 
 module _ (p : Parts) (room : ℕ) (x y : List ℕ) (a : GoodSays p room x) (b : GoodSays p room y) where
   beyond : Outside 1 mostRoom room → x ≡ y

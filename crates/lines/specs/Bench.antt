@@ -12,7 +12,7 @@ use Rattle.file.specs.Reading.{marksOf, lengthsOf, wordsOf}
 use Rattle.rules.specs.Answers.{over}
 use Rattle.formula.specs.Formula.{Formula}
 use Rattle.formula.specs.Nodes.{Spells, codes}
-use Rattle.walk.specs.Walk.{Ending, found, none, full, ended}
+use Rattle.walk.specs.Walk.{Ending, found, none, full, Tally, ended}
 use Rattle.walk.specs.Input.{Input, search}
 use Rattle.walk.specs.Promises.{Table, nodes}
 use Rattle.text.specs.Text.{text}
@@ -24,17 +24,17 @@ abbrev pub inputOf : Parts → ℕ → Input
 inputOf p room =
     walking.inputOf (length (p .sessions)) (length (p .names)) (p .bound) room (p .constants) (marksOf p) (lengthsOf p) (wordsOf p) (p .unary) (p .binary)
 
--- the lines of a walk's end, with the table k and n tried; a formula found has its text in a line of its own
-abbrev pub EndSays : List (List ℕ) → Ending → Table → ℕ → List ℕ → Type 0
+-- the lines of a walk's end, with the table k and the tally n; a formula found has its text in a line of its own
+abbrev pub EndSays : List (List ℕ) → Ending → Table → Tally → List ℕ → Type 0
 EndSays names (found root) k n out =
-    (t : Formula) × Spells codes (nodes k) root t × (out ≡ foundLine (root .size) n (length k) ++ (text names t ++ newline))
-EndSays names none k n out = out ≡ noneLine n (length k)
-EndSays names (full s) k n out = out ≡ fullLine s n (length k)
+    (t : Formula) × Spells codes (nodes k) root t × (out ≡ foundLine (root .size) (n .tried) (length k) (n .dropped) ++ (text names t ++ newline))
+EndSays names none k n out = out ≡ noneLine (n .tried) (length k) (n .dropped)
+EndSays names (full s) k n out = out ≡ fullLine s (n .tried) (length k) (n .dropped)
 
 -- a good file: the lines of the walk over its parts; "2: .. C .. wrong" where the room is none
 pub record GoodSays (p : Parts) (room : ℕ) (out : List ℕ) : Type 0 where
   pub searched : 1 ≤ room → room ≤ mostRoom
-      → (e : Ending) × (k : Table) × (n : ℕ) × (search (inputOf p room) ≡ ended e k n) × EndSays (p .names) e k n out
+      → (e : Ending) × (k : Table) × (n : Tally) × (search (inputOf p room) ≡ ended e k n) × EndSays (p .names) e k n out
   pub outside : Outside 1 mostRoom room → out ≡ refusedLine 2
 
 -- a broken file: the offset of its first offending byte

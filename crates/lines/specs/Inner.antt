@@ -24,10 +24,10 @@ pub record Showable (file : List ℕ) (k : List Node) (root : Node) : Type 0 whe
   pub whole : Broken (length names) k root → ⊥
 
 -- the lines of a formula found are written
-abbrev pub ShownBy : List ℕ → List Node → Node → ℕ → List ℕ → ℕ → List ℕ → Type 0
-ShownBy file k root tried old r new =
+abbrev pub ShownBy : List ℕ → List Node → Node → ℕ → ℕ → List ℕ → ℕ → List ℕ → Type 0
+ShownBy file k root tried dropped old r new =
     (names : List (List ℕ)) (next : ℕ) → wholeNames file ≡ got names next
-    → (t : Formula) × Spells codes k root t × Wrote old 0 (foundLine (root .size) tried (length k) ++ (text names t ++ newline)) new r
+    → (t : Formula) × Spells codes k root t × Wrote old 0 (foundLine (root .size) tried (length k) dropped ++ (text names t ++ newline)) new r
 
 -- the names section and the input are those of good parts
 pub record Given (file : List ℕ) (i : Input) (p : Parts) : Type 0 where

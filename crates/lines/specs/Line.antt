@@ -26,6 +26,10 @@ triedWord = 32 ∷ 116 ∷ 114 ∷ 105 ∷ 101 ∷ 100 ∷ 32 ∷ []
 abbrev pub keptWord : List ℕ
 keptWord = 32 ∷ 107 ∷ 101 ∷ 112 ∷ 116 ∷ 32 ∷ []
 
+-- ` dropped `
+abbrev pub droppedWord : List ℕ
+droppedWord = 32 ∷ 100 ∷ 114 ∷ 111 ∷ 112 ∷ 112 ∷ 101 ∷ 100 ∷ 32 ∷ []
+
 -- `refused 8 at `
 abbrev pub brokenAtWord : List ℕ
 brokenAtWord = 114 ∷ 101 ∷ 102 ∷ 117 ∷ 115 ∷ 101 ∷ 100 ∷ 32 ∷ 56 ∷ 32 ∷ 97 ∷ 116 ∷ 32 ∷ []
@@ -39,21 +43,21 @@ newline = 10 ∷ []
 
 -- ---- the lines
 
--- ` tried .. kept ..`
-abbrev pub counts : ℕ → ℕ → List ℕ
-counts tried kept = triedWord ++ (decimal tried ++ (keptWord ++ (decimal kept ++ newline)))
+-- ` tried .. kept ..`, and request E6's "A first line other than a refusal ends in ` dropped N`"
+abbrev pub counts : ℕ → ℕ → ℕ → List ℕ
+counts tried kept dropped = triedWord ++ (decimal tried ++ (keptWord ++ (decimal kept ++ (droppedWord ++ (decimal dropped ++ newline)))))
 
--- `found size .. tried .. kept ..`
-abbrev pub foundLine : ℕ → ℕ → ℕ → List ℕ
-foundLine size tried kept = foundSizeWord ++ (decimal size ++ counts tried kept)
+-- `found size .. tried .. kept .. dropped ..`
+abbrev pub foundLine : ℕ → ℕ → ℕ → ℕ → List ℕ
+foundLine size tried kept dropped = foundSizeWord ++ (decimal size ++ counts tried kept dropped)
 
--- `none tried .. kept ..`
-abbrev pub noneLine : ℕ → ℕ → List ℕ
-noneLine tried kept = noneWord ++ counts tried kept
+-- `none tried .. kept .. dropped ..`
+abbrev pub noneLine : ℕ → ℕ → ℕ → List ℕ
+noneLine tried kept dropped = noneWord ++ counts tried kept dropped
 
--- `full size .. tried .. kept ..`
-abbrev pub fullLine : ℕ → ℕ → ℕ → List ℕ
-fullLine size tried kept = fullSizeWord ++ (decimal size ++ counts tried kept)
+-- `full size .. tried .. kept .. dropped ..`
+abbrev pub fullLine : ℕ → ℕ → ℕ → ℕ → List ℕ
+fullLine size tried kept dropped = fullSizeWord ++ (decimal size ++ counts tried kept dropped)
 
 -- `refused 8 at ..`
 abbrev pub brokenLine : ℕ → List ℕ

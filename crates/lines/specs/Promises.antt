@@ -14,16 +14,18 @@ use Rattle.formula.specs.Recorded.{markedTraces}
 use Rattle.formula.specs.Nodes.{Node, Spells, codes}
 use Rattle.walk.specs.Walk.{Ending, found, none, full, trail}
 use Rattle.walk.specs.Input.{Input, language, separating, offer}
-use Rattle.walk.specs.Promises.{Table, nodes, NoneBelow, Kept, Full, DecidedAt}
+use Rattle.walk.specs.Promises.{Table, nodes, NoneBelow, Kept, Full, DecidedAt, deciding}
 use Rattle.text.specs.Text.{text}
 use Rattle.lines.specs.Line.{newline, foundLine, noneLine, fullLine, brokenLine, refusedLine}
 use Rattle.lines.specs.Bench.{inputOf, LinesOf}
 
--- the counts of a line: the formulas kept, none of which separates and no two alike, and the position of the candidate that ended the walk
-pub record Counts (i : Input) (e : Ending) (k : Table) (tried kept : ℕ) : Type 0 where
+-- the counts of a line: the formulas kept, none of which separates and no two alike, the position of the candidate that ended the walk, and "tried
+-- equals kept plus dropped, plus one where FOUND or FULL ended the walk"
+pub record Counts (i : Input) (e : Ending) (k : Table) (tried kept dropped : ℕ) : Type 0 where
   pub as-many : length k ≡ kept
   pub formulas : Kept i k
   pub position : DecidedAt (separating i) (trail (offer i) (i .room) (i .bound)) e k tried
+  pub adds-up : tried ≡ kept + dropped + deciding e
 
 -- what the lines for good parts and a room say is so:
 -- `found`: the second line is the text of a formula that uses only what was offered, is of the size in the first line and within the bound, and
@@ -31,18 +33,18 @@ pub record Counts (i : Input) (e : Ending) (k : Table) (tried kept : ℕ) : Type
 -- `none`: no formula over what was offered that keeps to the bound separates;
 -- `full`: the walk needs a place beyond the room, and no formula smaller than that size separates
 pub data Meant (p : Parts) (room : ℕ) (out : List ℕ) : Type 0 where
-  is-found : (t : Formula) (root : Node) (k : Table) (tried kept : ℕ) → out ≡ foundLine (size t) tried kept ++ (text (p .names) t ++ newline)
+  is-found : (t : Formula) (root : Node) (k : Table) (tried kept dropped : ℕ) → out ≡ foundLine (size t) tried kept dropped ++ (text (p .names) t ++ newline)
       → Offered (language (inputOf p room)) t
       → size t ≤ p .bound
       → Separates (markedTraces (inputOf p room .recording)) t
       → NoneBelow (inputOf p room) (size t)
       → Spells codes (nodes k) root t
-      → Counts (inputOf p room) (found root) k tried kept
+      → Counts (inputOf p room) (found root) k tried kept dropped
       → Meant p room out
-  is-none : (k : Table) (tried kept : ℕ) → out ≡ noneLine tried kept → NoneBelow (inputOf p room) (p .bound + 1)
-      → Counts (inputOf p room) none k tried kept → Meant p room out
-  is-full : (s : ℕ) (k : Table) (tried kept : ℕ) → out ≡ fullLine s tried kept → Full (inputOf p room) s k
-      → Counts (inputOf p room) (full s) k tried kept → Meant p room out
+  is-none : (k : Table) (tried kept dropped : ℕ) → out ≡ noneLine tried kept dropped → NoneBelow (inputOf p room) (p .bound + 1)
+      → Counts (inputOf p room) none k tried kept dropped → Meant p room out
+  is-full : (s : ℕ) (k : Table) (tried kept dropped : ℕ) → out ≡ fullLine s tried kept dropped → Full (inputOf p room) s k
+      → Counts (inputOf p room) (full s) k tried kept dropped → Meant p room out
 
 -- of the bytes of good parts, and of any other file
 pub record ShownFor (file : List ℕ) (room : ℕ) (out : List ℕ) : Type 0 where

@@ -23,18 +23,19 @@ fn found(
     sizes: &[u8],
     root: Node,
     tried: u64,
+    dropped: u64,
     text: &mut [u8],
 ) -> usize
     requires { ⌜ Showable (now names) (nodes (now codes) (now lefts) (now rights) (now sizes)) (nodeOf root)
         × (length (now codes) ≡ length (nodes (now codes) (now lefts) (now rights) (now sizes))) ⌝ }
-    ensures { λ r. ⌜ ShownBy (now (names .entry)) (nodes (now (codes .entry)) (now (lefts .entry)) (now (rights .entry)) (now (sizes .entry))) (nodeOf root) tried
+    ensures { λ r. ⌜ ShownBy (now (names .entry)) (nodes (now (codes .entry)) (now (lefts .entry)) (now (rights .entry)) (now (sizes .entry))) (nodeOf root) tried dropped
         (now (text .entry)) r (now (text .exit)) ⌝ }
 {
     let mut shown = [0u8; 391];
     let printed = text::print(names, codes, lefts, rights, sizes, root, &mut shown);
     match printed {
         Printed::Text(length) => {
-            let a = line::found(text, root.size, tried, codes.len());
+            let a = line::found(text, root.size, tried, codes.len(), dropped);
             let b = put(text, a, &shown[..length]);
             put(text, b, b"\n")
         }
@@ -94,10 +95,13 @@ fn searched(
             &sizes[..counts.kept],
             root,
             counts.tried,
+            counts.dropped,
             text,
         ),
-        SearchAnswer::None(counts) => line::none(text, counts.tried, counts.kept),
-        SearchAnswer::Full { size, counts } => line::full(text, size, counts.tried, counts.kept),
+        SearchAnswer::None(counts) => line::none(text, counts.tried, counts.kept, counts.dropped),
+        SearchAnswer::Full { size, counts } => {
+            line::full(text, size, counts.tried, counts.kept, counts.dropped)
+        }
         SearchAnswer::Refused(number) => line::refused(text, number),
     }
 }

@@ -13,34 +13,35 @@ fn put_number(text: &mut [u8], at: usize, word: &[u8], x: u64) -> usize
     put_decimal(text, a, x)
 }
 
-// ` tried .. kept ..`, and the line's end.
-fn put_counts(text: &mut [u8], at: usize, tried: u64, kept: u64) -> usize
-    ensures { λ r. ⌜ Wrote (now (text .entry)) at (counts tried kept) (now (text .exit)) r ⌝ }
+// ` tried .. kept .. dropped ..`, and the line's end.
+fn put_counts(text: &mut [u8], at: usize, tried: u64, kept: u64, dropped: u64) -> usize
+    ensures { λ r. ⌜ Wrote (now (text .entry)) at (counts tried kept dropped) (now (text .exit)) r ⌝ }
 {
     let a = put_number(text, at, b" tried ", tried);
     let b = put_number(text, a, b" kept ", kept);
-    put(text, b, b"\n")
+    let c = put_number(text, b, b" dropped ", dropped);
+    put(text, c, b"\n")
 }
 
-pub(crate) fn found(text: &mut [u8], size: u8, tried: u64, kept: usize) -> usize
-    ensures { λ r. ⌜ Wrote (now (text .entry)) 0 (foundLine size tried kept) (now (text .exit)) r ⌝ }
+pub(crate) fn found(text: &mut [u8], size: u8, tried: u64, kept: usize, dropped: u64) -> usize
+    ensures { λ r. ⌜ Wrote (now (text .entry)) 0 (foundLine size tried kept dropped) (now (text .exit)) r ⌝ }
 {
     let a = put_number(text, 0, b"found size ", size as u64);
-    put_counts(text, a, tried, kept as u64)
+    put_counts(text, a, tried, kept as u64, dropped)
 }
 
-pub(crate) fn none(text: &mut [u8], tried: u64, kept: usize) -> usize
-    ensures { λ r. ⌜ Wrote (now (text .entry)) 0 (noneLine tried kept) (now (text .exit)) r ⌝ }
+pub(crate) fn none(text: &mut [u8], tried: u64, kept: usize, dropped: u64) -> usize
+    ensures { λ r. ⌜ Wrote (now (text .entry)) 0 (noneLine tried kept dropped) (now (text .exit)) r ⌝ }
 {
     let a = put(text, 0, b"none");
-    put_counts(text, a, tried, kept as u64)
+    put_counts(text, a, tried, kept as u64, dropped)
 }
 
-pub(crate) fn full(text: &mut [u8], size: u8, tried: u64, kept: usize) -> usize
-    ensures { λ r. ⌜ Wrote (now (text .entry)) 0 (fullLine size tried kept) (now (text .exit)) r ⌝ }
+pub(crate) fn full(text: &mut [u8], size: u8, tried: u64, kept: usize, dropped: u64) -> usize
+    ensures { λ r. ⌜ Wrote (now (text .entry)) 0 (fullLine size tried kept dropped) (now (text .exit)) r ⌝ }
 {
     let a = put_number(text, 0, b"full size ", size as u64);
-    put_counts(text, a, tried, kept as u64)
+    put_counts(text, a, tried, kept as u64, dropped)
 }
 
 // A broken file, with the offset of its first offending byte.

@@ -19,6 +19,7 @@ fn say_number(text: &[u8], x: u64) {
 fn say_counts(counts: Counts) {
     say_number(b" tried ", counts.tried);
     say_number(b" kept ", counts.kept as u64);
+    say_number(b" dropped ", counts.dropped);
 }
 
 fn say_node(node: Node) {

@@ -5,6 +5,7 @@ pub mod Checking
 pub mod Printing
 pub mod Parsing
 pub mod Reading
+pub mod Comparing
 pub mod Unique
 pub mod Promises
 pub mod Reporting

@@ -17,25 +17,25 @@ use Rattle.search.specs.declared.SearchAnswer.the-variants.{Found, None, Full, 
 use Rattle.search.specs.Table.{Cols}
 use Rattle.search.specs.Search.{Searched}
 use Rattle.checks.specs.Refusals as core
-use Rattle.search.proofs.Promises.{found-smallest, none-means-none, full-needs-room, tried-is-position}
-use Rattle.scarfpylon.specs.Out.{outWords, written}
-use Rattle.scarfpylon.specs.Search.{searchWords, searchRows, SearchDone}
+use Rattle.search.proofs.Promises.{found-smallest, none-means-none, full-needs-room, tried-is-position, tried-adds-up}
+use Rattle.scarfpylon.specs.Out.{written}
+use Rattle.scarfpylon.specs.Search.{longWords, searchWords, searchRows, SearchDone}
 use Rattle.scarfpylon.specs.Promises.{Says, SearchMeans}
 
--- where nothing is refused `out` has its 8 words, and the search refuses nothing
-passed-rows : (i : Input) (t : Cols) (old : List ℕ) → Decided (searchRows i t old) 0 → (outWords ≤ length old) × Decided (core.searchRows i t) 0
+-- where nothing is refused `out` has its 16 words, and the search refuses nothing
+passed-rows : (i : Input) (t : Cols) (old : List ℕ) → Decided (searchRows i t old) 0 → (longWords ≤ length old) × Decided (core.searchRows i t) 0
 unfolding Decided
 passed-rows i t old (inl d) = absurd (omega (arith, d .1))
 passed-rows i t old (inr (a, inl d)) = absurd (omega (arith, d .1))
 passed-rows i t old (inr (a, inr (b, inl d))) = absurd (omega (arith, d .1))
-passed-rows i t old (inr (a, inr (b, inr (c, d)))) = (elim (decLe outWords (length old)) [ yes h ↦ h | no h ↦ absurd (c (lt-of-not-le h)) ], inr (a, inr (b, d)))
+passed-rows i t old (inr (a, inr (b, inr (c, d)))) = (elim (decLe longWords (length old)) [ yes h ↦ h | no h ↦ absurd (c (lt-of-not-le h)) ], inr (a, inr (b, d)))
 
--- a list of 8 words and more, word by word
-abbrev eight : List ℕ → List ℕ
-eight l =
-    getD l 0 0 ∷ getD l 1 0 ∷ getD l 2 0 ∷ getD l 3 0 ∷ getD l 4 0 ∷ getD l 5 0 ∷ getD l 6 0 ∷ getD l 7 0 ∷ drop 8 l
+-- a list of 9 words and more, word by word
+abbrev nine : List ℕ → List ℕ
+nine l =
+    getD l 0 0 ∷ getD l 1 0 ∷ getD l 2 0 ∷ getD l 3 0 ∷ getD l 4 0 ∷ getD l 5 0 ∷ getD l 6 0 ∷ getD l 7 0 ∷ getD l 8 0 ∷ drop 9 l
 
-by-word : (l : List ℕ) → outWords ≤ length l → l ≡ eight l
+by-word : (l : List ℕ) → longWords ≤ length l → l ≡ nine l
 by-word [] h = absurd (omega arith)
 by-word (a ∷ []) h = absurd (omega arith)
 by-word (a ∷ b ∷ []) h = absurd (omega arith)
@@ -44,7 +44,8 @@ by-word (a ∷ b ∷ c ∷ d ∷ []) h = absurd (omega arith)
 by-word (a ∷ b ∷ c ∷ d ∷ e ∷ []) h = absurd (omega arith)
 by-word (a ∷ b ∷ c ∷ d ∷ e ∷ f ∷ []) h = absurd (omega arith)
 by-word (a ∷ b ∷ c ∷ d ∷ e ∷ f ∷ g ∷ []) h = absurd (omega arith)
-by-word (a ∷ b ∷ c ∷ d ∷ e ∷ f ∷ g ∷ i ∷ l) h = refl
+by-word (a ∷ b ∷ c ∷ d ∷ e ∷ f ∷ g ∷ i ∷ []) h = absurd (omega arith)
+by-word (a ∷ b ∷ c ∷ d ∷ e ∷ f ∷ g ∷ i ∷ j ∷ l) h = refl
 
 -- two of the three cases are not the third
 one-two : _≡_ {A = ℕ} 1 2 → ⊥
@@ -57,24 +58,24 @@ two-three : _≡_ {A = ℕ} 2 3 → ⊥
 two-three e = omega arith
 
 module _ (i : Input) (t u : Cols) (l : List ℕ) where
-  words-say : (a : SearchAnswer) → Decided (core.searchRows i t) 0 → Searched i t a u → Says i t u (written (searchWords a) (eight l))
+  words-say : (a : SearchAnswer) → Decided (core.searchRows i t) 0 → Searched i t a u → Says i t u (written (searchWords a) (nine l))
   words-say (Found root n) d w = record {
     one-of = inl refl;
-    when-found = λ e. (refl, tried-is-position i t u (Found root n) w, found-smallest i t u root n w);
+    when-found = λ e. (refl, tried-is-position i t u (Found root n) w, tried-adds-up i t u (Found root n) w, found-smallest i t u root n w);
     when-none = λ e. absurd (one-two e);
     when-full = λ e. absurd (one-three e);
   }
   words-say (None n) d w = record {
     one-of = inr (inl refl);
     when-found = λ e. absurd (one-two (sym e));
-    when-none = λ e. (tried-is-position i t u (None n) w, none-means-none i t u n w .2);
+    when-none = λ e. (tried-is-position i t u (None n) w, omega (arith, tried-adds-up i t u (None n) w), none-means-none i t u n w .2);
     when-full = λ e. absurd (two-three e);
   }
   words-say (Full size n) d w = record {
     one-of = inr (inr refl);
     when-found = λ e. absurd (one-three (sym e));
     when-none = λ e. absurd (two-three (sym e));
-    when-full = λ e. (tried-is-position i t u (Full size n) w, full-needs-room i t u size n w);
+    when-full = λ e. (tried-is-position i t u (Full size n) w, tried-adds-up i t u (Full size n) w, full-needs-room i t u size n w);
   }
   words-say (Refused k) d w = absurd (omega (arith, w .outcome .0, decided-unique (core.searchRows i t) k 0 (w .decided) d))
 

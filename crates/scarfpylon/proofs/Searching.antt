@@ -14,8 +14,8 @@ use Rattle.search.specs.declared.SearchAnswer.the-variants.{Found, None, Full, 
 use Rattle.search.specs.Table.{Cols}
 use Rattle.checks.specs.Refusals as core
 use Rattle.search.specs.Search.{said, Searched}
-use Rattle.scarfpylon.specs.Out.{outWords, written}
-use Rattle.scarfpylon.specs.Search.{searchWords, searchRows, SearchDone}
+use Rattle.scarfpylon.specs.Out.{written}
+use Rattle.scarfpylon.specs.Search.{longWords, searchWords, searchRows, SearchDone}
 use Rattle.scarfpylon.specs.Inner.{SearchUnanswered}
 
 -- ---- `out` is too short
@@ -36,7 +36,7 @@ module _ (r m bound room constants : ℕ) where
     abbrev i : Input
     i = inputOf r m bound room constants marks lengths words unary binary
 
-    refused-rows : length old < outWords → (k : ℕ) → SearchUnanswered r m bound room constants k → Decided (searchRows i t old) k
+    refused-rows : length old < longWords → (k : ℕ) → SearchUnanswered r m bound room constants k → Decided (searchRows i t old) k
     unfolding Decided
     refused-rows h k (inl p) = inl p
     refused-rows h k (inr (p, inl q)) = inr (p, inl q)
@@ -50,12 +50,12 @@ module _ (r m bound room constants : ℕ) where
     not-answered k (inr (p, inr (q, inl s))) e = omega (arith, s .1)
     not-answered k (inr (p, inr (q, inr s))) e = s .0 tt
 
-    pub search-short : length old < outWords → (k : ℕ) → SearchUnanswered r m bound room constants k → SearchDone i t old k t old
+    pub search-short : length old < longWords → (k : ℕ) → SearchUnanswered r m bound room constants k → SearchDone i t old k t old
     search-short h k d = record { number = refused-rows h k d; refused = λ f. (refl, refl); passed = λ e. absurd (not-answered k d e) }
 
 -- ---- `out` is long enough
 
-module _ (i : Input) (t : Cols) (old : List ℕ) (h : outWords ≤ length old) where
+module _ (i : Input) (t : Cols) (old : List ℕ) (h : longWords ≤ length old) where
   answered-rows : (k : ℕ) → Decided (core.searchRows i t) k → Decided (searchRows i t old) k
   unfolding Decided
   answered-rows k (inl p) = inl p

@@ -8,6 +8,7 @@ pub mod Check
 pub mod Print
 pub mod Parse
 pub mod Read
+pub mod Compare
 pub mod Promises
 pub mod Inner
 pub mod Report

@@ -10,8 +10,8 @@ use Rattle.formula.specs.Nodes.{Node}
 use Rattle.walk.specs.Walk.{found, none, full}
 use Rattle.walk.specs.Input.{Input}
 use Rattle.walk.specs.Promises.{Table, Found, Full, NoneBelow}
-use Rattle.search.specs.Table.{Cols}
 use Rattle.search.specs.declared.counts.Counts.{Counts}
+use Rattle.search.specs.Table.{Cols}
 use Rattle.search.specs.Promises.{Holding, CountedTo}
 use Rattle.scarfpylon.specs.Search.{SearchDone}
 
@@ -22,21 +22,25 @@ wordAt out p = getD out p 0
 abbrev pub rootIn : List ℕ → Node
 rootIn out = record { code = wordAt out 4; left = wordAt out 5; right = wordAt out 6; size = wordAt out 7 }
 
--- ".. tried, kept .."
+-- "tried, kept", and "out[8] = dropped"
 abbrev pub countsIn : List ℕ → Counts
-countsIn out = record { tried = wordAt out 2; kept = wordAt out 3 }
+countsIn out = record { tried = wordAt out 2; kept = wordAt out 3; dropped = wordAt out 8 }
+
+abbrev pub AddsUp : List ℕ → ℕ → Type 0
+AddsUp out more = wordAt out 2 ≡ wordAt out 3 + wordAt out 8 + more
 
 -- "out = case (1 found, 2 none, 3 full), size (found, full), tried, kept ..": word 0 is one of the three, and what each says is so;
--- word 3 is the number of formulas in the table that the slices hold, and word 2 the position of the candidate that ended the walk
+-- word 3 is the number of formulas in the table that the slices hold, word 2 the position of the candidate that ended the walk, and word 8 the number
+-- dropped: "tried equals kept plus dropped, plus one where FOUND or FULL ended the walk"
 pub record Says (i : Input) (t u : Cols) (out : List ℕ) : Type 0 where
   pub one-of : (wordAt out 0 ≡ 1) ⊎ (wordAt out 0 ≡ 2) ⊎ (wordAt out 0 ≡ 3)
   -- the root node over the nodes in the slices is a formula that uses only what was offered, keeps to the bound and separates, and no smaller one does
-  pub when-found : wordAt out 0 ≡ 1 → (wordAt out 1 ≡ wordAt out 7) × CountedTo i t u (found (rootIn out)) (countsIn out)
+  pub when-found : wordAt out 0 ≡ 1 → (wordAt out 1 ≡ wordAt out 7) × CountedTo i t u (found (rootIn out)) (countsIn out) × AddsUp out 1
       × ((k : Table) × Holding i t u (wordAt out 3) k × Found i (rootIn out) k)
   -- no formula over what was offered that keeps to the bound separates
-  pub when-none : wordAt out 0 ≡ 2 → CountedTo i t u none (countsIn out) × NoneBelow i (i .bound + 1)
+  pub when-none : wordAt out 0 ≡ 2 → CountedTo i t u none (countsIn out) × AddsUp out 0 × NoneBelow i (i .bound + 1)
   -- the walk needs a place beyond the room, and no formula smaller than the size in word 1 separates
-  pub when-full : wordAt out 0 ≡ 3 → CountedTo i t u (full (wordAt out 1)) (countsIn out)
+  pub when-full : wordAt out 0 ≡ 3 → CountedTo i t u (full (wordAt out 1)) (countsIn out) × AddsUp out 1
       × ((k : Table) × Holding i t u (wordAt out 3) k × Full i (wordAt out 1) k)
 
 abbrev pub SearchMeans : Type 0

@@ -2,7 +2,8 @@
 -- Assumes nothing.
 use mathlib.Core.Path.{_≡_}
 use mathlib.Core.List.{List, [], _∷_}
-use Prim.Native.Nat.{ℕ}
+use Prim.Native.Nat.{ℕ, _<_}
+use lib.ListN.{length}
 use Rattle.rules.specs.Refusals.{Row, Decided}
 use Rattle.walk.specs.Input.{Input}
 use Rattle.search.specs.declared.SearchAnswer.{SearchAnswer}
@@ -10,9 +11,17 @@ use Rattle.search.specs.declared.SearchAnswer.the-variants.{Found, None, Full, 
 use Rattle.search.specs.Table.{Cols}
 use Rattle.checks.specs.Refusals.{searchRowsWith}
 use Rattle.search.specs.Search.{Searched}
-use Rattle.scarfpylon.specs.Out.{outShort, Named, word, written}
+use Rattle.scarfpylon.specs.Out.{Named, word, written}
 
--- "out = case (1 found, 2 none, 3 full), size (found, full), tried, kept, and at found the root's code, left, right, size"
+-- "scarfpylon_search: out has at least 16 words"
+abbrev pub longWords : ℕ
+longWords = 16
+
+-- "a shorter one is 3"
+abbrev pub longShort : List ℕ → Row
+longShort out = record { number = 3; given = length out < longWords }
+
+-- "out = case (1 found, 2 none, 3 full), size (found, full), tried, kept, and at found the root's code, left, right, size; out[8] = dropped"
 abbrev pub searchWords : SearchAnswer → List Named
 searchWords (Found root n) =
     word 0 1
@@ -23,15 +32,16 @@ searchWords (Found root n) =
     ∷ word 5 (root .left .0)
     ∷ word 6 (root .right .0)
     ∷ word 7 (root .size)
+    ∷ word 8 (n .dropped)
     ∷ []
-searchWords (None n) = word 0 2 ∷ word 2 (n .tried) ∷ word 3 (n .kept) ∷ []
-searchWords (Full size n) = word 0 3 ∷ word 1 size ∷ word 2 (n .tried) ∷ word 3 (n .kept) ∷ []
+searchWords (None n) = word 0 2 ∷ word 2 (n .tried) ∷ word 3 (n .kept) ∷ word 8 (n .dropped) ∷ []
+searchWords (Full size n) = word 0 3 ∷ word 1 size ∷ word 2 (n .tried) ∷ word 3 (n .kept) ∷ word 8 (n .dropped) ∷ []
 searchWords (Refused k) = []
 
 module _ (i : Input) (t : Cols) (old : List ℕ) where
   -- the search's rows, with that of `out` "at the place that 3 has"
   abbrev pub searchRows : List Row
-  searchRows = searchRowsWith i (outShort old ∷ []) t
+  searchRows = searchRowsWith i (longShort old ∷ []) t
 
   -- "Every function returns a u64: 0 where it answered, else the refusal number ..; a refusal writes nothing"; an answer is the search's
   pub record SearchDone (returned : ℕ) (t′ : Cols) (new : List ℕ) : Type 0 where

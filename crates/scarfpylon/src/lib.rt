@@ -1,5 +1,6 @@
 // The C boundary: operators, search, check, print, the readers of formulas and files, and the report, on numbers and slices of numbers. Every
 // function returns 0 where it answered, else a refusal's number, and answers in the slice `out`.
+mod compare;
 mod out;
 mod reports;
 mod short;
@@ -20,6 +21,7 @@ ghost use Rattle.scarfpylon.specs.Check.{CheckDone};
 ghost use Rattle.scarfpylon.specs.Print.{PrintDone};
 ghost use Rattle.scarfpylon.specs.Parse.{ParseDone};
 ghost use Rattle.scarfpylon.specs.Read.{done, readDone};
+ghost use Rattle.scarfpylon.specs.Compare.{CompareDone};
 ghost use Rattle.scarfpylon.specs.Report.{ReportDone};
 
 // The unary operator of a code on a sequence.
@@ -87,7 +89,7 @@ pub extern "C" fn scarfpylon_search(
         (cols (now (codes .exit)) (now (lefts .exit)) (now (rights .exit)) (now (sizes .exit)) (now (matrices .exit)))
         (now (out .exit)) ⌝ }
 {
-    if out.len() < out::WORDS {
+    if out.len() < out::LONG_WORDS {
         return short::search(r, m, bound, room, constants);
     }
     let answer = search::search(
@@ -253,6 +255,26 @@ pub extern "C" fn scarfpylon_read(
     let answer = file::read(file, marks, lengths, words, unary, binary);
     out::put_read(answer, out);
     out::read_number(answer)
+}
+
+// A matrix, the first r of the words, against the one at a place of the matrices: equal, or the first session that differs.
+#[no_mangle]
+pub extern "C" fn scarfpylon_compare(
+    r: usize,
+    place: usize,
+    matrices: &[u64],
+    words: &[u64],
+    out: &mut [u64],
+) -> u64
+    ensures { λ k. ⌜ CompareDone r place (now (matrices .entry)) (now (words .entry)) (now (out .entry)) k (now (out .exit)) ⌝ }
+{
+    let refused = compare::refusal(r, place, matrices.len(), words.len(), out.len());
+    if refused != 0 {
+        return refused;
+    }
+    let from = place * r;
+    let answer = table::compare(r, Place(0), &matrices[from..], words);
+    compare::put(answer, place, out)
 }
 
 // Per session and node under the root: the first snapshot where it holds, the first where it doesn't, and at how many it holds.

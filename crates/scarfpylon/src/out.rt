@@ -14,11 +14,13 @@ ghost use Rattle.reader.specs.Parsing.{saidParsed};
 ghost use Rattle.text.specs.Print.{saidPrinted};
 ghost use Rattle.search.specs.Search.{said};
 ghost use Rattle.scarfpylon.specs.Out.{outWords, written, refusedAt, returnedOf, saidWords};
-ghost use Rattle.scarfpylon.specs.Search.{searchWords};
+ghost use Rattle.scarfpylon.specs.Search.{longWords, searchWords};
 ghost use Rattle.scarfpylon.specs.Inner.{Fits, SequencePut};
 
-// The words that `out` has to have.
+// The words that `out` has to have; at the search more.
 pub const WORDS: usize = 8;
+
+pub const LONG_WORDS: usize = 16;
 
 // A refusal's number with its offset.
 fn refused_at(number: u64, offset: usize) -> u64
@@ -56,7 +58,7 @@ pub(crate) fn search_number(answer: SearchAnswer) -> u64
 }
 
 pub(crate) fn put_search(answer: SearchAnswer, out: &mut [u64])
-    requires { ⌜ outWords ≤ length (now out) ⌝ }
+    requires { ⌜ longWords ≤ length (now out) ⌝ }
     ensures { λ u. ⌜ now (out .exit) ≡ written (searchWords answer) (now (out .entry)) ⌝ }
 {
     match answer {
@@ -69,17 +71,20 @@ pub(crate) fn put_search(answer: SearchAnswer, out: &mut [u64])
             out[5] = root.left.0 as u64;
             out[6] = root.right.0 as u64;
             out[7] = root.size as u64;
+            out[8] = counts.dropped;
         }
         SearchAnswer::None(counts) => {
             out[0] = 2;
             out[2] = counts.tried;
             out[3] = counts.kept as u64;
+            out[8] = counts.dropped;
         }
         SearchAnswer::Full { size, counts } => {
             out[0] = 3;
             out[1] = size as u64;
             out[2] = counts.tried;
             out[3] = counts.kept as u64;
+            out[8] = counts.dropped;
         }
         SearchAnswer::Refused(_) => {}
     }

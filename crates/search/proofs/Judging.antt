@@ -16,7 +16,7 @@ use Rattle.rules.specs.declared.kinds.Place.{Place}
 use Rattle.formula.specs.declared.kinds.Node.{Node}
 use Rattle.formula.specs.Kinds.{nodeOf}
 use Rattle.formula.specs.Nodes as nodes
-use Rattle.walk.specs.Walk.{Candidate, found, full, State, going, ended, kept, judge, consider}
+use Rattle.walk.specs.Walk.{Candidate, found, full, Tally, tally, oneTried, State, going, ended, kept, judge, consider}
 use Rattle.walk.specs.Walk as walk
 use Rattle.walk.specs.Input.{Input, Passes, separating, offer}
 use Rattle.walk.specs.Promises.{Table}
@@ -43,9 +43,11 @@ use Rattle.rows.specs.Formulas as matrices
 use Rattle.table.proofs.Acceptance.{agrees-separating}
 use Rattle.table.proofs.Duplicates.{known-is-known}
 use Rattle.table.proofs.Kept.{held-is-stored, keep-grows}
+use Rattle.search.specs.declared.counts.Counts.{Counts}
 use Rattle.search.specs.declared.given.Given.{Given}
 use Rattle.search.specs.declared.turns.Stand.{Stand}
 use Rattle.search.specs.declared.turns.Stand.the-variants.{Going, Found, Full}
+use Rattle.search.specs.Search.{tallyOf}
 use Rattle.search.specs.Turns.{input, Room, Stood, Posed, make, sizesLeft, layerAt, walkLeft, Standing}
 use Rattle.search.proofs.Making.{made-written, made-base, safe-makes}
 use Rattle.search.proofs.Left.{left-less}
@@ -89,22 +91,22 @@ room-at {g} kept w h = record {
 
 -- ---- the walk's rule for one candidate
 
-module _ (i : Input) (k : Table) (n : ℕ) (x : Candidate (List ℕ)) where
-  con-found : separating i (x .matrix) ≡ true → consider (offer i) (i .room) (going k n) x ≡ ended (found (x .node)) k (n + 1)
+module _ (i : Input) (k : Table) (n : Tally) (x : Candidate (List ℕ)) where
+  con-found : separating i (x .matrix) ≡ true → consider (offer i) (i .room) (going k n) x ≡ ended (found (x .node)) k (tally (n .tried + 1) (n .dropped))
   unfolding consider judge
   con-found e = rw (e, add-one)
 
-  con-known : separating i (x .matrix) ≡ false → walk.known (offer i) (x .matrix) k ≡ true → consider (offer i) (i .room) (going k n) x ≡ going k (n + 1)
+  con-known : separating i (x .matrix) ≡ false → walk.known (offer i) (x .matrix) k ≡ true → consider (offer i) (i .room) (going k n) x ≡ going k (tally (n .tried + 1) (n .dropped + 1))
   unfolding consider judge
-  con-known e f = rw (e, f, add-one)
+  con-known e f = rw (e, f, add-one (n .tried), add-one (n .dropped))
 
   con-full : separating i (x .matrix) ≡ false → walk.known (offer i) (x .matrix) k ≡ false → i .room ≤ length k
-      → consider (offer i) (i .room) (going k n) x ≡ ended (full (x .node .size)) k (n + 1)
+      → consider (offer i) (i .room) (going k n) x ≡ ended (full (x .node .size)) k (tally (n .tried + 1) (n .dropped))
   unfolding consider judge
   con-full e f h = rw (e, f, le-leb (i .room) (length k) h, add-one)
 
   con-kept : separating i (x .matrix) ≡ false → walk.known (offer i) (x .matrix) k ≡ false → length k < i .room
-      → consider (offer i) (i .room) (going k n) x ≡ going (k ++ (x ∷ [])) (n + 1)
+      → consider (offer i) (i .room) (going k n) x ≡ going (k ++ (x ∷ [])) (tally (n .tried + 1) (n .dropped))
   unfolding consider judge
   con-kept e f h = rw (e, f, lt-leb (i .room) (length k) h, add-one)
 
@@ -133,12 +135,12 @@ module _ {i : Input} (ok : Passes i) {t₀ t : Cols} {k : Table} (h : Holds i k 
   separates : (v : Bool) → v ≡ agreeing (i .recording .sessions) (i .recording .marks) rows → separating i (x .matrix) ≡ v
   separates v e = ap (separating i) (sym rows-are) ∙ sym (agrees-separating i ok rows rows-long) ∙ sym e
 
-  module _ (n kept : ℕ) (counted : kept ≡ length k) where
+  module _ (n : Tally) (kept : ℕ) (counted : kept ≡ length k) where
     pub stands-found : true ≡ agreeing (i .recording .sessions) (i .recording .marks) rows
-        → Stood i t₀ (consider (offer i) (i .room) (going k n) x) t (Found node (record { tried = n + 1; kept = kept }))
+        → Stood i t₀ (consider (offer i) (i .room) (going k n) x) t (Found node (record { tried = n .tried + 1; kept = kept; dropped = n .dropped }))
     stands-found e = record {
       table = k;
-      is = con-found i k n x (separates true e) ∙ ap (λ (z : nodes.Node). ended (found z) k (n + 1)) (p .node-is);
+      is = con-found i k n x (separates true e) ∙ ap (λ (z : nodes.Node). ended (found z) k (tally (n .tried + 1) (n .dropped))) (p .node-is);
       counted = counted;
       holds = h;
     }
@@ -151,21 +153,21 @@ module _ {i : Input} (ok : Passes i) {t₀ t : Cols} {k : Table} (h : Holds i k 
           (subst (λ (z : ℕ). KnownAnswer (i .recording .sessions) (t .matrices) rows z a) counted v)
 
       pub stands-dropped : Repeats (i .recording .sessions) (t .matrices) rows kept
-          → Stood i t₀ (consider (offer i) (i .room) (going k n) x) t (Going (record { tried = n + 1; kept = kept }))
+          → Stood i t₀ (consider (offer i) (i .room) (going k n) x) t (Going (record { tried = n .tried + 1; kept = kept; dropped = n .dropped + 1 }))
       stands-dropped v = record { table = k; is = con-known i k n x (separates false e) (knows (At (v .place)) (v .answer)); counted = counted; holds = h }
 
       module _ (v : Fresh (i .recording .sessions) (t .matrices) rows kept) where
-        pub stands-full : i .room ≤ kept → Stood i t₀ (consider (offer i) (i .room) (going k n) x) t (Full (node .size) (record { tried = n + 1; kept = kept }))
+        pub stands-full : i .room ≤ kept → Stood i t₀ (consider (offer i) (i .room) (going k n) x) t (Full (node .size) (record { tried = n .tried + 1; kept = kept; dropped = n .dropped }))
         stands-full l = record {
           table = k;
           is = con-full i k n x (separates false e) (knows New (v .answer)) (omega (arith, counted))
-              ∙ ap (λ (z : nodes.Node). ended (full (z .size)) k (n + 1)) (p .node-is);
+              ∙ ap (λ (z : nodes.Node). ended (full (z .size)) k (tally (n .tried + 1) (n .dropped))) (p .node-is);
           counted = counted;
           holds = h;
         }
 
         pub stands-kept : {t′ : Cols} → kept < i .room → RoomAt i kept t₀ → Keeps (i .recording .sessions) rows kept (nodeOf node) t t′
-            → Stood i t₀ (consider (offer i) (i .room) (going k n) x) t′ (Going (record { tried = n + 1; kept = kept + 1 }))
+            → Stood i t₀ (consider (offer i) (i .room) (going k n) x) t′ (Going (record { tried = n .tried + 1; kept = kept + 1; dropped = n .dropped }))
         stands-kept {t′} l room z =
             let room′ = subst (λ (q : ℕ). RoomAt i q t₀) counted room in
             let a = subst (λ (q : ℕ). KeepAnswer (i .recording .sessions) rows q (nodeOf node) t t′ (z .done)) counted (z .answer) in
@@ -179,7 +181,7 @@ module _ {i : Input} (ok : Passes i) {t₀ t : Cols} {k : Table} (h : Holds i k 
 
 -- ---- what a candidate leaves, where the walk goes on: the table as it was, or with this formula
 
-module _ (i : Input) (k k′ : Table) (n n′ : ℕ) (x : Candidate (List ℕ)) where
+module _ (i : Input) (k k′ : Table) (n n′ : Tally) (x : Candidate (List ℕ)) where
   judged-table : (a b c : Bool) → judge (offer i) a b c x k n ≡ going k′ n′ → (k′ ≡ k) ⊎ (k′ ≡ k ++ (x ∷ []))
   unfolding judge
   judged-table true b c e = let z : _≡_ {A = ℕ} 0 1 = cc e in absurd (omega arith)
@@ -187,9 +189,9 @@ module _ (i : Input) (k k′ : Table) (n n′ : ℕ) (x : Candidate (List ℕ)) 
   judged-table false false true e = let z : _≡_ {A = ℕ} 0 1 = cc e in absurd (omega arith)
   judged-table false false false e = inr (sym (ap kept e))
 
-goes-table : (i : Input) (k k′ : Table) (n n′ : ℕ) (x : Candidate (List ℕ)) → consider (offer i) (i .room) (going k n) x ≡ going k′ n′ → (k′ ≡ k) ⊎ (k′ ≡ k ++ (x ∷ []))
+goes-table : (i : Input) (k k′ : Table) (n n′ : Tally) (x : Candidate (List ℕ)) → consider (offer i) (i .room) (going k n) x ≡ going k′ n′ → (k′ ≡ k) ⊎ (k′ ≡ k ++ (x ∷ []))
 unfolding consider
-goes-table i k k′ n n′ x e = judged-table i k k′ (suc n) n′ x _ _ _ e
+goes-table i k k′ n n′ x e = judged-table i k k′ (oneTried n) n′ x _ _ _ e
 
 module _ {i : Input} {t₀ t t′ : Cols} {k₀ k : Table} {starts : List ℕ} {s kept kept′ : ℕ} (w : Standing i t₀ t k₀ k starts s kept) (x : Candidate (List ℕ))
     (size : x .node .size ≡ s) where
@@ -263,15 +265,15 @@ module _ {i : Input} (ok : Passes i) {t₀ t : Cols} {k₀ k : Table} {starts : 
   pub posed : Posed i k (record { code = code; left = a; right = b; size = s }) formula
   posed = record { node-is = refl; makes = makes; matrix-is = made-written i k makes ∙ made-base i k₀ k (w .same) makes-base }
 
-  pub tries : (n : ℕ) → walkLeft i k₀ k starts s at n
+  pub tries : (n : Tally) → walkLeft i k₀ k starts s at n
       ≡ sizesLeft i (i .bound + 1 - s) s (map (make i k₀ s) (rest (layerAt i s starts) next)) (consider (offer i) (i .room) (going k n) formula)
   tries n =
       ap (λ (cs : List Cand). sizesLeft i (i .bound + 1 - s) s (map (make i k₀ s) cs) (going k n)) (step-left step)
       ∙ left-less i (i .bound + 1 - s) s formula (map (make i k₀ s) (rest (layerAt i s starts) next)) (going k n) (omega arith)
 
-  module _ {t′ : Cols} (n : ℕ) {kept′ n′ : ℕ} (y : Stood i t₀ (consider (offer i) (i .room) (going k n) formula) t′ (Going (record { tried = n′; kept = kept′ }))) where
-    pub turn-stands : Standing i t₀ t′ k₀ (y .table) starts s kept′
-    turn-stands = standing-after w formula refl (y .table) (goes-table i k (y .table) n n′ formula (y .is)) (y .holds) (y .counted)
+  module _ {t′ : Cols} (n : Tally) {after : Counts} (y : Stood i t₀ (consider (offer i) (i .room) (going k n) formula) t′ (Going after)) where
+    pub turn-stands : Standing i t₀ t′ k₀ (y .table) starts s (after .kept)
+    turn-stands = standing-after w formula refl (y .table) (goes-table i k (y .table) n (tallyOf after) formula (y .is)) (y .holds) (y .counted)
 
-    pub turn-goes : walkLeft i k₀ k starts s at n ≡ walkLeft i k₀ (y .table) starts s next n′
+    pub turn-goes : walkLeft i k₀ k starts s at n ≡ walkLeft i k₀ (y .table) starts s next (tallyOf after)
     turn-goes = tries n ∙ ap (sizesLeft i (i .bound + 1 - s) s (map (make i k₀ s) (rest (layerAt i s starts) next))) (y .is)

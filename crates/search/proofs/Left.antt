@@ -4,7 +4,7 @@ use mathlib.Core.Path.{_≡_, refl, sym, ap, _∙_}
 use mathlib.Core.List.{List, [], _∷_, foldl}
 use Prim.Native.Nat.{ℕ, zero, suc, _+_, _≤_}
 use native.Mathlib.Omega.{arith}
-use Rattle.walk.specs.Walk.{Candidate, Ending, State, going, ended, layer, consider, through, after}
+use Rattle.walk.specs.Walk.{Candidate, Ending, Tally, tally, State, going, ended, layer, consider, through, after}
 use Rattle.walk.specs.Input.{Input, offer}
 use Rattle.walk.specs.Promises.{Table}
 use Rattle.walk.proofs.Pass.{stays}
@@ -13,12 +13,12 @@ use Rattle.search.specs.Turns.{sizes, sizesLeft}
 
 module _ (i : Input) where
   -- nothing changes after the end
-  sizes-ended : (d s : ℕ) (e : Ending) (k : Table) (n : ℕ) → sizes i d s (ended e k n) ≡ ended e k n
+  sizes-ended : (d s : ℕ) (e : Ending) (k : Table) (n : Tally) → sizes i d s (ended e k n) ≡ ended e k n
   unfolding sizes
   sizes-ended zero s e k n = refl
   sizes-ended (suc d) s e k n = ap (sizes i d (suc s)) (through-ended (offer i) (i .room) s e k n) ∙ sizes-ended d (suc s) e k n
 
-  pub left-ended : (d s : ℕ) (cs : List (Candidate (List ℕ))) (e : Ending) (k : Table) (n : ℕ) → sizesLeft i d s cs (ended e k n) ≡ ended e k n
+  pub left-ended : (d s : ℕ) (cs : List (Candidate (List ℕ))) (e : Ending) (k : Table) (n : Tally) → sizesLeft i d s cs (ended e k n) ≡ ended e k n
   unfolding sizesLeft
   left-ended zero s cs e k n = refl
   left-ended (suc d) s cs e k n = ap (sizes i d (suc s)) (stays (offer i) (i .room) e k n cs) ∙ sizes-ended d (suc s) e k n
@@ -31,7 +31,7 @@ module _ (i : Input) where
   left-less (suc d) s x cs st h = refl
 
   -- a size is done, and the next begins
-  pub left-next : (d e s : ℕ) (k : Table) (n : ℕ) (cs : List (Candidate (List ℕ))) → d ≡ suc (suc e) → layer (offer i) (suc s) k ≡ cs
+  pub left-next : (d e s : ℕ) (k : Table) (n : Tally) (cs : List (Candidate (List ℕ))) → d ≡ suc (suc e) → layer (offer i) (suc s) k ≡ cs
       → sizesLeft i d s [] (going k n) ≡ sizesLeft i (suc e) (suc s) cs (going k n)
   unfolding sizesLeft sizes through
   left-next d e s k n cs f g = rw (f, ← g)
@@ -49,7 +49,7 @@ module _ (i : Input) where
   sizes-after (suc d) s b e = sizes-after d (suc s) b (omega arith)
 
   -- all sizes are left
-  pub left-all : (d b : ℕ) (cs : List (Candidate (List ℕ))) → d ≡ b → layer (offer i) 1 [] ≡ cs → sizesLeft i d 1 cs (going [] 0) ≡ after (offer i) (i .room) b
+  pub left-all : (d b : ℕ) (cs : List (Candidate (List ℕ))) → d ≡ b → layer (offer i) 1 [] ≡ cs → sizesLeft i d 1 cs (going [] (tally 0 0)) ≡ after (offer i) (i .room) b
   unfolding sizesLeft after through
   left-all zero b cs e f = ap (after (offer i) (i .room)) e
   left-all (suc d) b cs e f = rw (← f) (sizes-after d 1 b (omega arith))

@@ -9,13 +9,14 @@ use lib.ListN.{length}
 use Rattle.rules.specs.Refusals.{Decided}
 use Rattle.rules.proofs.Refusals.{decided-unique}
 use Rattle.rules.specs.Answers.{Said}
-use Rattle.walk.specs.Walk.{Ending, found, full, none, State, ended, kept}
+use Rattle.walk.specs.Walk.{Ending, found, full, none, Tally, tally, State, ended, kept}
 use Rattle.walk.specs.Input.{Input, Passes, search}
 use Rattle.walk.specs.Promises.{Table}
 use Rattle.walk.proofs.Promises as walk
 use Rattle.walk.proofs.Same.{same-where-read as walk-same}
 use Rattle.walk.proofs.Steady.{found-stays}
 use Rattle.walk.proofs.Position.{tried-is-position as walk-tried}
+use Rattle.walk.proofs.Dropped.{tried-adds-up as walk-adds}
 use Rattle.formula.specs.declared.kinds.Node.{Node}
 use Rattle.formula.specs.Kinds.{nodeOf}
 use Rattle.search.specs.declared.counts.Counts.{Counts}
@@ -23,8 +24,8 @@ use Rattle.search.specs.declared.SearchAnswer.{SearchAnswer}
 use Rattle.search.specs.declared.SearchAnswer.the-variants.{Found, None, Full, Refused}
 use Rattle.search.specs.Table.{Cols, tableOver}
 use Rattle.checks.specs.Refusals.{searchRows}
-use Rattle.search.specs.Search.{counts, said, walkSaid, endSaid, foundSaid, noneSaid, fullSaid, Searched}
-use Rattle.search.specs.Promises.{Unique, SameWhereRead, Holding, FoundSmallest, NoneMeansNone, FullNeedsRoom, LargerSame, TriedIsPosition}
+use Rattle.search.specs.Search.{tallyOf, counts, said, walkSaid, endSaid, foundSaid, noneSaid, fullSaid, Searched}
+use Rattle.search.specs.Promises.{Unique, SameWhereRead, Holding, FoundSmallest, NoneMeansNone, FullNeedsRoom, LargerSame, TriedIsPosition, TriedAddsUp}
 use Rattle.checks.proofs.Passing.{search-passes, decided-same}
 
 -- ---- any two results for the same input are equal
@@ -37,8 +38,13 @@ values : {a b : Said} → a ≡ b → a .values ≡ b .values
 values e = ap (λ (x : Said). x .values) e
 
 -- the counts are among them
-same-counts : (a b : Counts) → a .tried ≡ b .tried → a .kept ≡ b .kept → a ≡ b
-same-counts a b e f = ap₂ (λ (x y : ℕ). record { tried = x; kept = y }) e f
+same-counts : (a b : Counts) → a .tried ≡ b .tried → a .kept ≡ b .kept → a .dropped ≡ b .dropped → a ≡ b
+same-counts a b e f g =
+    ap₂ (λ (x y : ℕ). record { tried = x; kept = y; dropped = a .dropped }) e f
+    ∙ ap (λ (z : ℕ). record { tried = b .tried; kept = b .kept; dropped = z }) g
+
+same-tally : (a b : Tally) → a .tried ≡ b .tried → a .dropped ≡ b .dropped → a ≡ b
+same-tally a b e f = ap₂ tally e f
 
 pub said-same : (a b : SearchAnswer) → said a ≡ said b → a ≡ b
 said-same (Found n c) (Found n′ c′) e =
@@ -51,19 +57,19 @@ said-same (Found n c) (Found n′ c′) e =
     ∙ ap (λ (z : ℕ). Found (node (n′ .code) z (n .right .0) (n .size)) c) q
     ∙ ap (λ (z : ℕ). Found (node (n′ .code) (n′ .left .0) z (n .size)) c) r
     ∙ ap (λ (z : ℕ). Found (node (n′ .code) (n′ .left .0) (n′ .right .0) z) c) s
-    ∙ ap (Found n′) (same-counts c c′ (cc v) (cc v))
+    ∙ ap (Found n′) (same-counts c c′ (cc v) (cc v) (cc v))
 said-same (Found n c) (None c′) e = let v = values e in let z : _≡_ {A = ℕ} 0 1 = cc v in absurd (omega arith)
 said-same (Found n c) (Full s′ c′) e = let v = values e in let z : _≡_ {A = ℕ} 0 1 = cc v in absurd (omega arith)
 said-same (Found n c) (Refused k′) e = let v = values e in let z : _≡_ {A = ℕ} 0 1 = cc v in absurd (omega arith)
 said-same (None c) (Found n′ c′) e = let v = values e in let z : _≡_ {A = ℕ} 0 1 = cc v in absurd (omega arith)
-said-same (None c) (None c′) e = let v = values e in ap None (same-counts c c′ (cc v) (cc v))
+said-same (None c) (None c′) e = let v = values e in ap None (same-counts c c′ (cc v) (cc v) (cc v))
 said-same (None c) (Full s′ c′) e = let v = values e in let z : _≡_ {A = ℕ} 0 1 = cc v in absurd (omega arith)
 said-same (None c) (Refused k′) e = let v = values e in let z : _≡_ {A = ℕ} 0 1 = cc v in absurd (omega arith)
 said-same (Full s c) (Found n′ c′) e = let v = values e in let z : _≡_ {A = ℕ} 0 1 = cc v in absurd (omega arith)
 said-same (Full s c) (None c′) e = let v = values e in let z : _≡_ {A = ℕ} 0 1 = cc v in absurd (omega arith)
 said-same (Full s c) (Full s′ c′) e =
     let v = values e in
-    ap (λ (z : ℕ). Full z c) (let x : s ≡ s′ = cc v in x) ∙ ap (Full s′) (same-counts c c′ (cc v) (cc v))
+    ap (λ (z : ℕ). Full z c) (let x : s ≡ s′ = cc v in x) ∙ ap (Full s′) (same-counts c c′ (cc v) (cc v) (cc v))
 said-same (Full s c) (Refused k′) e = let v = values e in let z : _≡_ {A = ℕ} 0 1 = cc v in absurd (omega arith)
 said-same (Refused k) (Found n′ c′) e = let v = values e in let z : _≡_ {A = ℕ} 0 1 = cc v in absurd (omega arith)
 said-same (Refused k) (None c′) e = let v = values e in let z : _≡_ {A = ℕ} 0 1 = cc v in absurd (omega arith)
@@ -126,16 +132,16 @@ same-where-read i j s x y t a b u v p q =
 
 -- ---- demand 3: the walk's end is the answer's
 
-pub found-end : (i : Input) (n : Node) (c : Counts) (e : Ending) (k : Table) (m : ℕ) → search i ≡ ended e k m → foundSaid (nodeOf n) c ≡ endSaid e (counts k m)
-    → (search i ≡ ended (found (nodeOf n)) k (c .tried)) × (length k ≡ c .kept)
+pub found-end : (i : Input) (n : Node) (c : Counts) (e : Ending) (k : Table) (m : Tally) → search i ≡ ended e k m → foundSaid (nodeOf n) c ≡ endSaid e (counts k m)
+    → (search i ≡ ended (found (nodeOf n)) k (tallyOf c)) × (length k ≡ c .kept)
 found-end i n c (found root) k m w q =
     let v = values q in
-    let x = c .tried in
+    let x = tallyOf c in
     let a : nodeOf n .code ≡ root .code = cc v in
     let b : nodeOf n .left ≡ root .left = cc v in
     let r : nodeOf n .right ≡ root .right = cc v in
     let d : nodeOf n .size ≡ root .size = cc v in
-    let f : c .tried ≡ m = cc v in
+    let f = same-tally (tallyOf c) m (cc v) (cc v) in
     let g : c .kept ≡ length k = cc v in (
       w ∙ sym (ap (λ (z : ℕ). ended (found (record { code = z; left = n .left .0; right = n .right .0; size = n .size })) k x) a
           ∙ ap (λ (z : ℕ). ended (found (record { code = root .code; left = z; right = n .right .0; size = n .size })) k x) b
@@ -147,28 +153,28 @@ found-end i n c (found root) k m w q =
 found-end i n c (full s) k m w q = let v = values q in let z : _≡_ {A = ℕ} 0 1 = cc v in absurd (omega arith)
 found-end i n c none k m w q = let v = values q in let z : _≡_ {A = ℕ} 0 1 = cc v in absurd (omega arith)
 
-pub none-end : (i : Input) (c : Counts) (e : Ending) (k : Table) (m : ℕ) → search i ≡ ended e k m → noneSaid c ≡ endSaid e (counts k m)
-    → (search i ≡ ended none k (c .tried)) × (length k ≡ c .kept)
+pub none-end : (i : Input) (c : Counts) (e : Ending) (k : Table) (m : Tally) → search i ≡ ended e k m → noneSaid c ≡ endSaid e (counts k m)
+    → (search i ≡ ended none k (tallyOf c)) × (length k ≡ c .kept)
 none-end i c (found root) k m w q = let v = values q in let z : _≡_ {A = ℕ} 0 1 = cc v in absurd (omega arith)
 none-end i c (full s) k m w q = let v = values q in let z : _≡_ {A = ℕ} 0 1 = cc v in absurd (omega arith)
 none-end i c none k m w q =
     let v = values q in
-    let f : c .tried ≡ m = cc v in
+    let f = same-tally (tallyOf c) m (cc v) (cc v) in
     let g : c .kept ≡ length k = cc v in
     (w ∙ ap (ended none k) (sym f), sym g)
 
-pub full-end : (i : Input) (s : ℕ) (c : Counts) (e : Ending) (k : Table) (m : ℕ) → search i ≡ ended e k m → fullSaid s c ≡ endSaid e (counts k m)
-    → (search i ≡ ended (full s) k (c .tried)) × (length k ≡ c .kept)
+pub full-end : (i : Input) (s : ℕ) (c : Counts) (e : Ending) (k : Table) (m : Tally) → search i ≡ ended e k m → fullSaid s c ≡ endSaid e (counts k m)
+    → (search i ≡ ended (full s) k (tallyOf c)) × (length k ≡ c .kept)
 full-end i s c (found root) k m w q = let v = values q in let z : _≡_ {A = ℕ} 0 1 = cc v in absurd (omega arith)
 full-end i s c (full s′) k m w q =
     let v = values q in
     let d : s ≡ s′ = cc v in
-    let f : c .tried ≡ m = cc v in
+    let f = same-tally (tallyOf c) m (cc v) (cc v) in
     let g : c .kept ≡ length k = cc v in
     (w ∙ ap (λ (z : ℕ). ended (full z) k m) (sym d) ∙ ap (ended (full s) k) (sym f), sym g)
 full-end i s c none k m w q = let v = values q in let z : _≡_ {A = ℕ} 0 1 = cc v in absurd (omega arith)
 
-holding : (i : Input) (t u : Cols) (n : ℕ) (e : Ending) (k : Table) (m : ℕ) → Passes i → search i ≡ ended e k m → length k ≡ n → u ≡ tableOver (kept (search i)) t
+holding : (i : Input) (t u : Cols) (n : ℕ) (e : Ending) (k : Table) (m : Tally) → Passes i → search i ≡ ended e k m → length k ≡ n → u ≡ tableOver (kept (search i)) t
     → Holding i t u n k
 holding i t u n e k m ok w l h = record {
   as-many = l;
@@ -181,34 +187,34 @@ found-smallest i t u root c w =
     let (e, k, m, q) = walk.walk-ends i in
     let ok = search-passes i t (w .decided) in
     let (p, l) = found-end i root c e k m q (w .outcome .0 ∙ ap walkSaid q) in
-    (k, holding i t u (c .kept) (found (nodeOf root)) k (c .tried) ok p l (w .outcome .1), walk.found-smallest i ok (nodeOf root) k (c .tried) p)
+    (k, holding i t u (c .kept) (found (nodeOf root)) k (tallyOf c) ok p l (w .outcome .1), walk.found-smallest i ok (nodeOf root) k (tallyOf c) p)
 
 pub none-means-none : NoneMeansNone
 none-means-none i t u c w =
     let (e, k, m, q) = walk.walk-ends i in
     let ok = search-passes i t (w .decided) in
     let (p, l) = none-end i c e k m q (w .outcome .0 ∙ ap walkSaid q) in
-    (k, holding i t u (c .kept) none k (c .tried) ok p l (w .outcome .1), walk.none-means-none i ok k (c .tried) p)
+    (k, holding i t u (c .kept) none k (tallyOf c) ok p l (w .outcome .1), walk.none-means-none i ok k (tallyOf c) p)
 
 pub full-needs-room : FullNeedsRoom
 full-needs-room i t u s c w =
     let (e, k, m, q) = walk.walk-ends i in
     let ok = search-passes i t (w .decided) in
     let (p, l) = full-end i s c e k m q (w .outcome .0 ∙ ap walkSaid q) in
-    (k, holding i t u (c .kept) (full s) k (c .tried) ok p l (w .outcome .1), walk.full-needs-room i ok s k (c .tried) p)
+    (k, holding i t u (c .kept) (full s) k (tallyOf c) ok p l (w .outcome .1), walk.full-needs-room i ok s k (tallyOf c) p)
 
 pub larger-same : LargerSame
 larger-same i j wide t u root c w t′ a v z e =
     let (d, k, m, q) = walk.walk-ends i in
     let (p, l) = found-end i root c d k m q (w .outcome .0 ∙ ap walkSaid q) in
-    let later = found-stays i j wide (nodeOf root) k (c .tried) p in
+    let later = found-stays i j wide (nodeOf root) k (tallyOf c) p in
     let (r, h) = answered {i = j} {t = t′} a v e z in
     let passes = search-passes j t′ (subst (Decided (searchRows j t′)) e (z .decided)) in (
-      said-same a (Found root c) (r ∙ ap walkSaid later ∙ ap (foundSaid (nodeOf root)) (same-counts (counts k (c .tried)) c refl l)),
+      said-same a (Found root c) (r ∙ ap walkSaid later ∙ ap (foundSaid (nodeOf root)) (same-counts (counts k (tallyOf c)) c refl l refl)),
       (
         k,
-        holding i t u (c .kept) (found (nodeOf root)) k (c .tried) (search-passes i t (w .decided)) p l (w .outcome .1),
-        holding j t′ v (c .kept) (found (nodeOf root)) k (c .tried) passes later l h,
+        holding i t u (c .kept) (found (nodeOf root)) k (tallyOf c) (search-passes i t (w .decided)) p l (w .outcome .1),
+        holding j t′ v (c .kept) (found (nodeOf root)) k (tallyOf c) passes later l h,
       ),
     )
 
@@ -219,13 +225,28 @@ tried-is-position i t u (Found root c) w =
     let (e, k, m, q) = walk.walk-ends i in
     let (p, l) = found-end i root c e k m q (w .outcome .0 ∙ ap walkSaid q) in
     let ok = search-passes i t (w .decided) in
-    (k, holding i t u (c .kept) (found (nodeOf root)) k (c .tried) ok p l (w .outcome .1), walk-tried i (found (nodeOf root)) k (c .tried) p)
+    (k, holding i t u (c .kept) (found (nodeOf root)) k (tallyOf c) ok p l (w .outcome .1), walk-tried i (found (nodeOf root)) k (tallyOf c) p)
 tried-is-position i t u (None c) w =
     let (e, k, m, q) = walk.walk-ends i in
     let (p, l) = none-end i c e k m q (w .outcome .0 ∙ ap walkSaid q) in
-    (k, holding i t u (c .kept) none k (c .tried) (search-passes i t (w .decided)) p l (w .outcome .1), walk-tried i none k (c .tried) p)
+    (k, holding i t u (c .kept) none k (tallyOf c) (search-passes i t (w .decided)) p l (w .outcome .1), walk-tried i none k (tallyOf c) p)
 tried-is-position i t u (Full s c) w =
     let (e, k, m, q) = walk.walk-ends i in
     let (p, l) = full-end i s c e k m q (w .outcome .0 ∙ ap walkSaid q) in
-    (k, holding i t u (c .kept) (full s) k (c .tried) (search-passes i t (w .decided)) p l (w .outcome .1), walk-tried i (full s) k (c .tried) p)
+    (k, holding i t u (c .kept) (full s) k (tallyOf c) (search-passes i t (w .decided)) p l (w .outcome .1), walk-tried i (full s) k (tallyOf c) p)
 tried-is-position i t u (Refused n) w = tt
+
+pub tried-adds-up : TriedAddsUp
+tried-adds-up i t u (Found root c) w =
+    let (e, k, m, q) = walk.walk-ends i in
+    let (p, l) = found-end i root c e k m q (w .outcome .0 ∙ ap walkSaid q) in
+    omega (arith, walk-adds i (found (nodeOf root)) k (tallyOf c) p)
+tried-adds-up i t u (None c) w =
+    let (e, k, m, q) = walk.walk-ends i in
+    let (p, l) = none-end i c e k m q (w .outcome .0 ∙ ap walkSaid q) in
+    omega (arith, walk-adds i none k (tallyOf c) p)
+tried-adds-up i t u (Full s c) w =
+    let (e, k, m, q) = walk.walk-ends i in
+    let (p, l) = full-end i s c e k m q (w .outcome .0 ∙ ap walkSaid q) in
+    omega (arith, walk-adds i (full s) k (tallyOf c) p)
+tried-adds-up i t u (Refused n) w = tt

@@ -42,6 +42,7 @@ use Rattle.search.specs.declared.turns.Stand.the-variants.{Going, Found,
 use Rattle.search.proofs.turns.Stand.{the-type as stand-type}
 use Rattle.search.specs.Costs.{operators, perSize, inAll}
 use Rattle.search.specs.Table.{Cols}
+use Rattle.search.specs.Search.{tallyOf}
 use Rattle.search.specs.Turns.{input, Room, stateOf, make, sizesLeft, layerAt, walkLeft, Standing, JudgeDoes, GoAsks, GoDoes}
 use Rattle.search.proofs.Making.{offered}
 use Rattle.search.proofs.Left.{left-next, left-none, left-ended}
@@ -63,7 +64,7 @@ pub record Sofar (i : Input) (t₀ t′ : Cols) (st : State (List ℕ)) (starts 
   pub base : Table
   pub table : Table
   pub stands : Standing i t₀ t′ base table starts s (n .kept)
-  pub is : st ≡ walkLeft i base table starts s at (n .tried)
+  pub is : st ≡ walkLeft i base table starts s at (tallyOf n)
 
 -- where a size begins, whatever the table
 pub record Began (starts : List ℕ) (s : ℕ) : Type 0 where
@@ -86,13 +87,14 @@ pub record Loop (g : Given) (marks lengths words unary binary : List ℕ) (from 
   pub low : 1 ≤ s
   pub high : s ≤ g .bound
   pub kept-in : n .kept ≤ g .room
+  pub few : n .dropped ≤ n .tried
   pub counts : n .tried + todo g unary binary starts s at ≤ from .counts .tried + inAll
   pub long : SameLengths t t′
   pub begun : Began starts s
   pub runs : (t₀ : Cols) (k₀ k : Table) → Passes (input g marks lengths words unary binary) → Room g t₀
       → Standing (input g marks lengths words unary binary) t₀ t k₀ k (startsOf (t .sizes) (from .counts .kept)) (from .size) (from .counts .kept)
       → Sofar (input g marks lengths words unary binary) t₀ t′
-      (walkLeft (input g marks lengths words unary binary) k₀ k (startsOf (t .sizes) (from .counts .kept)) (from .size) (from .at) (from .counts .tried)) starts s at n
+      (walkLeft (input g marks lengths words unary binary) k₀ k (startsOf (t .sizes) (from .counts .kept)) (from .size) (from .at) (tallyOf (from .counts))) starts s at n
 
 -- a size has few candidates
 few-left : {g : Given} {unary binary : List ℕ} {from : Point} → GoAsks g unary binary from → (starts : List ℕ) (s : ℕ) (at : Cursor) → Began starts s → s ≤ g .bound
@@ -111,6 +113,7 @@ loop-start {g} {marks} {lengths} {words} {unary} {binary} {from} {t} a e =
       low = a .size-in .0;
       high = a .size-in .1;
       kept-in = a .kept-in;
+      few = a .few;
       counts = omega (arith, few-left a starts (from .size) (from .at) b (a .size-in .1), a .bound-in, a .size-in);
       long = record { codes = refl; lefts = refl; rights = refl; sizes = refl; matrices = refl };
       begun = b;
@@ -128,8 +131,8 @@ stays-ended : (i : Input) (d s : ℕ) (cs : List (Candidate (List ℕ))) (stand 
     → sizesLeft i d s cs (stateOf stand k) ≡ stateOf stand k
 stays-ended i d s cs (Going n) (inl e) k = absurd (omega (arith, e))
 stays-ended i d s cs (Going n) (inr e) k = absurd (omega (arith, e))
-stays-ended i d s cs (Found root n) e k = left-ended i d s cs (found (nodeOf root)) k (n .tried)
-stays-ended i d s cs (Full size n) e k = left-ended i d s cs (full size) k (n .tried)
+stays-ended i d s cs (Found root n) e k = left-ended i d s cs (found (nodeOf root)) k (tallyOf n)
+stays-ended i d s cs (Full size n) e k = left-ended i d s cs (full size) k (tallyOf n)
 
 module _ {g : Given} {marks lengths words unary binary : List ℕ} {from : Point} {t t′ : Cols} {starts : List ℕ} {s : ℕ} {at : Cursor} {n : Counts}
     (a : GoAsks g unary binary from) (v : Loop g marks lengths words unary binary from t t′ starts s at n) where
@@ -139,8 +142,8 @@ module _ {g : Given} {marks lengths words unary binary : List ℕ} {from : Point
   -- ---- the end of a size
 
   module _ (step : Steps (layerAt i s starts) at End) where
-    none-left : (k₀ k : Table) → walkLeft i k₀ k starts s at (n .tried) ≡ sizesLeft i (g .bound + 1 - s) s [] (going k (n .tried))
-    none-left k₀ k = ap (λ (cs : List Cand). sizesLeft i (g .bound + 1 - s) s (map (make i k₀ s) cs) (going k (n .tried))) (end-left step)
+    none-left : (k₀ k : Table) → walkLeft i k₀ k starts s at (tallyOf n) ≡ sizesLeft i (g .bound + 1 - s) s [] (going k (tallyOf n))
+    none-left k₀ k = ap (λ (cs : List Cand). sizesLeft i (g .bound + 1 - s) s (map (make i k₀ s) cs) (going k (tallyOf n))) (end-left step)
 
     -- of the last one
     pub stops-none : g .bound ≤ s → GoDoes g marks lengths words unary binary from t t′ (Going n)
@@ -149,7 +152,7 @@ module _ {g : Given} {marks lengths words unary binary : List ℕ} {from : Point
           let z = v .runs t₀ k₀ k ok room w in
           record {
             table = z .table;
-            is = z .is ∙ none-left (z .base) (z .table) ∙ left-none i (g .bound + 1 - s) s (going (z .table) (n .tried)) (omega (arith, v .high));
+            is = z .is ∙ none-left (z .base) (z .table) ∙ left-none i (g .bound + 1 - s) s (going (z .table) (tallyOf n)) (omega (arith, v .high));
             counted = z .stands .counted;
             holds = z .stands .holds;
           };
@@ -186,6 +189,7 @@ module _ {g : Given} {marks lengths words unary binary : List ℕ} {from : Point
         low = omega arith;
         high = omega arith;
         kept-in = v .kept-in;
+        few = v .few;
         counts = omega (arith, v .counts, few-left a next-starts (s + 1) (first next-starts (s + 1)) next-began (omega arith), ap length (end-left step));
         long = v .long;
         begun = next-began;
@@ -198,9 +202,9 @@ module _ {g : Given} {marks lengths words unary binary : List ℕ} {from : Point
               table = z .table;
               stands = begins (z .stands);
               is = z .is ∙ none-left (z .base) (z .table)
-                  ∙ left-next i (g .bound + 1 - s) (g .bound - s - 1) s (z .table) (n .tried) cs (omega arith) (next-layer ok (z .stands))
-                  ∙ ap (λ (x : ℕ). sizesLeft i x (suc s) cs (going (z .table) (n .tried))) e
-                  ∙ ap (λ (x : ℕ). sizesLeft i (g .bound + 1 - (s + 1)) x cs (going (z .table) (n .tried))) (sym (add-one s));
+                  ∙ left-next i (g .bound + 1 - s) (g .bound - s - 1) s (z .table) (tallyOf n) cs (omega arith) (next-layer ok (z .stands))
+                  ∙ ap (λ (x : ℕ). sizesLeft i x (suc s) cs (going (z .table) (tallyOf n))) e
+                  ∙ ap (λ (x : ℕ). sizesLeft i (g .bound + 1 - (s + 1)) x cs (going (z .table) (tallyOf n))) (sym (add-one s));
             };
       }
 
@@ -232,6 +236,7 @@ module _ {g : Given} {marks lengths words unary binary : List ℕ} {from : Point
         low = v .low;
         high = v .high;
         kept-in = j .kept-in;
+        few = j .few;
         counts = omega (arith, v .counts, shorter, j .tries);
         long = same;
         begun = v .begun;
@@ -243,8 +248,8 @@ module _ {g : Given} {marks lengths words unary binary : List ℕ} {from : Point
             record {
               base = z .base;
               table = y .table;
-              stands = turn-stands ok (z .stands) (v .low) (v .high) (v .begun .rises) step (n .tried) y;
-              is = z .is ∙ turn-goes ok (z .stands) (v .low) (v .high) (v .begun .rises) step (n .tried) y;
+              stands = turn-stands ok (z .stands) (v .low) (v .high) (v .begun .rises) step (tallyOf n) y;
+              is = z .is ∙ turn-goes ok (z .stands) (v .low) (v .high) (v .begun .rises) step (tallyOf n) y;
             };
       }
 
@@ -260,7 +265,7 @@ module _ {g : Given} {marks lengths words unary binary : List ℕ} {from : Point
             let cs = map (make i (z .base) s) (rest (layerAt i s starts) next) in
             record {
               table = y .table;
-              is = z .is ∙ tries ok (z .stands) (v .low) (v .high) (v .begun .rises) step (n .tried)
+              is = z .is ∙ tries ok (z .stands) (v .low) (v .high) (v .begun .rises) step (tallyOf n)
                   ∙ ap (sizesLeft i (g .bound + 1 - s) s cs) (y .is) ∙ stays-ended i (g .bound + 1 - s) s cs stand e (y .table);
               counted = y .counted;
               holds = y .holds;

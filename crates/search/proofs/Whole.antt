@@ -5,7 +5,7 @@ use mathlib.Core.List.{List, [], flatMap}
 use Prim.Native.Nat.{ℕ, zero, suc, _+_, _-_, _≤_}
 use native.Mathlib.Omega.{arith}
 use Rattle.rules.specs.Refusals.{Decided}
-use Rattle.walk.specs.Walk.{none, State, kept, finish, after, walk}
+use Rattle.walk.specs.Walk.{none, tally, State, kept, finish, after, walk}
 use Rattle.walk.specs.Input.{Input, Passes, offer, search}
 use Rattle.order.specs.Ahead.{leafCursor}
 use Rattle.order.specs.Starts.{startsOf}
@@ -46,6 +46,7 @@ module _ (i : Input) (t : Cols) (d : Decided (searchRows i t) 0) where
     size-in = (omega arith, ok .bound-in .0);
     kept-in = omega arith;
     counts = omega arith;
+    few = omega arith;
   }
 
   room : Room (givenOf i) t
@@ -68,7 +69,7 @@ module _ (i : Input) (t : Cols) (d : Decided (searchRows i t) 0) where
     begins = λ u h l. column-begins nothing [] (t .sizes) 0 (λ p q a b. absurd (omega arith)) refl u (omega arith);
   }
 
-  whole : walkLeft i [] [] (startsOf (t .sizes) 0) 1 (leafCursor 0) 0 ≡ after (offer i) (i .room) (i .bound)
+  whole : walkLeft i [] [] (startsOf (t .sizes) 0) 1 (leafCursor 0) (tally 0 0) ≡ after (offer i) (i .room) (i .bound)
   whole =
       let starts = startsOf (t .sizes) 0 in
       left-all i (i .bound + 1 - 1) (i .bound) _ (omega arith)

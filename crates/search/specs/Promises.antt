@@ -74,3 +74,13 @@ Counted i t u (Refused k) = Unit {0}
 -- "the number of candidates tried, up to and including the deciding one, and the number kept"
 abbrev pub TriedIsPosition : Type 0
 TriedIsPosition = (i : Input) (t u : Cols) (a : SearchAnswer) → Searched i t a u → Counted i t u a
+
+-- request E6's "tried equals kept plus dropped, plus one where FOUND or FULL ended the walk"
+abbrev pub SumOf : SearchAnswer → Type 0
+SumOf (Found root n) = n .tried ≡ n .kept + n .dropped + 1
+SumOf (None n) = n .tried ≡ n .kept + n .dropped
+SumOf (Full size n) = n .tried ≡ n .kept + n .dropped + 1
+SumOf (Refused k) = Unit {0}
+
+abbrev pub TriedAddsUp : Type 0
+TriedAddsUp = (i : Input) (t u : Cols) (a : SearchAnswer) → Searched i t a u → SumOf a

@@ -6,7 +6,7 @@ use Prim.Native.Nat.{ℕ, _<_}
 use lib.ListN.{length}
 use Rattle.rules.specs.Refusals.{Decided}
 use Rattle.rules.specs.Answers.{Said}
-use Rattle.walk.specs.Walk.{Candidate, Ending, found, full, none, State, going, ended, kept}
+use Rattle.walk.specs.Walk.{Candidate, Ending, found, full, none, Tally, tally, State, going, ended, kept}
 use Rattle.walk.specs.Input.{Input, search}
 use Rattle.formula.specs.Kinds.{nodeOf}
 use Rattle.formula.specs.Nodes.{Node}
@@ -16,18 +16,18 @@ use Rattle.search.specs.declared.SearchAnswer.the-variants.{Found, None,
 use Rattle.search.specs.Table.{Cols, tableOver}
 use Rattle.checks.specs.Refusals.{searchRows}
 
--- ---- the number and values of each case: 0 and the case, the size of FOUND and FULL, the counts (tried, kept), and FOUND's root node; or
+-- ---- the number and values of each case: 0 and the case, the size of FOUND and FULL, the counts (tried, kept), FOUND's root node, and the number dropped; or
 -- document 01's number of a refusal and nothing else. The cases' numbers are our own, those of the C boundary: 1 FOUND, 2 NONE,
 -- 3 FULL
 
 abbrev pub foundSaid : Node → Counts → Said
-foundSaid root n = record { number = 0; values = 1 ∷ root .size ∷ n .tried ∷ n .kept ∷ root .code ∷ root .left ∷ root .right ∷ root .size ∷ [] }
+foundSaid root n = record { number = 0; values = 1 ∷ root .size ∷ n .tried ∷ n .kept ∷ root .code ∷ root .left ∷ root .right ∷ root .size ∷ n .dropped ∷ [] }
 
 abbrev pub noneSaid : Counts → Said
-noneSaid n = record { number = 0; values = 2 ∷ n .tried ∷ n .kept ∷ [] }
+noneSaid n = record { number = 0; values = 2 ∷ n .tried ∷ n .kept ∷ n .dropped ∷ [] }
 
 abbrev pub fullSaid : ℕ → Counts → Said
-fullSaid size n = record { number = 0; values = 3 ∷ size ∷ n .tried ∷ n .kept ∷ [] }
+fullSaid size n = record { number = 0; values = 3 ∷ size ∷ n .tried ∷ n .kept ∷ n .dropped ∷ [] }
 
 abbrev pub said : SearchAnswer → Said
 said (Found root n) = foundSaid (nodeOf root) n
@@ -35,9 +35,13 @@ said (None n) = noneSaid n
 said (Full size n) = fullSaid size n
 said (Refused k) = record { number = k; values = [] }
 
--- and of the walk's end, with what is kept and the number tried
-abbrev pub counts : List (Candidate (List ℕ)) → ℕ → Counts
-counts k n = record { tried = n; kept = length k }
+-- the counts as the walk's
+abbrev pub tallyOf : Counts → Tally
+tallyOf n = tally (n .tried) (n .dropped)
+
+-- and of the walk's end, with what is kept and its tally
+abbrev pub counts : List (Candidate (List ℕ)) → Tally → Counts
+counts k n = record { tried = n .tried; kept = length k; dropped = n .dropped }
 
 abbrev pub endSaid : Ending → Counts → Said
 endSaid (found root) n = foundSaid root n

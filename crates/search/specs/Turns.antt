@@ -11,7 +11,7 @@ use Rattle.sequence.specs.Operators.{unaryCode, binaryCode, unaryOf, binaryOf}
 use Rattle.formula.specs.declared.kinds.Node.{Node}
 use Rattle.formula.specs.Kinds.{nodeOf}
 use Rattle.formula.specs.Formula.{Leaf, proposition, constant}
-use Rattle.walk.specs.Walk.{Candidate, found, full, State, going, ended, consider, through}
+use Rattle.walk.specs.Walk.{Candidate, found, full, Tally, State, going, ended, consider, through}
 use Rattle.walk.specs.Input.{Input, Passes, offer, inputOf}
 use Rattle.walk.specs.Promises.{Table}
 use Rattle.walk.proofs.Places.{sizeAt, Split}
@@ -32,6 +32,7 @@ use Rattle.search.specs.declared.turns.Stand.{Stand}
 use Rattle.search.specs.declared.turns.Stand.the-variants.{Going, Found, Full}
 use Rattle.search.specs.Costs.{operators, inAll}
 use Rattle.search.specs.Table.{Cols, cols, tableOver}
+use Rattle.search.specs.Search.{tallyOf}
 
 -- the arguments as the walk's input
 abbrev pub input : Given → List ℕ → List ℕ → List ℕ → List ℕ → List ℕ → Input
@@ -55,9 +56,9 @@ countsOf (Full size n) = n
 
 -- a stand of the program as a state of the walk
 abbrev pub stateOf : Stand → Table → State (List ℕ)
-stateOf (Going n) k = going k (n .tried)
-stateOf (Found root n) k = ended (found (nodeOf root)) k (n .tried)
-stateOf (Full size n) k = ended (full size) k (n .tried)
+stateOf (Going n) k = going k (tallyOf n)
+stateOf (Found root n) k = ended (found (nodeOf root)) k (tallyOf n)
+stateOf (Full size n) k = ended (full size) k (tallyOf n)
 
 -- and as an answer: "After the last, NONE."
 abbrev pub answerOf : Stand → SearchAnswer
@@ -103,8 +104,8 @@ module _ (i : Input) where
   abbrev pub layerAt : ℕ → List ℕ → Layer
   layerAt s starts = layerOf s starts (i .recording .propositions) (i .constants) (i .unary) (i .binary)
 
-  -- from a cursor of size s on, over k₀, which was kept when the size began, with k kept and n tried
-  abbrev pub walkLeft : Table → Table → List ℕ → ℕ → Cursor → ℕ → State (List ℕ)
+  -- from a cursor of size s on, over k₀, which was kept when the size began, with k kept and the tally n
+  abbrev pub walkLeft : Table → Table → List ℕ → ℕ → Cursor → Tally → State (List ℕ)
   walkLeft k₀ k starts s at n = sizesLeft (i .bound + 1 - s) s (map (make i k₀ s) (rest (layerAt s starts) at)) (going k n)
 
 -- the slices hold the table k, of sizes up to s; k₀ was kept when size s began, and its sizes begin where `starts` says
@@ -124,7 +125,7 @@ startOf sizes kept s = record { starts = startsOf sizes kept; at = first (starts
 
 -- the point before the first candidate
 abbrev pub firstPoint : Point
-firstPoint = record { size = 1; at = leafCursor 0; counts = record { tried = 0; kept = 0 } }
+firstPoint = record { size = 1; at = leafCursor 0; counts = record { tried = 0; kept = 0; dropped = 0 } }
 
 -- a candidate over the table k: its node, and the matrix that its code and fields make
 pub record Posed (i : Input) (k : Table) (node : Node) (x : Candidate (List ℕ)) : Type 0 where
@@ -136,16 +137,18 @@ pub record JudgeAsks (g : Given) (before : Counts) : Type 0 where
   pub room-in : g .room ≤ mostRoom
   pub kept-in : before .kept ≤ g .room
   pub counts : before .tried + 1 < 2 ^ 64
+  pub few : before .dropped ≤ before .tried
 
 -- it is counted, and comes to what the walk makes of it
 pub record JudgeDoes (g : Given) (marks lengths words masks : List ℕ) (node : Node) (before : Counts) (rows : List ℕ) (t t′ : Cols) (stand : Stand) : Type 0 where
   pub tries : countsOf stand .tried ≡ before .tried + 1
   pub kept-in : countsOf stand .kept ≤ g .room
+  pub few : countsOf stand .dropped ≤ countsOf stand .tried
   pub runs : (unary binary : List ℕ) (t₀ : Cols) (k : Table) (x : Candidate (List ℕ)) → Passes (input g marks lengths words unary binary) → Room g t₀
       → Masks (input g marks lengths words unary binary) masks → g .sessions ≤ length rows
       → Holds (input g marks lengths words unary binary) k t₀ t → before .kept ≡ length k → Posed (input g marks lengths words unary binary) k node x
       → Stood (input g marks lengths words unary binary) t₀
-      (consider (offer (input g marks lengths words unary binary)) (g .room) (going k (before .tried)) x) t′ stand
+      (consider (offer (input g marks lengths words unary binary)) (g .room) (going k (tallyOf before)) x) t′ stand
 
 pub record GoAsks (g : Given) (unary binary : List ℕ) (from : Point) : Type 0 where
   pub bound-in : g .bound ≤ mostSize
@@ -156,9 +159,10 @@ pub record GoAsks (g : Given) (unary binary : List ℕ) (from : Point) : Type 0 
   pub size-in : (1 ≤ from .size) × (from .size ≤ g .bound)
   pub kept-in : from .counts .kept ≤ g .room
   pub counts : from .counts .tried + inAll < 2 ^ 64
+  pub few : from .counts .dropped ≤ from .counts .tried
 
 pub record GoDoes (g : Given) (marks lengths words unary binary : List ℕ) (from : Point) (t t′ : Cols) (stand : Stand) : Type 0 where
   pub runs : (t₀ : Cols) (k₀ k : Table) → Passes (input g marks lengths words unary binary) → Room g t₀
       → Standing (input g marks lengths words unary binary) t₀ t k₀ k (startsOf (t .sizes) (from .counts .kept)) (from .size) (from .counts .kept)
       → Stood (input g marks lengths words unary binary) t₀
-      (walkLeft (input g marks lengths words unary binary) k₀ k (startsOf (t .sizes) (from .counts .kept)) (from .size) (from .at) (from .counts .tried)) t′ stand
+      (walkLeft (input g marks lengths words unary binary) k₀ k (startsOf (t .sizes) (from .counts .kept)) (from .size) (from .at) (tallyOf (from .counts))) t′ stand

@@ -56,7 +56,11 @@ pub(crate) fn first_point() -> Point
             operator: 0,
             second: false,
         },
-        counts: Counts { tried: 0, kept: 0 },
+        counts: Counts {
+            tried: 0,
+            kept: 0,
+            dropped: 0,
+        },
     }
 }
 
@@ -84,6 +88,18 @@ fn judge(
     let r = given.sessions;
     let kept = before.kept;
     let tried = before.tried + 1;
+    let dropped = before.dropped;
+    let next = dropped + 1;
+    let counts = Counts {
+        tried,
+        kept,
+        dropped,
+    };
+    let dropping = Counts {
+        tried,
+        kept,
+        dropped: next,
+    };
     rows::rows_of(
         r,
         given.propositions,
@@ -96,20 +112,15 @@ fn judge(
         rows,
     );
     if table::agrees(r, marks, rows) {
-        return Stand::Found {
-            root: node,
-            counts: Counts { tried, kept },
-        };
+        return Stand::Found { root: node, counts };
     }
     let known = table::known_at(r, matrices, rows, kept);
     let Known::New = known else {
-        return Stand::Going(Counts { tried, kept });
+        return Stand::Going(dropping);
     };
     if given.room <= kept {
-        return Stand::Full {
-            size: node.size,
-            counts: Counts { tried, kept },
-        };
+        let size = node.size;
+        return Stand::Full { size, counts };
     }
     table::keep(
         r,
@@ -125,6 +136,7 @@ fn judge(
     Stand::Going(Counts {
         tried,
         kept: kept + 1,
+        dropped: counts.dropped,
     })
 }
 

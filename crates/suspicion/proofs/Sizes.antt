@@ -50,7 +50,7 @@ pointed-short typed at number h k =
       length-replicate {A = ℕ} at 32,
     )
 
-verdict-short : (v : Verdict) → length (verdictLine v) ≤ 85
+verdict-short : (v : Verdict) → length (verdictLine v) ≤ 114
 verdict-short Accepted = omega arith
 verdict-short (Disagrees j) = omega (arith, disagrees-short (j .0))
 verdict-short (Refused k) = refused-short k

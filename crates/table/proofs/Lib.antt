@@ -1,5 +1,5 @@
 -- Laws of the table, by subject.
-pub mod Comparing
+pub mod Differences
 pub mod Acceptance
 pub mod Kept
 pub mod Duplicates

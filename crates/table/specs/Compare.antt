@@ -1,17 +1,20 @@
 -- A matrix against the marks, and against the kept ones: what `agrees`, `compare` and `known_at` answer, for every input.
 -- Assumes nothing.
 use mathlib.Core.Path.{_≡_}
+use mathlib.Core.Logic.{_⊎_}
 use mathlib.Core.Bool.{Bool, _&&_, Bool·beq}
-use mathlib.Core.List.{List}
+use mathlib.Core.List.{List, [], _∷_, _++_}
 use Prim.Native.Nat.{ℕ, _+_, _*_, _≤_, _<_}
 use lib.ListN.{length, getD}
 use lib.Dec.{eqb, leb}
-use Rattle.rules.specs.Limits.{mostSessions, mostRoom}
+use Rattle.rules.specs.Limits.{mostSessions, mostRoom, Outside}
+use Rattle.rules.specs.Refusals.{Row, Decided}
+use Rattle.rules.specs.Answers.{Said}
 use Rattle.rules.specs.Lists.{count}
 use Rattle.walk.specs.Rows.{acceptsRow}
 use Rattle.walk.specs.Input.{every}
 use Rattle.table.specs.declared.Compared.{Compared}
-use Rattle.table.specs.declared.Compared.the-variants.{Equal, Differs, Outside}
+use Rattle.table.specs.declared.Compared.the-variants.{Equal, Differs, Refused}
 use Rattle.table.specs.declared.Known.{Known}
 use Rattle.table.specs.declared.Known.the-variants.{At, New}
 
@@ -31,18 +34,47 @@ agreeing r marks rows = leb r mostSessions && leb r (length marks) && leb r (len
 abbrev pub Same : ℕ → List ℕ → List ℕ → ℕ → ℕ → Type 0
 Same r matrices rows place n = (j : ℕ) → j < n → getD rows j 0 ≡ getD matrices (place * r + j) 0
 
--- there are r rows, and a matrix of r rows at the place
-pub record CompareAsk (r : ℕ) (matrices rows : List ℕ) (place : ℕ) : Type 0 where
-  pub sessions-in : r ≤ mostSessions
-  pub rows-there : r ≤ length rows
-  pub matrix-there : place * r + r ≤ length matrices
+-- "for an unequal pair, the first session that differs", its number counted from 0
+pub record FirstDiffers (r : ℕ) (matrices rows : List ℕ) (place j : ℕ) : Type 0 where
+  pub there : j < r
+  pub differs : getD rows j 0 ≡ getD matrices (place * r + j) 0 → ⊥
+  pub before : Same r matrices rows place j
 
--- equal "in every row", or the first session that differs; the rest is outside
-abbrev pub CompareAnswer : ℕ → List ℕ → List ℕ → ℕ → Compared → Type 0
-CompareAnswer r matrices rows place Equal = CompareAsk r matrices rows place × Same r matrices rows place r
-CompareAnswer r matrices rows place (Differs j) =
-    CompareAsk r matrices rows place × (j .0 < r) × Same r matrices rows place (j .0) × (getD rows (j .0) 0 ≡ getD matrices (place * r + j .0) 0 → ⊥)
-CompareAnswer r matrices rows place Outside = CompareAsk r matrices rows place → ⊥
+-- the answer in document 01's terms, with the values of the C boundary: 0 with 1 and the place, or with 0 and the session's number; or a refusal's
+-- number alone
+abbrev pub equalSaid : ℕ → Said
+equalSaid place = record { number = 0; values = 1 ∷ place ∷ [] }
+
+abbrev pub differsSaid : ℕ → Said
+differsSaid j = record { number = 0; values = 0 ∷ j ∷ [] }
+
+abbrev pub saidCompared : Compared → Said
+saidCompared (Equal p) = equalSaid (p .0)
+saidCompared (Differs j) = differsSaid (j .0)
+saidCompared (Refused k) = record { number = k; values = [] }
+
+module _ (r place : ℕ) (matrices rows : List ℕ) where
+  -- "1: r .. outside its numbers"
+  abbrev pub outsideSessions : Row
+  outsideSessions = record { number = 1; given = Outside 1 mostSessions r }
+
+  -- "3 (matrices below (place + 1) x r, words below r ..)"
+  abbrev pub noMatrix : Row
+  noMatrix = record { number = 3; given = (length matrices < (place + 1) * r) ⊎ (length rows < r) }
+
+  -- "refusing 1 and 3"; a caller that is lent a slice more has a row of number 3 of its own
+  abbrev pub compareRowsWith : List Row → List Row
+  compareRowsWith own = outsideSessions ∷ (own ++ (noMatrix ∷ []))
+
+  -- "The comparison of matrices answers the equal kept formula's place or, for an unequal pair, the first session that differs."
+  abbrev pub Outcome : Said → Type 0
+  Outcome s = (Same r matrices rows place r × (s ≡ equalSaid place)) ⊎ ((j : ℕ) × FirstDiffers r matrices rows place j × (s ≡ differsSaid j))
+
+  -- the first row that is given decides the number; "A refusal carries only its number"; else the rows decide
+  pub record Compares (s : Said) : Type 0 where
+    pub number : Decided (compareRowsWith []) (s .number)
+    pub refused : (s .number ≡ 0 → ⊥) → s .values ≡ []
+    pub passed : s .number ≡ 0 → Outcome s
 
 -- there are r rows, and so many matrices of r rows
 pub record KnownAsk (r : ℕ) (matrices rows : List ℕ) (kept : ℕ) : Type 0 where

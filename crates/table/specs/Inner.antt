@@ -6,7 +6,8 @@ use mathlib.Core.List.{List}
 use Prim.Native.Nat.{ℕ, _+_, _*_, _≤_, _<_}
 use lib.ListN.{length, getD}
 use Rattle.rules.specs.Limits.{mostSessions}
-use Rattle.table.specs.Compare.{Same}
+use Rattle.table.specs.declared.Compared.{Compared}
+use Rattle.table.specs.declared.Compared.the-variants.{Equal, Differs, Refused}
 
 -- a slice has a word for each of r sessions
 pub record Long (r : ℕ) (slice : List ℕ) : Type 0 where
@@ -15,17 +16,11 @@ pub record Long (r : ℕ) (slice : List ℕ) : Type 0 where
 
 -- ---- comparison
 
--- the first row that differs from x's, or r
-pub record FirstDiffers (r : ℕ) (x rows : List ℕ) (j : ℕ) : Type 0 where
-  pub within : j ≤ r
-  pub before : (t : ℕ) → t < j → getD rows t 0 ≡ getD x t 0
-  pub here : j < r → getD rows j 0 ≡ getD x j 0 → ⊥
-
--- the first place whose matrix is equal, or the number kept
-pub record FirstEqual (r : ℕ) (matrices rows : List ℕ) (kept p : ℕ) : Type 0 where
-  pub within : p ≤ kept
-  pub before : (q : ℕ) → q < p → Same r matrices rows q r → ⊥
-  pub here : p < kept → Same r matrices rows p r
+-- a matrix against x, the kept one at the place: equal in the first r rows, or the first of them that differs; it never refuses
+abbrev pub ComparedAt : ℕ → ℕ → List ℕ → List ℕ → Compared → Type 0
+ComparedAt r place x rows (Equal p) = (p .0 ≡ place) × ((t : ℕ) → t < r → getD rows t 0 ≡ getD x t 0)
+ComparedAt r place x rows (Differs j) = (j .0 < r) × ((t : ℕ) → t < j .0 → getD rows t 0 ≡ getD x t 0) × (getD rows (j .0) 0 ≡ getD x (j .0) 0 → ⊥)
+ComparedAt r place x rows (Refused k) = ⊥
 
 -- ---- keeping
 

@@ -1,5 +1,6 @@
 // The table of a search in lent slices (cm.rs, cache.rs): a matrix's acceptance against the marks, its comparison with the kept ones, and keeping it.
 // Every function tests the numbers that it is handed, once, and says so where they are out of range; the loops behind it are private.
+mod comparing;
 mod store;
 mod tests;
 
@@ -9,14 +10,14 @@ use rules::kinds::Session;
 ghost use mathlib.Core.Path.{_≡_};
 ghost use Rattle.formula.specs.Kinds.{nodeOf};
 ghost use Rattle.table.specs.Slices.{cols};
-ghost use Rattle.table.specs.Compare.{agreeing, CompareAnswer, KnownAnswer};
+ghost use Rattle.table.specs.Compare.{agreeing, saidCompared, Compares, KnownAnswer};
 ghost use Rattle.table.specs.Keep.{KeepAnswer};
 
-// How a matrix compares with the kept one at a place: equal in every row, or the first session that differs; outside where there is no such matrix.
+// How a matrix compares with the kept one at a place: equal in every row, there; or the first session that differs; or a refusal.
 pub enum Compared {
-    Equal,
+    Equal(Place),
     Differs(Session),
-    Outside,
+    Refused(u8),
 }
 
 // The first place whose matrix is equal, or none.
@@ -41,25 +42,24 @@ pub fn agrees(r: usize, marks: &[u8], rows: &[u64]) -> bool
     tests::all_agree(r, marks, rows)
 }
 
-// A matrix against the kept one at a place.
-pub fn compare(r: usize, matrices: &[u64], rows: &[u64], place: Place) -> Compared
-    ensures { λ c. ⌜ CompareAnswer r (now (matrices .entry)) (now (rows .entry)) (place .0) c ⌝ }
+// A matrix, the first r of the words, against the kept one at a place of the lent matrices.
+pub fn compare(r: usize, place: Place, matrices: &[u64], words: &[u64]) -> Compared
+    ensures { λ c. ⌜ Compares r (place .0) (now (matrices .entry)) (now (words .entry)) (saidCompared c) ⌝ }
 {
-    if rules::SESSIONS < r {
-        return Compared::Outside;
+    if r < 1 {
+        return Compared::Refused(1);
     }
-    if rows.len() < r {
-        return Compared::Outside;
+    if rules::SESSIONS < r {
+        return Compared::Refused(1);
+    }
+    if words.len() < r {
+        return Compared::Refused(3);
     }
     let from = place.0 as usize * r;
     if matrices.len() < from + r {
-        return Compared::Outside;
+        return Compared::Refused(3);
     }
-    let first = tests::first_difference(r, &matrices[from..], rows);
-    if first < r {
-        return Compared::Differs(Session(first as u8));
-    }
-    Compared::Equal
+    comparing::compare_at(r, place, &matrices[from..], words)
 }
 
 // A matrix against the kept ones, from the first on (what the hash of cm.rs stands for). New too where there are not so many.
@@ -78,11 +78,7 @@ pub fn known_at(r: usize, matrices: &[u64], rows: &[u64], kept: usize) -> Known
     if matrices.len() < kept * r {
         return Known::New;
     }
-    let first = tests::first_equal(r, matrices, rows, kept);
-    if first < kept {
-        return Known::At(Place(first as u16));
-    }
-    Known::New
+    comparing::first_equal(r, matrices, rows, kept)
 }
 
 // Writes a formula at a place: its node and its matrix. False where a slice has no such place.

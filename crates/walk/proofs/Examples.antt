@@ -11,7 +11,7 @@ use Rattle.words.specs.Word.{width, bit, Wf}
 use Rattle.words.proofs.At.{lt-wf}
 use Rattle.sequence.specs.Operators.{Unary, Binary, decode}
 use Rattle.formula.specs.Nodes.{Node}
-use Rattle.walk.specs.Walk.{Candidate, State, found, full, none, going, ended, ofSize, leftSizes, finish, orders, unaryCandidates, pairs, layer, known, judge, consider, through, after, walk}
+use Rattle.walk.specs.Walk.{Candidate, State, found, full, none, tally, going, ended, ofSize, leftSizes, finish, orders, unaryCandidates, pairs, layer, known, judge, consider, through, after, walk}
 use Rattle.rules.specs.Lists.{each, count}
 use Rattle.rules.specs.Limits.{mostSize, mostRoom}
 use Rattle.walk.specs.Rows.{word, someOf, allOf, unaryRow, binaryRow, constantRow}
@@ -28,12 +28,12 @@ node c l r s = record { code = c; left = l; right = r; size = s }
 abbrev at : ℕ → ℕ → ℕ → ℕ → List ℕ → Candidate (List ℕ)
 at c l r s x = record { node = node c l r s; matrix = x }
 
--- the ending's numbers (1 found and the root node; 2 none; 3 full and its size), then how many were tried and kept
+-- the ending's numbers (1 found and the root node; 2 none; 3 full and its size), then how many were tried, kept and dropped
 abbrev brief : State (List ℕ) → List ℕ
 brief (going k n) = []
-brief (ended (found r) k n) = 1 ∷ r .code ∷ r .left ∷ r .right ∷ r .size ∷ n ∷ length k ∷ []
-brief (ended none k n) = 2 ∷ n ∷ length k ∷ []
-brief (ended (full s) k n) = 3 ∷ s ∷ n ∷ length k ∷ []
+brief (ended (found r) k n) = 1 ∷ r .code ∷ r .left ∷ r .right ∷ r .size ∷ n .tried ∷ length k ∷ n .dropped ∷ []
+brief (ended none k n) = 2 ∷ n .tried ∷ length k ∷ n .dropped ∷ []
+brief (ended (full s) k n) = 3 ∷ s ∷ n .tried ∷ length k ∷ n .dropped ∷ []
 
 -- ---- S2: "two sessions of length 1, p = 1 in both, marks 1 and 0, only `!`"
 
@@ -41,17 +41,17 @@ abbrev s2 : ℕ → ℕ → Input
 s2 bound room = inputOf 2 1 bound room 0 (1 ∷ 0 ∷ []) (1 ∷ 1 ∷ []) (1 ∷ 1 ∷ []) (0 ∷ []) []
 
 -- "B = 2 gives none, tried 2, kept 2"
-s2-none : search (s2 2 4096) ≡ ended none (at 16 0 0 1 (1 ∷ 1 ∷ []) ∷ at 0 0 0 2 (0 ∷ 0 ∷ []) ∷ []) 2
+s2-none : search (s2 2 4096) ≡ ended none (at 16 0 0 1 (1 ∷ 1 ∷ []) ∷ at 0 0 0 2 (0 ∷ 0 ∷ []) ∷ []) (tally 2 0)
 unfolding each count ofSize leftSizes finish orders unaryCandidates pairs layer known judge consider through after walk word someOf allOf unaryRow binaryRow constantRow sameRows every separating bit decode
 s2-none = refl
 
 -- "with C = 1 full at size 2, tried 2, kept 1"
-s2-full : search (s2 2 1) ≡ ended (full 2) (at 16 0 0 1 (1 ∷ 1 ∷ []) ∷ []) 2
+s2-full : search (s2 2 1) ≡ ended (full 2) (at 16 0 0 1 (1 ∷ 1 ∷ []) ∷ []) (tally 2 0)
 unfolding each count ofSize leftSizes finish orders unaryCandidates pairs layer known judge consider through after walk word someOf allOf unaryRow binaryRow constantRow sameRows every separating bit decode
 s2-full = refl
 
 -- "B = 3 and C = 2 gives none, tried 3 (a duplicate needs no place)"
-s2-duplicate : search (s2 3 2) ≡ ended none (at 16 0 0 1 (1 ∷ 1 ∷ []) ∷ at 0 0 0 2 (0 ∷ 0 ∷ []) ∷ []) 3
+s2-duplicate : search (s2 3 2) ≡ ended none (at 16 0 0 1 (1 ∷ 1 ∷ []) ∷ at 0 0 0 2 (0 ∷ 0 ∷ []) ∷ []) (tally 3 1)
 unfolding each count ofSize leftSizes finish orders unaryCandidates pairs layer known judge consider through after walk word someOf allOf unaryRow binaryRow constantRow sameRows every separating bit decode
 s2-duplicate = refl
 
@@ -85,18 +85,18 @@ s2-passes bound room hb hr = record {
 
 -- no formula of size 1 or 2 tells the two sessions apart
 s2-nothing : NoneBelow (s2 2 4096) 3
-s2-nothing = none-means-none (s2 2 4096) (s2-passes 2 4096 (omega arith, omega arith) (omega arith, omega arith)) _ 2 s2-none
+s2-nothing = none-means-none (s2 2 4096) (s2-passes 2 4096 (omega arith, omega arith) (omega arith, omega arith)) _ _ s2-none
 
 -- there are two formulas of size 1 or 2 that are not alike, so one place is too few
 s2-two : Full (s2 2 1) 2 (at 16 0 0 1 (1 ∷ 1 ∷ []) ∷ [])
-s2-two = full-needs-room (s2 2 1) (s2-passes 2 1 (omega arith, omega arith) (omega arith, omega arith)) 2 _ 2 s2-full
+s2-two = full-needs-room (s2 2 1) (s2-passes 2 1 (omega arith, omega arith) (omega arith, omega arith)) 2 _ _ s2-full
 
 -- cut after its first candidate the walk stands at size 2, before the first of its candidates; one candidate more, and none is left
-s2-cut : goOn (s2 2 4096) 1 (begun (s2 2 4096)) ≡ more 2 0 (at 16 0 0 1 (1 ∷ 1 ∷ []) ∷ []) 1
+s2-cut : goOn (s2 2 4096) 1 (begun (s2 2 4096)) ≡ more 2 0 (at 16 0 0 1 (1 ∷ 1 ∷ []) ∷ []) (tally 1 0)
 unfolding each count ofSize leftSizes finish orders unaryCandidates pairs layer known judge consider through after walk word someOf allOf unaryRow binaryRow constantRow sameRows every separating bit settle start step turn decode
 s2-cut = refl
 
-s2-over : goOn (s2 2 4096) 1 (more 2 0 (at 16 0 0 1 (1 ∷ 1 ∷ []) ∷ []) 1) ≡ over none (at 16 0 0 1 (1 ∷ 1 ∷ []) ∷ at 0 0 0 2 (0 ∷ 0 ∷ []) ∷ []) 2
+s2-over : goOn (s2 2 4096) 1 (more 2 0 (at 16 0 0 1 (1 ∷ 1 ∷ []) ∷ []) (tally 1 0)) ≡ over none (at 16 0 0 1 (1 ∷ 1 ∷ []) ∷ at 0 0 0 2 (0 ∷ 0 ∷ []) ∷ []) (tally 2 0)
 unfolding each count ofSize leftSizes finish orders unaryCandidates pairs layer known judge consider through after walk word someOf allOf unaryRow binaryRow constantRow sameRows every separating bit settle start step turn decode
 s2-over = refl
 
@@ -105,7 +105,7 @@ s2-over = refl
 abbrev s3 : Input
 s3 = inputOf 2 2 3 4096 0 (1 ∷ 0 ∷ []) (3 ∷ 3 ∷ []) (3 ∷ 4 ∷ 1 ∷ 4 ∷ []) [] (7 ∷ [])
 
-s3-found : search s3 ≡ ended (found (node 7 0 1 3)) (at 16 0 0 1 (3 ∷ 1 ∷ []) ∷ at 16 1 0 1 (4 ∷ 4 ∷ []) ∷ []) 5
+s3-found : search s3 ≡ ended (found (node 7 0 1 3)) (at 16 0 0 1 (3 ∷ 1 ∷ []) ∷ at 16 1 0 1 (4 ∷ 4 ∷ []) ∷ []) (tally 5 2)
 unfolding each count ofSize leftSizes finish orders unaryCandidates pairs layer known judge consider through after walk word someOf allOf unaryRow binaryRow constantRow sameRows every separating bit decode
 s3-found = refl
 
@@ -133,7 +133,7 @@ s3-passes = record {
 }
 
 s3-smallest : Found s3 (node 7 0 1 3) (at 16 0 0 1 (3 ∷ 1 ∷ []) ∷ at 16 1 0 1 (4 ∷ 4 ∷ []) ∷ [])
-s3-smallest = found-smallest s3 s3-passes (node 7 0 1 3) (at 16 0 0 1 (3 ∷ 1 ∷ []) ∷ at 16 1 0 1 (4 ∷ 4 ∷ []) ∷ []) 5 s3-found
+s3-smallest = found-smallest s3 s3-passes (node 7 0 1 3) (at 16 0 0 1 (3 ∷ 1 ∷ []) ∷ at 16 1 0 1 (4 ∷ 4 ∷ []) ∷ []) _ s3-found
 
 -- ---- S4: "one empty session, mark 1, p, all operators", as document 02, E4, amends it
 
@@ -141,16 +141,16 @@ abbrev s4 : ℕ → ℕ → Input
 s4 mark bound = inputOf 1 1 bound 4096 0 (mark ∷ []) (0 ∷ []) (0 ∷ []) (0 ∷ 1 ∷ 2 ∷ 3 ∷ 4 ∷ []) (5 ∷ 6 ∷ 7 ∷ 8 ∷ 9 ∷ 10 ∷ [])
 
 -- "S4 with mark 1 becomes found `! (p)`, tried 2, kept 1", whatever the bound from 2 on
-s4-found : search (s4 1 2) ≡ ended (found (node 0 0 0 2)) (at 16 0 0 1 (0 ∷ []) ∷ []) 2
+s4-found : search (s4 1 2) ≡ ended (found (node 0 0 0 2)) (at 16 0 0 1 (0 ∷ []) ∷ []) (tally 2 0)
 unfolding each count ofSize leftSizes finish orders unaryCandidates pairs layer known judge consider through after walk word someOf allOf unaryRow binaryRow constantRow sameRows every separating bit decode
 s4-found = refl
 
-s4-larger : search (s4 1 3) ≡ ended (found (node 0 0 0 2)) (at 16 0 0 1 (0 ∷ []) ∷ []) 2
+s4-larger : search (s4 1 3) ≡ ended (found (node 0 0 0 2)) (at 16 0 0 1 (0 ∷ []) ∷ []) (tally 2 0)
 unfolding each count ofSize leftSizes finish orders unaryCandidates pairs layer known judge consider through after walk word someOf allOf unaryRow binaryRow constantRow sameRows every separating bit decode
 s4-larger = refl
 
 -- "Mark 0: found p, tried 1, kept 0."
-s4-bad : search (s4 0 3) ≡ ended (found (node 16 0 0 1)) [] 1
+s4-bad : search (s4 0 3) ≡ ended (found (node 16 0 0 1)) [] (tally 1 0)
 unfolding each count ofSize leftSizes finish orders unaryCandidates pairs layer known judge consider through after walk word someOf allOf unaryRow binaryRow constantRow sameRows every separating bit decode
 s4-bad = refl
 
@@ -158,7 +158,7 @@ s4-bad = refl
 abbrev beside : Input
 beside = inputOf 2 1 2 4096 0 (1 ∷ 0 ∷ []) (0 ∷ 1 ∷ []) (0 ∷ 1 ∷ []) (2 ∷ 3 ∷ 1 ∷ 0 ∷ []) []
 
-beside-found : search beside ≡ ended (found (node 0 0 0 2)) (at 16 0 0 1 (0 ∷ 1 ∷ []) ∷ at 2 0 0 2 (0 ∷ 0 ∷ []) ∷ at 1 0 0 2 (1 ∷ 1 ∷ []) ∷ []) 5
+beside-found : search beside ≡ ended (found (node 0 0 0 2)) (at 16 0 0 1 (0 ∷ 1 ∷ []) ∷ at 2 0 0 2 (0 ∷ 0 ∷ []) ∷ at 1 0 0 2 (1 ∷ 1 ∷ []) ∷ []) (tally 5 1)
 unfolding each count ofSize leftSizes finish orders unaryCandidates pairs layer known judge consider through after walk word someOf allOf unaryRow binaryRow constantRow sameRows every separating bit decode
 beside-found = refl
 
@@ -166,7 +166,7 @@ beside-found = refl
 abbrev apart : Input
 apart = inputOf 2 1 2 4096 1 (0 ∷ 1 ∷ []) (0 ∷ 1 ∷ []) (0 ∷ 0 ∷ []) (4 ∷ []) []
 
-apart-none : search apart ≡ ended none (at 16 0 0 1 (0 ∷ 0 ∷ []) ∷ at 18 0 0 1 (1 ∷ 1 ∷ []) ∷ at 4 0 0 2 (1 ∷ 0 ∷ []) ∷ []) 5
+apart-none : search apart ≡ ended none (at 16 0 0 1 (0 ∷ 0 ∷ []) ∷ at 18 0 0 1 (1 ∷ 1 ∷ []) ∷ at 4 0 0 2 (1 ∷ 0 ∷ []) ∷ []) (tally 5 2)
 unfolding each count ofSize leftSizes finish orders unaryCandidates pairs layer known judge consider through after walk word someOf allOf unaryRow binaryRow constantRow sameRows every separating bit decode
 apart-none = refl
 
@@ -176,7 +176,7 @@ abbrev asked : Input
 asked = inputOf 2 1 2 4096 1 (1 ∷ 0 ∷ []) (2 ∷ 2 ∷ []) (1 ∷ 1 ∷ []) (4 ∷ 1 ∷ []) []
 
 asked-none : search asked ≡ ended none
-    (at 16 0 0 1 (1 ∷ 1 ∷ []) ∷ at 17 0 0 1 (0 ∷ 0 ∷ []) ∷ at 18 0 0 1 (3 ∷ 3 ∷ []) ∷ at 1 0 0 2 (2 ∷ 2 ∷ []) ∷ []) 9
+    (at 16 0 0 1 (1 ∷ 1 ∷ []) ∷ at 17 0 0 1 (0 ∷ 0 ∷ []) ∷ at 18 0 0 1 (3 ∷ 3 ∷ []) ∷ at 1 0 0 2 (2 ∷ 2 ∷ []) ∷ []) (tally 9 5)
 unfolding each count ofSize leftSizes finish orders unaryCandidates pairs layer known judge consider through after walk word someOf allOf unaryRow binaryRow constantRow sameRows every separating bit decode
 asked-none = refl
 
@@ -186,7 +186,7 @@ abbrev nested : Input
 nested = inputOf 2 2 4 10 0 (1 ∷ 0 ∷ []) (2 ∷ 2 ∷ []) (2 ∷ 0 ∷ 3 ∷ 1 ∷ []) (2 ∷ 1 ∷ []) (5 ∷ 9 ∷ [])
 
 nested-found : search nested ≡ ended (found (node 9 0 4 4))
-    (at 16 0 0 1 (2 ∷ 3 ∷ []) ∷ at 16 1 0 1 (0 ∷ 1 ∷ []) ∷ at 2 0 0 2 (1 ∷ 1 ∷ []) ∷ at 1 0 0 2 (3 ∷ 3 ∷ []) ∷ at 2 1 0 2 (0 ∷ 0 ∷ []) ∷ at 1 1 0 2 (2 ∷ 2 ∷ []) ∷ []) 34
+    (at 16 0 0 1 (2 ∷ 3 ∷ []) ∷ at 16 1 0 1 (0 ∷ 1 ∷ []) ∷ at 2 0 0 2 (1 ∷ 1 ∷ []) ∷ at 1 0 0 2 (3 ∷ 3 ∷ []) ∷ at 2 1 0 2 (0 ∷ 0 ∷ []) ∷ at 1 1 0 2 (2 ∷ 2 ∷ []) ∷ []) (tally 34 27)
 unfolding each count ofSize leftSizes finish orders unaryCandidates pairs layer known judge consider through after walk word someOf allOf unaryRow binaryRow constantRow sameRows every separating bit decode
 nested-found = refl
 
@@ -196,7 +196,7 @@ nested-found = refl
 abbrev rising : Input
 rising = inputOf 3 1 5 40 0 (0 ∷ 0 ∷ 1 ∷ []) (3 ∷ 3 ∷ 3 ∷ []) (4 ∷ 3 ∷ 0 ∷ []) (3 ∷ 4 ∷ []) (10 ∷ [])
 
-rising-found : brief (search rising) ≡ 1 ∷ 10 ∷ 0 ∷ 3 ∷ 5 ∷ 19 ∷ 7 ∷ []
+rising-found : brief (search rising) ≡ 1 ∷ 10 ∷ 0 ∷ 3 ∷ 5 ∷ 19 ∷ 7 ∷ 11 ∷ []
 unfolding each count ofSize leftSizes finish orders unaryCandidates pairs layer known judge consider through after walk word someOf allOf unaryRow binaryRow constantRow sameRows every separating bit decode
 rising-found = refl
 
@@ -205,7 +205,7 @@ rising-found = refl
 abbrev narrow : Input
 narrow = inputOf 1 2 1 1 0 (1 ∷ []) (1 ∷ []) (0 ∷ 1 ∷ []) [] []
 
-narrow-found : search narrow ≡ ended (found (node 16 1 0 1)) (at 16 0 0 1 (0 ∷ []) ∷ []) 2
+narrow-found : search narrow ≡ ended (found (node 16 1 0 1)) (at 16 0 0 1 (0 ∷ []) ∷ []) (tally 2 0)
 unfolding each count ofSize leftSizes finish orders unaryCandidates pairs layer known judge consider through after walk word someOf allOf unaryRow binaryRow constantRow sameRows every separating bit decode
 narrow-found = refl
 
@@ -215,7 +215,7 @@ narrow-found = refl
 abbrev equals : Input
 equals = inputOf 2 1 5 200 1 (1 ∷ 0 ∷ []) (2 ∷ 2 ∷ []) (1 ∷ 1 ∷ []) (0 ∷ 1 ∷ 2 ∷ 3 ∷ 4 ∷ []) (5 ∷ 6 ∷ 7 ∷ 8 ∷ 9 ∷ 10 ∷ [])
 
-equals-none : brief (search equals) ≡ 2 ∷ 140 ∷ 4 ∷ []
+equals-none : brief (search equals) ≡ 2 ∷ 140 ∷ 4 ∷ 136 ∷ []
 unfolding each count ofSize leftSizes finish orders unaryCandidates pairs layer known judge consider through after walk word someOf allOf unaryRow binaryRow constantRow sameRows every separating bit decode
 equals-none = refl
 
@@ -223,11 +223,11 @@ equals-none = refl
 abbrev four : ℕ → Input
 four room = inputOf 4 2 5 room 0 (1 ∷ 1 ∷ 0 ∷ 0 ∷ []) (3 ∷ 3 ∷ 3 ∷ 3 ∷ []) (5 ∷ 2 ∷ 1 ∷ 6 ∷ 5 ∷ 6 ∷ 0 ∷ 2 ∷ []) (0 ∷ 1 ∷ 2 ∷ 3 ∷ 4 ∷ []) (5 ∷ 6 ∷ 7 ∷ 8 ∷ 9 ∷ 10 ∷ [])
 
-four-found : brief (search (four 200)) ≡ 1 ∷ 4 ∷ 82 ∷ 0 ∷ 5 ∷ 633 ∷ 164 ∷ []
+four-found : brief (search (four 200)) ≡ 1 ∷ 4 ∷ 82 ∷ 0 ∷ 5 ∷ 633 ∷ 164 ∷ 468 ∷ []
 unfolding each count ofSize leftSizes finish orders unaryCandidates pairs layer known judge consider through after walk word someOf allOf unaryRow binaryRow constantRow sameRows every separating bit decode
 four-found = refl
 
-four-full : brief (search (four 20)) ≡ 3 ∷ 3 ∷ 25 ∷ 20 ∷ []
+four-full : brief (search (four 20)) ≡ 3 ∷ 3 ∷ 25 ∷ 20 ∷ 4 ∷ []
 unfolding each count ofSize leftSizes finish orders unaryCandidates pairs layer known judge consider through after walk word someOf allOf unaryRow binaryRow constantRow sameRows every separating bit decode
 four-full = refl
 
@@ -235,6 +235,6 @@ four-full = refl
 abbrev three : Input
 three = inputOf 3 1 5 200 1 (1 ∷ 0 ∷ 0 ∷ []) (4 ∷ 4 ∷ 2 ∷ []) (9 ∷ 1 ∷ 1 ∷ []) (1 ∷ 4 ∷ []) (8 ∷ 7 ∷ [])
 
-three-found : brief (search three) ≡ 1 ∷ 1 ∷ 8 ∷ 0 ∷ 4 ∷ 56 ∷ 11 ∷ []
+three-found : brief (search three) ≡ 1 ∷ 1 ∷ 8 ∷ 0 ∷ 4 ∷ 56 ∷ 11 ∷ 44 ∷ []
 unfolding each count ofSize leftSizes finish orders unaryCandidates pairs layer known judge consider through after walk word someOf allOf unaryRow binaryRow constantRow sameRows every separating bit decode
 three-found = refl

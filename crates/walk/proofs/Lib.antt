@@ -11,5 +11,6 @@ pub mod Promises
 pub mod Steady
 pub mod Position
 pub mod Resume
+pub mod Dropped
 pub mod Same
 pub mod Examples

@@ -12,8 +12,14 @@ use lib.Dec.{leb}
 use borrow.Author.Tests.{leb-true, leb-false}
 use Rattle.rules.specs.Lists.{_∈_}
 use Rattle.formula.specs.Nodes.{Node}
-use Rattle.walk.specs.Walk.{Offer, Candidate, Ending, found, full, none, State, going, ended, kept, known, judge, consider}
+use Rattle.walk.specs.Walk.{Offer, Candidate, Ending, found, full, none, Tally, oneTried, State, going, ended, kept, counted, finish, known, judge, consider}
 use Rattle.walk.proofs.Trees.{Lawful}
+
+-- the end keeps what was kept
+pub kept-finish : {Mat : Type 0} (st : State Mat) → kept (finish st) ≡ kept st
+unfolding finish
+kept-finish (going k n) = refl
+kept-finish (ended e k n) = refl
 
 module _ {L U B Mat : Type 0} (O : Offer L U B Mat) where
   -- the candidate does not agree with the marks
@@ -100,7 +106,7 @@ module _ {L U B Mat : Type 0} (O : Offer L U B Mat) where
     Pass k cs (ended e k′ n) = Grows k cs k′ × Ends e cs k′
 
     -- after the end nothing changes
-    pub stays : (e : Ending) (k : List (Candidate Mat)) (n : ℕ) (cs : List (Candidate Mat)) → foldl (consider O C) (ended e k n) cs ≡ ended e k n
+    pub stays : (e : Ending) (k : List (Candidate Mat)) (n : Tally) (cs : List (Candidate Mat)) → foldl (consider O C) (ended e k n) cs ≡ ended e k n
     unfolding consider
     stays e k n [] = refl
     stays e k n (c ∷ cs) = stays e k n cs
@@ -148,15 +154,16 @@ module _ {L U B Mat : Type 0} (O : Offer L U B Mat) where
     }
 
     module _ (Z : Lawful O) where
-      pass-step : (c : Candidate Mat) (cs k : List (Candidate Mat)) (n : ℕ)
-          → ((k₁ : List (Candidate Mat)) (m : ℕ) → Pass k₁ cs (foldl (consider O C) (going k₁ m) cs))
+      pass-step : (c : Candidate Mat) (cs k : List (Candidate Mat)) (n : Tally)
+          → ((k₁ : List (Candidate Mat)) (m : Tally) → Pass k₁ cs (foldl (consider O C) (going k₁ m) cs))
           → (a : Bool) → O .agrees (c .matrix) ≡ a → (b : Bool) → known O (c .matrix) k ≡ b → (r : Bool) → leb C (length k) ≡ r
           → Pass k (c ∷ cs) (foldl (consider O C) (judge O a b r c k n) cs)
       unfolding judge
       pass-step c cs k n go true ea b eb r er =
           rw stays (grows-same k (c ∷ cs), record { hit = c; among = List·Memᴰ·head refl; named = refl; agreed = ea })
       pass-step c cs k n go false ea true eb r er =
-          pass-on c cs k k (grows-same k (c ∷ [])) (known-true Z (c .matrix) k eb) (foldl (consider O C) (going k n) cs) (go k n)
+          pass-on c cs k k (grows-same k (c ∷ [])) (known-true Z (c .matrix) k eb)
+          (foldl (consider O C) (judge O false true r c k n) cs) (go k (counted (judge O false true r c k n)))
       pass-step c cs k n go false ea false eb true er =
           rw stays (
             grows-same k (c ∷ cs),
@@ -171,13 +178,13 @@ module _ {L U B Mat : Type 0} (O : Offer L U B Mat) where
           )
       pass-step c cs k n go false ea false eb false er =
           pass-on c cs k (k ++ (c ∷ [])) (grows-one c k ea) (c, Memᴰ·append-right k (List·Memᴰ·head refl), refl)
-          (foldl (consider O C) (going (k ++ (c ∷ [])) n) cs) (go (k ++ (c ∷ [])) n)
+          (foldl (consider O C) (judge O false false false c k n) cs) (go (k ++ (c ∷ [])) (counted (judge O false false false c k n)))
 
-      pub pass : (cs k : List (Candidate Mat)) (n : ℕ) → Pass k cs (foldl (consider O C) (going k n) cs)
+      pub pass : (cs k : List (Candidate Mat)) (n : Tally) → Pass k cs (foldl (consider O C) (going k n) cs)
       unfolding consider
       pass [] k n = (grows-same k [], λ c m. absurd (List·Memᴰ·not-nil m))
       pass (c ∷ cs) k n =
-          pass-step c cs k (suc n) (λ k₁ m. pass cs k₁ m) _ refl _ refl _ refl
+          pass-step c cs k (oneTried n) (λ k₁ m. pass cs k₁ m) _ refl _ refl _ refl
 
       -- from any state
       pub grown : (cs : List (Candidate Mat)) (st : State Mat) → Grows (kept st) cs (kept (foldl (consider O C) st cs))
@@ -196,7 +203,7 @@ module _ {L U B Mat : Type 0} (O : Offer L U B Mat) where
     Tidy k = (length k ≤ C) × Distinct k
 
     module _ (Z : Lawful O) where
-      tidy-judge : (c : Candidate Mat) (k : List (Candidate Mat)) (n : ℕ) → Tidy k
+      tidy-judge : (c : Candidate Mat) (k : List (Candidate Mat)) (n : Tally) → Tidy k
           → (a : Bool) → (b : Bool) → known O (c .matrix) k ≡ b → (r : Bool) → leb C (length k) ≡ r
           → Tidy (kept (judge O a b r c k n))
       unfolding judge
@@ -209,7 +216,7 @@ module _ {L U B Mat : Type 0} (O : Offer L U B Mat) where
 
       tidy-consider : (st : State Mat) (c : Candidate Mat) → Tidy (kept st) → Tidy (kept (consider O C st c))
       unfolding consider
-      tidy-consider (going k n) c i = tidy-judge c k (suc n) i (O .agrees (c .matrix)) (known O (c .matrix) k) refl (leb C (length k)) refl
+      tidy-consider (going k n) c i = tidy-judge c k (oneTried n) i (O .agrees (c .matrix)) (known O (c .matrix) k) refl (leb C (length k)) refl
       tidy-consider (ended e k n) c i = i
 
       pub tidy : (cs : List (Candidate Mat)) (st : State Mat) → Tidy (kept st) → Tidy (kept (foldl (consider O C) st cs))

@@ -9,7 +9,7 @@ use native.Mathlib.Omega.{arith}
 use lib.ListN.{length}
 use lib.Dec.{leb}
 use Rattle.rules.specs.Lists.{_∈_}
-use Rattle.walk.specs.Walk.{Offer, Candidate, Ending, found, full, none, State, going, ended, kept, known, judge, layer, consider, through, after, finish, walk, trail}
+use Rattle.walk.specs.Walk.{Offer, Candidate, Ending, found, full, none, Tally, tally, oneTried, State, going, ended, kept, counted, known, judge, layer, consider, through, after, finish, walk, trail}
 use Rattle.walk.specs.Input.{offer}
 use Rattle.walk.specs.Promises.{Nth, Has, DecidedAt, TriedIsPosition}
 use Rattle.walk.proofs.Trees.{Lawful}
@@ -19,8 +19,8 @@ use Rattle.walk.proofs.Reading.{lawful}
 module _ {L U B Mat : Type 0} (O : Offer L U B Mat) (C : ℕ) where
   -- from m tried on: all of cs were tried, or the deciding one is among them
   abbrev pub Counts : ℕ → List (Candidate Mat) → State Mat → Type 0
-  Counts m cs (going k n) = (n ≡ m + length cs) × ((d : Candidate Mat) → d ∈ cs → Rejected O d)
-  Counts m cs (ended e k n) = (p : ℕ) × (n ≡ m + p) × DecidedAt (O .agrees) cs e k p × (e ≡ none → ⊥)
+  Counts m cs (going k n) = (n .tried ≡ m + length cs) × ((d : Candidate Mat) → d ∈ cs → Rejected O d)
+  Counts m cs (ended e k n) = (p : ℕ) × (n .tried ≡ m + p) × DecidedAt (O .agrees) cs e k p × (e ≡ none → ⊥)
 
   -- the deciding one of cs is one later of c ∷ cs
   nth-on : (c : Candidate Mat) (cs : List (Candidate Mat)) (p : ℕ) (x : Candidate Mat) → Rejected O c → Nth (O .agrees) cs p x → Nth (O .agrees) (c ∷ cs) (suc p) x
@@ -60,57 +60,58 @@ module _ {L U B Mat : Type 0} (O : Offer L U B Mat) (C : ℕ) where
 
   module _ (Z : Lawful O) where
     -- what was kept stays so
-    has-on : (cs : List (Candidate Mat)) (k : List (Candidate Mat)) (n : ℕ) (x : Mat) → Has k x → Has (kept (foldl (consider O C) (going k n) cs)) x
+    has-on : (cs : List (Candidate Mat)) (k : List (Candidate Mat)) (n : Tally) (x : Mat) → Has k x → Has (kept (foldl (consider O C) (going k n) cs)) x
     has-on cs k n x h = (h .0, grows-keeps O (grown O C Z cs (going k n)) (h .0) (h .1), h .2)
 
-    counts-step : (c : Candidate Mat) (cs k : List (Candidate Mat)) (m : ℕ)
-        → ((k₁ : List (Candidate Mat)) → Counts (suc m) cs (foldl (consider O C) (going k₁ (suc m)) cs))
+    counts-step : (c : Candidate Mat) (cs k : List (Candidate Mat)) (n : Tally)
+        → ((k₁ : List (Candidate Mat)) (m : Tally) → Counts (m .tried) cs (foldl (consider O C) (going k₁ m) cs))
         → (a : Bool) → O .agrees (c .matrix) ≡ a → (b : Bool) → known O (c .matrix) k ≡ b → (r : Bool)
-        → Counts m (c ∷ cs) (foldl (consider O C) (judge O a b r c k (suc m)) cs)
+        → Counts (n .tried) (c ∷ cs) (foldl (consider O C) (judge O a b r c k (oneTried n)) cs)
     unfolding judge at-once
-    counts-step c cs k m go true ea b eb r =
+    counts-step c cs k n go true ea b eb r =
         rw stays (1, omega arith, (c, at-once c cs, refl, ea), λ q. let v : _≡_ {A = ℕ} 0 1 = cc in omega arith)
-    counts-step c cs k m go false ea true eb r =
-        counts-on c cs m (foldl (consider O C) (going k (suc m)) cs) ea
-        (has-on cs k (suc m) (c .matrix) (known-true O Z (c .matrix) k eb)) (go k)
-    counts-step c cs k m go false ea false eb true =
+    counts-step c cs k n go false ea true eb r =
+        let m = counted (judge O false true r c k (oneTried n)) in
+        counts-on c cs (n .tried) (foldl (consider O C) (going k m) cs) ea (has-on cs k m (c .matrix) (known-true O Z (c .matrix) k eb)) (go k m)
+    counts-step c cs k n go false ea false eb true =
         rw stays (
           1,
           omega arith,
           (c, at-once c cs, refl, ea, λ d h. absurd (List·Memᴰ·not-nil h), λ h. known-false O Z (c .matrix) k eb (h .0) (h .1) (h .2)),
           λ q. let v : _≡_ {A = ℕ} 0 1 = cc in omega arith,
         )
-    counts-step c cs k m go false ea false eb false =
-        counts-on c cs m (foldl (consider O C) (going (k ++ (c ∷ [])) (suc m)) cs) ea
-        (has-on cs (k ++ (c ∷ [])) (suc m) (c .matrix) (c, Memᴰ·append-right k (List·Memᴰ·head refl), refl)) (go (k ++ (c ∷ [])))
+    counts-step c cs k n go false ea false eb false =
+        let m = counted (judge O false false false c k (oneTried n)) in
+        counts-on c cs (n .tried) (foldl (consider O C) (going (k ++ (c ∷ [])) m) cs) ea
+        (has-on cs (k ++ (c ∷ [])) m (c .matrix) (c, Memᴰ·append-right k (List·Memᴰ·head refl), refl)) (go (k ++ (c ∷ [])) m)
 
-    pub counts : (cs k : List (Candidate Mat)) (m : ℕ) → Counts m cs (foldl (consider O C) (going k m) cs)
+    pub counts : (cs k : List (Candidate Mat)) (n : Tally) → Counts (n .tried) cs (foldl (consider O C) (going k n) cs)
     unfolding consider
-    counts [] k m = (omega arith, λ d h. absurd (List·Memᴰ·not-nil h))
-    counts (c ∷ cs) k m =
-        counts-step c cs k m (λ k₁. counts cs k₁ (suc m)) (O .agrees (c .matrix)) refl (known O (c .matrix) k) refl (leb C (length k))
+    counts [] k n = (omega arith, λ d h. absurd (List·Memᴰ·not-nil h))
+    counts (c ∷ cs) k n =
+        counts-step c cs k n (λ k₁ m. counts cs k₁ m) (O .agrees (c .matrix)) refl (known O (c .matrix) k) refl (leb C (length k))
 
   -- the walk is one pass over the trail
-  pub after-trail : (b : ℕ) → after O C b ≡ foldl (consider O C) (going [] 0) (trail O C b)
+  pub after-trail : (b : ℕ) → after O C b ≡ foldl (consider O C) (going [] (tally 0 0)) (trail O C b)
   unfolding after through trail
   after-trail zero = refl
   after-trail (suc b) =
       ap (λ (st : State Mat). foldl (consider O C) st (layer O (suc b) (kept (after O C b)))) (after-trail b)
-      ∙ sym (foldl-append (consider O C) (going [] 0) (trail O C b) (layer O (suc b) (kept (after O C b))))
+      ∙ sym (foldl-append (consider O C) (going [] (tally 0 0)) (trail O C b) (layer O (suc b) (kept (after O C b))))
 
   abbrev Ended : List (Candidate Mat) → State Mat → Type 0
   Ended cs (going k n) = ⊥
-  Ended cs (ended e k n) = DecidedAt (O .agrees) cs e k n
+  Ended cs (ended e k n) = DecidedAt (O .agrees) cs e k (n .tried)
 
   ended-at : (cs : List (Candidate Mat)) (st : State Mat) → Counts 0 cs st → Ended cs (finish st)
   unfolding finish
   ended-at cs (going k n) w = omega (arith, w .0)
-  ended-at cs (ended e k n) w = subst (DecidedAt (O .agrees) cs e k) (let z : w .0 ≡ n = omega (arith, w .1) in z) (w .2)
+  ended-at cs (ended e k n) w = subst (DecidedAt (O .agrees) cs e k) (let z : w .0 ≡ n .tried = omega (arith, w .1) in z) (w .2)
 
   pub walk-decided : Lawful O → (b : ℕ) → Ended (trail O C b) (walk O C b)
   unfolding walk
   walk-decided Z b =
-      ended-at (trail O C b) (after O C b) (subst (Counts 0 (trail O C b)) (sym (after-trail b)) (counts Z (trail O C b) [] 0))
+      ended-at (trail O C b) (after O C b) (subst (Counts 0 (trail O C b)) (sym (after-trail b)) (counts Z (trail O C b) [] (tally 0 0)))
 
 -- (5)
 pub tried-is-position : TriedIsPosition

@@ -14,7 +14,7 @@ use Rattle.formula.specs.Recorded.{markedTrace, markedTraces}
 use Rattle.session.specs.Recording.{lengthOf}
 use Rattle.formula.proofs.Trees.{spells-size}
 use Rattle.formula.specs.Nodes.{Node, codes}
-use Rattle.walk.specs.Walk.{Candidate, Ending, found, full, none, State, going, ended, finish, after, walk}
+use Rattle.walk.specs.Walk.{Candidate, Ending, found, full, none, Tally, State, going, ended, finish, after, walk}
 use Rattle.walk.specs.Input.{Input, Passes, language, row, separating, offer, search}
 use Rattle.walk.specs.Promises.{Table, nodes, NoneBelow, Alike, Apart, Found, KeepsNext, Full, Keeps, KeepsAll, Kept, FoundSmallest, NoneMeansNone, FullNeedsRoom, KeptDistinct, WalkEnds}
 use Rattle.walk.proofs.Trees.{Is, is-size, Ordered}
@@ -28,7 +28,7 @@ module _ (i : Input) (ok : Passes i) where
   needs-below s n t o l p = let h = n t (from-offered i ok t o) (agrees-separates i ok t o .1 p) in omega arith
 
   -- what the walk says of its answer, whatever it is
-  said : (e : Ending) (k : Table) (n : ℕ) → search i ≡ ended e k n → Tidy (offer i) (i .room) k × Ours (offer i) k × EndsWell (offer i) (i .room) (i .bound) e k
+  said : (e : Ending) (k : Table) (n : Tally) → search i ≡ ended e k n → Tidy (offer i) (i .room) k × Ours (offer i) k × EndsWell (offer i) (i .room) (i .bound) e k
   said e k n q = subst (Says (offer i) (i .room) (lawful i) (i .bound)) q (walk-says (offer i) (i .room) (lawful i) (i .bound))
 
   found-one : (root : Node) (k : Table) → Smallest (offer i) (i .bound) root k → Found i root k
@@ -153,6 +153,6 @@ pub walk-ends : WalkEnds
 unfolding walk finish
 walk-ends i = go (after (offer i) (i .room) (i .bound))
   where
-    go : (st : State (List ℕ)) → (e : Ending) × (k : Table) × (n : ℕ) × (finish st ≡ ended e k n)
+    go : (st : State (List ℕ)) → (e : Ending) × (k : Table) × (n : Tally) × (finish st ≡ ended e k n)
     go (going k n) = (none, k, n, refl)
     go (ended e k n) = (e, k, n, refl)

@@ -12,7 +12,7 @@ use lib.ListN.{length, take, drop, length-append, length-take, length-drop, take
 use lib.Seq.{take-all, take-add, take-append-seam}
 use lib.Dec.{eqb, ltb}
 use borrow.Author.Tests.{eqb-true, ltb-true, ltb-false}
-use Rattle.walk.specs.Walk.{Offer, Candidate, Placed, Ending, found, full, none, State, going, ended, kept, tried, ofSize, keepIf, leftSizes, orders, unaryOn, unaryCandidates, pairs, layer, consider, through, after, finish, walk, trail}
+use Rattle.walk.specs.Walk.{Offer, Candidate, Placed, Ending, found, full, none, Tally, tally, State, going, ended, kept, tried, ofSize, keepIf, leftSizes, orders, unaryOn, unaryCandidates, pairs, layer, consider, through, after, finish, walk, trail}
 use Rattle.rules.specs.Lists.{each, _∈_}
 use Rattle.walk.specs.Input.{offer}
 use Rattle.walk.specs.Cut.{Cut, more, over, settle, start, step, turn}
@@ -97,10 +97,10 @@ module _ {L U B Mat : Type 0} (O : Offer L U B Mat) where
     done : ℕ → ℕ → List (Candidate Mat)
     done a j = trail O C a ++ take j (layer O (suc a) (kept (after O C a)))
 
-    through-done : (a j : ℕ) → foldl (consider O C) (going [] 0) (done a j) ≡ within a j
+    through-done : (a j : ℕ) → foldl (consider O C) (going [] (tally 0 0)) (done a j) ≡ within a j
     unfolding done
     through-done a j =
-        foldl-append (consider O C) (going [] 0) (trail O C a) (take j (layer O (suc a) (kept (after O C a))))
+        foldl-append (consider O C) (going [] (tally 0 0)) (trail O C a) (take j (layer O (suc a) (kept (after O C a))))
         ∙ ap (λ (st : State Mat). foldl (consider O C) st (take j (layer O (suc a) (kept (after O C a))))) (sym (after-trail O C a))
 
     -- ---- no more are tried than there were
@@ -119,29 +119,29 @@ module _ {L U B Mat : Type 0} (O : Offer L U B Mat) where
 
     after-le : (a : ℕ) → tried (after O C a) ≤ length (trail O C a)
     after-le a =
-        let w = counts-le 0 (trail O C a) (after O C a) (subst (Counts O C 0 (trail O C a)) (sym (after-trail O C a)) (counts O C Z (trail O C a) [] 0)) in
+        let w = counts-le 0 (trail O C a) (after O C a) (subst (Counts O C 0 (trail O C a)) (sym (after-trail O C a)) (counts O C Z (trail O C a) [] (tally 0 0))) in
         omega arith
 
     within-le : (a j : ℕ) → tried (within a j) ≤ length (trail O C a) + j
     unfolding done
     within-le a j =
         let cs = take j (layer O (suc a) (kept (after O C a))) in
-        let w = counts-le 0 (done a j) (within a j) (subst (Counts O C 0 (done a j)) (through-done a j) (counts O C Z (done a j) [] 0)) in
+        let w = counts-le 0 (done a j) (within a j) (subst (Counts O C 0 (done a j)) (through-done a j) (counts O C Z (done a j) [] (tally 0 0))) in
         omega (arith, length-append (trail O C a) cs, length-take j (layer O (suc a) (kept (after O C a))))
 
     module _ (b : ℕ) where
       -- a cut walk after n candidates, or after fewer where the walk ended
       abbrev Here : ℕ → Cut Mat → Type 0
-      Here n (over e k m) = (walk O C b ≡ ended e k m) × (m ≤ n)
+      Here n (over e k m) = (walk O C b ≡ ended e k m) × (m .tried ≤ n)
       Here n (more s j k m) =
           (a : ℕ) × (s ≡ suc a) × (a < b) × (within a j ≡ going k m)
           × (j < length (layer O (suc a) (kept (after O C a)))) × (n ≡ length (trail O C a) + j)
 
-      over-here : (a : ℕ) → a ≤ b → (e : Ending) (k : List (Candidate Mat)) (n : ℕ) → after O C a ≡ ended e k n → walk O C b ≡ ended e k n
+      over-here : (a : ℕ) → a ≤ b → (e : Ending) (k : List (Candidate Mat)) (n : Tally) → after O C a ≡ ended e k n → walk O C b ≡ ended e k n
       unfolding walk finish
       over-here a h e k n q = ap finish (after-later O C a b h e k n q)
 
-      none-here : (a : ℕ) → a ≡ b → (k : List (Candidate Mat)) (n : ℕ) → after O C a ≡ going k n → walk O C b ≡ ended none k n
+      none-here : (a : ℕ) → a ≡ b → (k : List (Candidate Mat)) (n : Tally) → after O C a ≡ going k n → walk O C b ≡ ended none k n
       unfolding walk finish
       none-here a h k n q = ap finish (ap (after O C) (sym h) ∙ q)
 
@@ -270,7 +270,7 @@ module _ {L U B Mat : Type 0} (O : Offer L U B Mat) where
       tried-finish (ended e k n) = refl
 
       -- a walk that goes on before some candidate tries more
-      tries-more : (cs k : List (Candidate Mat)) (m : ℕ) → 0 < length cs → m < tried (foldl (consider O C) (going k m) cs)
+      tries-more : (cs k : List (Candidate Mat)) (m : Tally) → 0 < length cs → m .tried < tried (foldl (consider O C) (going k m) cs)
       tries-more cs k m h = go (foldl (consider O C) (going k m) cs) (counts O C Z cs k m)
         where
           some : (e : Ending) (k′ : List (Candidate Mat)) (p : ℕ) → DecidedAt (O .agrees) cs e k′ p → (e ≡ none → ⊥) → 0 < p
@@ -278,15 +278,15 @@ module _ {L U B Mat : Type 0} (O : Offer L U B Mat) where
           some (full s) k′ p z w = omega (arith, z .1 .position)
           some none k′ p z w = absurd (w refl)
 
-          go : (st : State Mat) → Counts O C m cs st → m < tried st
+          go : (st : State Mat) → Counts O C (m .tried) cs st → m .tried < tried st
           go (going k′ n) w = omega (arith, w .0)
           go (ended e k′ n) w = omega (arith, w .1, some e k′ (w .0) (w .2) (w .3))
 
       -- what `CutOf` says, here of any offer: `CutOf` is of an input's, so that a reader of the promises needs no offer
       abbrev pub CutAt : ℕ → Cut Mat → Type 0
-      CutAt n (over e k m) = (walk O C b ≡ ended e k m) × (m ≤ n)
+      CutAt n (over e k m) = (walk O C b ≡ ended e k m) × (m .tried ≤ n)
       CutAt n (more s j k m) =
-          (m ≡ n) × (n < tried (walk O C b)) × (foldl (consider O C) (going [] 0) (take n (trail O C b)) ≡ going k m)
+          (m .tried ≡ n) × (n < tried (walk O C b)) × (foldl (consider O C) (going [] (tally 0 0)) (take n (trail O C b)) ≡ going k m)
 
       cut-at : (n : ℕ) (c : Cut Mat) → Here n c → CutAt n c
       unfolding walk
@@ -297,16 +297,16 @@ module _ {L U B Mat : Type 0} (O : Offer L U B Mat) where
           let left = drop j cs ++ rest in
           let ld = length-done a j (omega arith) in
           let at = through-done a j ∙ q in
-          let c = subst (Counts O C 0 (done a j)) at (counts O C Z (done a j) [] 0) in
-          let mn : m ≡ n = omega (arith, c .0) in
-          let whole = after-trail O C b ∙ ap (foldl (consider O C) (going [] 0)) w ∙ foldl-append (consider O C) (going [] 0) (done a j) left
+          let c = subst (Counts O C 0 (done a j)) at (counts O C Z (done a j) [] (tally 0 0)) in
+          let mn : m .tried ≡ n = omega (arith, c .0) in
+          let whole = after-trail O C b ∙ ap (foldl (consider O C) (going [] (tally 0 0))) w ∙ foldl-append (consider O C) (going [] (tally 0 0)) (done a j) left
           ∙ ap (λ (st : State Mat). foldl (consider O C) st left) at in
           let some : 0 < length left = omega (arith, length-append (drop j cs) rest, length-drop j cs) in (
             mn,
             omega (arith, tries-more left k m some, tried-finish (after O C b), ap tried whole),
-            ap (λ (p : ℕ). foldl (consider O C) (going [] 0) (take p (trail O C b))) (en ∙ sym ld)
-                ∙ ap (λ (l : List (Candidate Mat)). foldl (consider O C) (going [] 0) (take (length (done a j)) l)) w
-                ∙ ap (foldl (consider O C) (going [] 0)) (take-append-seam (done a j) left)
+            ap (λ (p : ℕ). foldl (consider O C) (going [] (tally 0 0)) (take p (trail O C b))) (en ∙ sym ld)
+                ∙ ap (λ (l : List (Candidate Mat)). foldl (consider O C) (going [] (tally 0 0)) (take (length (done a j)) l)) w
+                ∙ ap (foldl (consider O C) (going [] (tally 0 0))) (take-append-seam (done a j) left)
                 ∙ at,
           )
 

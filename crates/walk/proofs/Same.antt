@@ -11,7 +11,7 @@ use lib.ListN.{length, getD}
 use lib.Dec.{eqb, leb}
 use Rattle.sequence.specs.Operators.{Unary, Binary}
 use Rattle.formula.specs.Formula.{Leaf, proposition, constant}
-use Rattle.walk.specs.Walk.{Offer, Candidate, Placed, State, going, ended, kept, seed, orders, unaryCandidates, pairs, layer, known, judge, consider, through, after, finish, walk}
+use Rattle.walk.specs.Walk.{Offer, Candidate, Placed, Tally, oneTried, State, going, ended, kept, seed, orders, unaryCandidates, pairs, layer, known, judge, consider, through, after, finish, walk}
 use Rattle.rules.specs.Lists.{count, _∈_}
 use Rattle.walk.specs.Rows.{unaryRow, binaryRow, constantRow, acceptsRow}
 use Rattle.walk.specs.Input.{Input, row, rows, every, leaves, separating, offer, search, inputOf}
@@ -47,7 +47,7 @@ module _ {L U B Mat : Type 0} (O : Offer L U B Mat) where
     known-given x [] = refl
     known-given x (c ∷ k) = ap (λ (b : Bool). O .same x (c .matrix) || b) (known-given x k)
 
-    judge-given : (a b r : Bool) (c : Candidate Mat) (k : List (Candidate Mat)) (n : ℕ) → judge (given f) a b r c k n ≡ judge (given g) a b r c k n
+    judge-given : (a b r : Bool) (c : Candidate Mat) (k : List (Candidate Mat)) (n : Tally) → judge (given f) a b r c k n ≡ judge (given g) a b r c k n
     unfolding judge
     judge-given true b r c k n = refl
     judge-given false true r c k n = refl
@@ -57,8 +57,8 @@ module _ {L U B Mat : Type 0} (O : Offer L U B Mat) where
     consider-given : (st : State Mat) (c : Candidate Mat) → consider (given f) C st c ≡ consider (given g) C st c
     unfolding consider
     consider-given (going k n) c =
-        ap (λ (b : Bool). judge (given f) (O .agrees (c .matrix)) b (leb C (length k)) c k (suc n)) (known-given (c .matrix) k)
-        ∙ judge-given (O .agrees (c .matrix)) (known (given g) (c .matrix) k) (leb C (length k)) c k (suc n)
+        ap (λ (b : Bool). judge (given f) (O .agrees (c .matrix)) b (leb C (length k)) c k (oneTried n)) (known-given (c .matrix) k)
+        ∙ judge-given (O .agrees (c .matrix)) (known (given g) (c .matrix) k) (leb C (length k)) c k (oneTried n)
     consider-given (ended e k n) c = refl
 
     orders-given : (b : Bool) (op : B) (l q : Placed Mat) → orders (given f) b op l q ≡ orders (given g) b op l q

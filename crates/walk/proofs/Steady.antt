@@ -12,35 +12,35 @@ use lib.ListN.{length}
 use lib.Dec.{leb}
 use borrow.Author.Tests.{leb-true, leb-false}
 use Rattle.formula.specs.Nodes.{Node}
-use Rattle.walk.specs.Walk.{Offer, Candidate, Ending, found, full, State, going, ended, kept, known, judge, layer, consider, through, after, finish, walk}
+use Rattle.walk.specs.Walk.{Offer, Candidate, Ending, found, full, Tally, oneTried, State, going, ended, kept, known, judge, layer, consider, through, after, finish, walk}
 use Rattle.walk.specs.Input.{Input, separating, offer, search}
 use Rattle.walk.specs.Promises.{Table, again, KeepsNext, LargerBoundSame, LargerRoomSame, FoundStays}
 use Rattle.walk.proofs.Trees.{Lawful}
-use Rattle.walk.proofs.Pass.{stays, grown, Tidy, tidy}
+use Rattle.walk.proofs.Pass.{kept-finish, stays, grown, Tidy, tidy}
 use Rattle.walk.proofs.Smallest.{Says, walk-says}
 use Rattle.walk.proofs.Reading.{lawful}
 use Rattle.walk.proofs.Same.{same-where-read}
 
 module _ {L U B Mat : Type 0} (O : Offer L U B Mat) where
   module _ (C : ℕ) where
-    pub through-ended : (s : ℕ) (e : Ending) (k : List (Candidate Mat)) (n : ℕ) → through O C s (ended e k n) ≡ ended e k n
+    pub through-ended : (s : ℕ) (e : Ending) (k : List (Candidate Mat)) (n : Tally) → through O C s (ended e k n) ≡ ended e k n
     unfolding through
     through-ended s e k n = stays O C e k n (layer O s k)
 
     -- once ended, the same at every later size
-    pub after-later : (b d : ℕ) → b ≤ d → (e : Ending) (k : List (Candidate Mat)) (n : ℕ) → after O C b ≡ ended e k n → after O C d ≡ ended e k n
+    pub after-later : (b d : ℕ) → b ≤ d → (e : Ending) (k : List (Candidate Mat)) (n : Tally) → after O C b ≡ ended e k n → after O C d ≡ ended e k n
     unfolding after
     after-later b zero h e k n q = let z : b ≡ 0 = omega arith in ap (after O C) (sym z) ∙ q
     after-later b (suc d) h e k n q =
         ⊎-elim (λ z. ap (after O C) (sym z) ∙ q) (λ l. ap (through O C (suc d)) (after-later b d (omega arith) e k n q) ∙ through-ended (suc d) e k n)
         (eq-or-lt-of-le h)
 
-    unfinish : (root : Node) (k : List (Candidate Mat)) (n : ℕ) (st : State Mat) → finish st ≡ ended (found root) k n → st ≡ ended (found root) k n
+    unfinish : (root : Node) (k : List (Candidate Mat)) (n : Tally) (st : State Mat) → finish st ≡ ended (found root) k n → st ≡ ended (found root) k n
     unfolding finish
     unfinish root k n (going k′ n′) e = let z : _≡_ {A = ℕ} 0 1 = cc in absurd (omega arith)
     unfinish root k n (ended e′ k′ n′) e = e
 
-    pub larger-bound : (b d : ℕ) → b ≤ d → (root : Node) (k : List (Candidate Mat)) (n : ℕ) → walk O C b ≡ ended (found root) k n
+    pub larger-bound : (b d : ℕ) → b ≤ d → (root : Node) (k : List (Candidate Mat)) (n : Tally) → walk O C b ≡ ended (found root) k n
         → walk O C d ≡ ended (found root) k n
     unfolding walk finish
     larger-bound b d h root k n q = ap finish (after-later b d h (found root) k n (unfinish root k n (after O C b) q))
@@ -54,25 +54,25 @@ module _ {L U B Mat : Type 0} (O : Offer L U B Mat) where
   module _ (Z : Lawful O) (C D : ℕ) (le : C ≤ D) where
     -- the first walk was full; then the second, where it has more room, kept the one for which there was no place
     abbrev Parts : State Mat → State Mat → Type 0
-    Parts x y = (s : ℕ) × (k : List (Candidate Mat)) × (n : ℕ) × (x ≡ ended (full s) k n) × (C < D → Next s k y)
+    Parts x y = (s : ℕ) × (k : List (Candidate Mat)) × (n : Tally) × (x ≡ ended (full s) k n) × (C < D → Next s k y)
 
     -- the same, unless the first was full
     abbrev SameUnlessFull : State Mat → State Mat → Type 0
     SameUnlessFull x y = (y ≡ x) ⊎ Parts x y
 
-    same-judge : (a b : Bool) (c : Candidate Mat) (k : List (Candidate Mat)) (n : ℕ) → length k ≤ C
+    same-judge : (a b : Bool) (c : Candidate Mat) (k : List (Candidate Mat)) (n : Tally) → length k ≤ C
         → (r r′ : Bool) → leb C (length k) ≡ r → leb D (length k) ≡ r′ → SameUnlessFull (judge O a b r c k n) (judge O a b r′ c k n)
     unfolding judge
     same-judge true b c k n l r r′ e f = inl refl
     same-judge false true c k n l r r′ e f = inl refl
-    same-judge false false c k n l true true e f = inr (c .node .size, k, n, refl, λ h. absurd (omega (arith, leb-true D (length k) f)))
-    same-judge false false c k n l true false e f = inr (c .node .size, k, n, refl, λ h. (c, [], refl, refl))
+    same-judge false false c k n l true true e f = inr (c .node .size, k, _, refl, λ h. absurd (omega (arith, leb-true D (length k) f)))
+    same-judge false false c k n l true false e f = inr (c .node .size, k, _, refl, λ h. (c, [], refl, refl))
     same-judge false false c k n l false true e f = absurd (omega (arith, leb-false C (length k) e, leb-true D (length k) f))
     same-judge false false c k n l false false e f = inl refl
 
     same-consider : (st : State Mat) (c : Candidate Mat) → length (kept st) ≤ C → SameUnlessFull (consider O C st c) (consider O D st c)
     unfolding consider
-    same-consider (going k n) c l = same-judge (O .agrees (c .matrix)) (known O (c .matrix) k) c k (suc n) l (leb C (length k)) (leb D (length k)) refl refl
+    same-consider (going k n) c l = same-judge (O .agrees (c .matrix)) (known O (c .matrix) k) c k (oneTried n) l (leb C (length k)) (leb D (length k)) refl refl
     same-consider (ended e k n) c l = inl refl
 
     -- whatever comes, what was kept stays
@@ -113,11 +113,6 @@ module _ {L U B Mat : Type 0} (O : Offer L U B Mat) where
         (same-fold (layer O (suc b) (kept (after O C b))) (after O C b) (tidy-after b)))
         (λ h. inr (still-full (layer O (suc b) (kept (after O C b))) (layer O (suc b) (kept (after O D b))) (after O C b) (after O D b) h)) (same-after b)
 
-    kept-finish : (st : State Mat) → kept (finish st) ≡ kept st
-    unfolding finish
-    kept-finish (going k n) = refl
-    kept-finish (ended e k n) = refl
-
     pub larger-room : (b : ℕ) → SameUnlessFull (walk O C b) (walk O D b)
     unfolding walk finish
     larger-room b =
@@ -139,7 +134,7 @@ pub larger-room-same : LargerRoomSame
 larger-room-same i c h =
     rw again-offer (⊎-elim inl (λ (s, k, n, e, w). inr (s, k, n, e)) (larger-room (offer i) (lawful i) (i .room) c h (i .bound)))
 
-found-again : (i : Input) (b c : ℕ) → i .bound ≤ b → i .room ≤ c → (root : Node) (k : Table) (n : ℕ)
+found-again : (i : Input) (b c : ℕ) → i .bound ≤ b → i .room ≤ c → (root : Node) (k : Table) (n : Tally)
     → search i ≡ ended (found root) k n → search (again i b c) ≡ ended (found root) k n
 found-again i b c hb hc root k n q =
     rw again-offer (larger-bound (offer i) c (i .bound) b hb root k n
@@ -150,12 +145,12 @@ found-stays i j w root k n q =
     sym (same-where-read (again i (j .bound) (j .room)) j (w .same)) ∙ found-again i (j .bound) (j .room) (w .bound) (w .room) root k n q
 
 -- a full walk has kept as many as there is room for
-full-long : {L U B Mat : Type 0} (O : Offer L U B Mat) (Z : Lawful O) (C b s : ℕ) (k : List (Candidate Mat)) (n : ℕ) → walk O C b ≡ ended (full s) k n
+full-long : {L U B Mat : Type 0} (O : Offer L U B Mat) (Z : Lawful O) (C b s : ℕ) (k : List (Candidate Mat)) (n : Tally) → walk O C b ≡ ended (full s) k n
     → length k ≡ C
 full-long O Z C b s k n q = subst (Says O C Z b) q (walk-says O C Z b) .2 .as-many
 
 -- (3): where a walk is full, with any larger room it keeps the same and one more
-pub keeps-next : (i : Input) (s : ℕ) (k : Table) (n : ℕ) → search i ≡ ended (full s) k n → (c : ℕ) → i .room < c → KeepsNext i s k c
+pub keeps-next : (i : Input) (s : ℕ) (k : Table) (n : Tally) → search i ≡ ended (full s) k n → (c : ℕ) → i .room < c → KeepsNext i s k c
 keeps-next i s k n q c h =
     ⊎-elim
     (λ e. absurd (omega (

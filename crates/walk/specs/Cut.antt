@@ -1,16 +1,16 @@
--- The walk cut after any candidate, and going on from there with no more than what was kept and three numbers.
+-- The walk cut after any candidate, and going on from there with no more than what was kept and four numbers.
 -- Assumes nothing.
 use mathlib.Core.Bool.{cond}
 use mathlib.Core.List.{List, [], foldl}
 use Prim.Native.Nat.{ℕ, zero, suc, _-_}
 use lib.ListN.{length, take, drop}
 use lib.Dec.{ltb}
-use Rattle.walk.specs.Walk.{Offer, Candidate, Ending, none, State, going, ended, layer, consider}
+use Rattle.walk.specs.Walk.{Offer, Candidate, Ending, none, Tally, tally, State, going, ended, layer, consider}
 
--- a cut walk: more to try, at size s after j of its candidates, with what is kept and the number tried; or at its end
+-- a cut walk: more to try, at size s after j of its candidates, with what is kept and the tally; or at its end
 pub data Cut (Mat : Type 0) : Type 0 where
-  more : ℕ → ℕ → List (Candidate Mat) → ℕ → Cut Mat
-  over : Ending → List (Candidate Mat) → ℕ → Cut Mat
+  more : ℕ → ℕ → List (Candidate Mat) → Tally → Cut Mat
+  over : Ending → List (Candidate Mat) → Tally → Cut Mat
 
 module _ {L U B Mat : Type 0} (O : Offer L U B Mat) (C b : ℕ) where
   -- the cut walk at size s after j of its candidates, where d sizes are left, s among them. An ended walk is at its end. One that goes on
@@ -25,7 +25,7 @@ module _ {L U B Mat : Type 0} (O : Offer L U B Mat) (C b : ℕ) where
 
   -- a walk of which nothing is tried
   unfoldable pub start : Cut Mat
-  start = settle b 1 0 (going [] 0)
+  start = settle b 1 0 (going [] (tally 0 0))
 
   -- one candidate more; the end stays
   unfoldable pub step : Cut Mat → Cut Mat

@@ -1,6 +1,6 @@
 -- What is promised of every answer of the walk, for every input that passes the checks. Each is proved under its name, in proofs/: found-smallest
--- and so on (Promises), larger-bound-same, found-stays (Steady), tried-is-position (Position), cut-resume (Resume), row-means (Reading),
--- unary-row-only and binary-row-only (Rows), same-where-read (Same).
+-- and so on (Promises), larger-bound-same, found-stays (Steady), tried-is-position (Position), tried-adds-up, cut-adds-up, dropped-by (Dropped),
+-- cut-resume (Resume), row-means (Reading), unary-row-only and binary-row-only (Rows), same-where-read (Same).
 -- Assumes nothing.
 use mathlib.Core.Path.{_≡_}
 use mathlib.Core.Logic.{_↔_, _⊎_}
@@ -15,7 +15,7 @@ use Rattle.rules.specs.Lists.{_∈_}
 use Rattle.formula.specs.Recorded.{markedTrace, markedTraces}
 use Rattle.session.specs.Recording.{lengthOf}
 use Rattle.formula.specs.Nodes.{Node, Spells, codes}
-use Rattle.walk.specs.Walk.{Candidate, Ending, found, full, none, going, ended, kept, tried, matrix, leftSizes, consider, trail}
+use Rattle.walk.specs.Walk.{Candidate, Ending, found, full, none, Tally, tally, oneTried, oneDropped, going, ended, kept, tried, matrix, leftSizes, consider, trail}
 use Rattle.walk.specs.Rows.{unaryRow, binaryRow}
 use Rattle.walk.specs.Input.{Input, Passes, language, row, separating, offer, search}
 use Rattle.walk.specs.Cut.{Cut, more, over, start, turn}
@@ -119,25 +119,25 @@ BinaryRowOnly = (op : Binary) (n r x y : ℕ) → Means n r (binaryReading op n 
 -- ---- (1) to (3): FOUND, NONE, FULL
 
 abbrev pub FoundSmallest : Type 0
-FoundSmallest = (i : Input) → Passes i → (root : Node) (k : Table) (n : ℕ) → search i ≡ ended (found root) k n → Found i root k
+FoundSmallest = (i : Input) → Passes i → (root : Node) (k : Table) (n : Tally) → search i ≡ ended (found root) k n → Found i root k
 
 abbrev pub NoneMeansNone : Type 0
-NoneMeansNone = (i : Input) → Passes i → (k : Table) (n : ℕ) → search i ≡ ended none k n → NoneBelow i (i .bound + 1)
+NoneMeansNone = (i : Input) → Passes i → (k : Table) (n : Tally) → search i ≡ ended none k n → NoneBelow i (i .bound + 1)
 
 abbrev pub FullNeedsRoom : Type 0
-FullNeedsRoom = (i : Input) → Passes i → (s : ℕ) (k : Table) (n : ℕ) → search i ≡ ended (full s) k n → Full i s k
+FullNeedsRoom = (i : Input) → Passes i → (s : ℕ) (k : Table) (n : Tally) → search i ≡ ended (full s) k n → Full i s k
 
 -- ---- (4): the mission's "With the same sessions, operators in the same order and choice of constants, a larger bound or table never changes
 -- a formula found"
 
 abbrev pub LargerBoundSame : Type 0
-LargerBoundSame = (i : Input) (b : ℕ) → i .bound ≤ b → (root : Node) (k : Table) (n : ℕ)
+LargerBoundSame = (i : Input) (b : ℕ) → i .bound ≤ b → (root : Node) (k : Table) (n : Tally)
     → search i ≡ ended (found root) k n → search (again i b (i .room)) ≡ ended (found root) k n
 
 -- of a larger room more holds: unless the answer was FULL, it stays, whatever it was
 abbrev pub LargerRoomSame : Type 0
 LargerRoomSame = (i : Input) (c : ℕ) → i .room ≤ c
-    → (search (again i (i .bound) c) ≡ search i) ⊎ ((s : ℕ) × (k : Table) × (n : ℕ) × (search i ≡ ended (full s) k n))
+    → (search (again i (i .bound) c) ≡ search i) ⊎ ((s : ℕ) × (k : Table) × (n : Tally) × (search i ≡ ended (full s) k n))
 
 -- the two inputs agree where they are looked at: of marks, lengths and words below r, r and m x r
 pub record AgreeWhereRead (i j : Input) : Type 0 where
@@ -163,7 +163,7 @@ pub record Wider (i j : Input) : Type 0 where
   pub room : i .room ≤ j .room
 
 abbrev pub FoundStays : Type 0
-FoundStays = (i j : Input) → Wider i j → (root : Node) (k : Table) (n : ℕ) → search i ≡ ended (found root) k n → search j ≡ ended (found root) k n
+FoundStays = (i j : Input) → Wider i j → (root : Node) (k : Table) (n : Tally) → search i ≡ ended (found root) k n → search j ≡ ended (found root) k n
 
 -- ---- (5): the count, the kept formulas, the end
 
@@ -189,14 +189,14 @@ DecidedAt {Mat} agrees cs (full s) k n =
 DecidedAt agrees cs none k n = length cs ≡ n
 
 abbrev pub TriedIsPosition : Type 0
-TriedIsPosition = (i : Input) (e : Ending) (k : Table) (n : ℕ) → search i ≡ ended e k n
-    → DecidedAt (separating i) (trail (offer i) (i .room) (i .bound)) e k n
+TriedIsPosition = (i : Input) (e : Ending) (k : Table) (n : Tally) → search i ≡ ended e k n
+    → DecidedAt (separating i) (trail (offer i) (i .room) (i .bound)) e k (n .tried)
 
 abbrev pub KeptDistinct : Type 0
-KeptDistinct = (i : Input) → Passes i → (e : Ending) (k : Table) (n : ℕ) → search i ≡ ended e k n → Kept i k
+KeptDistinct = (i : Input) → Passes i → (e : Ending) (k : Table) (n : Tally) → search i ≡ ended e k n → Kept i k
 
 abbrev pub WalkEnds : Type 0
-WalkEnds = (i : Input) → (e : Ending) × (k : Table) × (n : ℕ) × (search i ≡ ended e k n)
+WalkEnds = (i : Input) → (e : Ending) × (k : Table) × (n : Tally) × (search i ≡ ended e k n)
 
 -- "i from 1 while i < ceil(s/2)": a pair's sizes come up with the smaller, or an equal one, to the left, and each such split does
 abbrev pub LeftSizes : Type 0
@@ -218,10 +218,56 @@ TurnsAdd = (i : Input) (a b : ℕ) (c : Cut (List ℕ)) → goOn i b (goOn i a c
 -- after n candidates the walk has ended, with the whole walk's answer, and at most n were tried; or n were tried and the whole walk tries
 -- more, and what is kept is what those n came to
 abbrev pub CutOf : Input → ℕ → Cut (List ℕ) → Type 0
-CutOf i n (over e k m) = (search i ≡ ended e k m) × (m ≤ n)
+CutOf i n (over e k m) = (search i ≡ ended e k m) × (m .tried ≤ n)
 CutOf i n (more s j k m) =
-    (m ≡ n) × (n < tried (search i))
-    × (foldl (consider (offer i) (i .room)) (going [] 0) (take n (trail (offer i) (i .room) (i .bound))) ≡ going k m)
+    (m .tried ≡ n) × (n < tried (search i))
+    × (foldl (consider (offer i) (i .room)) (going [] (tally 0 0)) (take n (trail (offer i) (i .room) (i .bound))) ≡ going k m)
 
 abbrev pub CutResume : Type 0
 CutResume = (i : Input) (n : ℕ) → CutOf i n (goOn i n (begun i))
+
+-- ---- (6): request E6, what was dropped
+
+-- "plus one where FOUND or FULL ended the walk"
+abbrev pub deciding : Ending → ℕ
+deciding (found root) = 1
+deciding (full s) = 1
+deciding none = 0
+
+-- "tried equals kept plus dropped, plus one where FOUND or FULL ended the walk"
+abbrev pub AddsUp : ℕ → Tally → ℕ → Type 0
+AddsUp k n d = n .tried ≡ k + n .dropped + d
+
+abbrev pub TriedAddsUp : Type 0
+TriedAddsUp = (i : Input) (e : Ending) (k : Table) (n : Tally) → search i ≡ ended e k n → AddsUp (length k) n (deciding e)
+
+-- so it is of a cut walk; where more is to be tried, nothing has decided yet
+abbrev pub CutSum : Cut (List ℕ) → Type 0
+CutSum (over e k m) = AddsUp (length k) m (deciding e)
+CutSum (more s j k m) = AddsUp (length k) m 0
+
+abbrev pub CutAddsUp : Type 0
+CutAddsUp = (i : Input) (n : ℕ) → CutSum (goOn i n (begun i))
+
+-- the walk drops c after those before it, the next of which it is: it goes on so far, and at c it keeps what it kept and counts one more dropped
+pub record Drops (i : Input) (before : Table) (c : Candidate (List ℕ)) : Type 0 where
+  pub behind : Table
+  pub in-turn : trail (offer i) (i .room) (i .bound) ≡ before ++ (c ∷ behind)
+  pub so-far : Table
+  pub counts : Tally
+  pub goes : foldl (consider (offer i) (i .room)) (going [] (tally 0 0)) before ≡ going so-far counts
+  pub drops : consider (offer i) (i .room) (going so-far counts) c ≡ going so-far (oneDropped (oneTried counts))
+
+-- "which formula made a candidate superfluous": of the formulas k kept at the end the one at that place, and no other, has the candidate's matrix; it
+-- is no larger, and one of those before the candidate. (`c` also stands for what is beyond the list, which is never looked at.)
+pub record SuperfluousBy {Mat : Type 0} (k before : List (Candidate Mat)) (c : Candidate Mat) (place : ℕ) : Type 0 where
+  pub there : place < length k
+  pub same : getD k place c .matrix ≡ c .matrix
+  pub only : (q : ℕ) → q < length k → getD k q c .matrix ≡ c .matrix → q ≡ place
+  pub no-larger : getD k place c .node .size ≤ c .node .size
+  pub earlier : getD k place c ∈ before
+
+-- it was kept by then, so the comparison with what is kept so far answers that place (crate table, known-by)
+abbrev pub DroppedBy : Type 0
+DroppedBy = (i : Input) (e : Ending) (k : Table) (n : Tally) → search i ≡ ended e k n → (before : Table) (c : Candidate (List ℕ)) (d : Drops i before c)
+    → (place : ℕ) × (place < length (d .so-far)) × SuperfluousBy k before c place

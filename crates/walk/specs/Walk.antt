@@ -39,18 +39,38 @@ pub data Ending : Type 0 where
   full : ℕ → Ending
   none : Ending
 
--- where a walk stands: what is kept, in kept order, and the number tried
+-- the candidates that a walk has come to, and how many of them were dropped
+pub record Tally : Type 0 where
+  pub tried : ℕ
+  pub dropped : ℕ
+
+abbrev pub tally : ℕ → ℕ → Tally
+tally n d = record { tried = n; dropped = d }
+
+abbrev pub oneTried : Tally → Tally
+oneTried n = tally (suc (n .tried)) (n .dropped)
+
+abbrev pub oneDropped : Tally → Tally
+oneDropped n = tally (n .tried) (suc (n .dropped))
+
+-- where a walk stands: what is kept, in kept order, and its tally
 pub data State (Mat : Type 0) : Type 0 where
-  going : List (Candidate Mat) → ℕ → State Mat
-  ended : Ending → List (Candidate Mat) → ℕ → State Mat
+  going : List (Candidate Mat) → Tally → State Mat
+  ended : Ending → List (Candidate Mat) → Tally → State Mat
 
 abbrev pub kept : {Mat : Type 0} → State Mat → List (Candidate Mat)
 kept (going k n) = k
 kept (ended e k n) = k
 
+abbrev pub counted : {Mat : Type 0} → State Mat → Tally
+counted (going k n) = n
+counted (ended e k n) = n
+
 abbrev pub tried : {Mat : Type 0} → State Mat → ℕ
-tried (going k n) = n
-tried (ended e k n) = n
+tried st = counted st .tried
+
+abbrev pub dropped : {Mat : Type 0} → State Mat → ℕ
+dropped st = counted st .dropped
 
 abbrev pub keepIf : {A : Type 0} → Bool → A → List A → List A
 keepIf true x xs = x ∷ xs
@@ -129,17 +149,18 @@ module _ {L U B Mat : Type 0} (O : Offer L U B Mat) where
   known x (c ∷ k) = O .same x (c .matrix) || known x k
 
   -- "if its acceptance equals the marks, FOUND; else if its matrix equals a kept one in every row, dropped; else if C are kept, FULL at
-  -- size s; else kept at the next place": the three tests' answers, the candidate, what is kept, the number tried
-  unfoldable pub judge : Bool → Bool → Bool → Candidate Mat → List (Candidate Mat) → ℕ → State Mat
+  -- size s; else kept at the next place", and request E6's "Search answers gain the number dropped": the three tests' answers, the candidate, what
+  -- is kept, the tally with the candidate in it
+  unfoldable pub judge : Bool → Bool → Bool → Candidate Mat → List (Candidate Mat) → Tally → State Mat
   judge true d r c k n = ended (found (c .node)) k n
-  judge false true r c k n = going k n
+  judge false true r c k n = going k (oneDropped n)
   judge false false true c k n = ended (full (c .node .size)) k n
   judge false false false c k n = going (k ++ (c ∷ [])) n
 
   module _ (C : ℕ) where
     -- "Each candidate is counted, then: .."; after the end nothing changes
     unfoldable pub consider : State Mat → Candidate Mat → State Mat
-    consider (going k n) c = judge (O .agrees (c .matrix)) (known (c .matrix) k) (leb C (length k)) c k (suc n)
+    consider (going k n) c = judge (O .agrees (c .matrix)) (known (c .matrix) k) (leb C (length k)) c k (oneTried n)
     consider (ended e k n) c = ended e k n
 
     -- the candidates of size s, one after another
@@ -148,7 +169,7 @@ module _ {L U B Mat : Type 0} (O : Offer L U B Mat) where
 
     -- the sizes from 1 to b
     unfoldable pub after : ℕ → State Mat
-    after zero = going [] 0
+    after zero = going [] (tally 0 0)
     after (suc b) = through (suc b) (after b)
 
     -- THE WALK, with bound b and room C

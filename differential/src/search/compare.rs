@@ -89,7 +89,7 @@ fn judge(answer: u64, due: u64, input: &Input, given: &Input, lent: &Lent, expec
 fn altered(random: &mut Random, outcome: &Outcome) -> Outcome {
     let mut wrong = outcome.clone();
     let nodes = wrong.nodes.len() as u64;
-    match random.below(8) {
+    match random.below(9) {
         0 if nodes > 0 => wrong.nodes[random.below(nodes) as usize].code ^= 1,
         1 if nodes > 0 => wrong.nodes[random.below(nodes) as usize].left ^= 1,
         2 if nodes > 0 => wrong.nodes[random.below(nodes) as usize].right ^= 1,
@@ -106,6 +106,7 @@ fn altered(random: &mut Random, outcome: &Outcome) -> Outcome {
                 .truncate(wrong.matrices.len() * wrong.nodes.len() / nodes as usize);
         }
         6 => wrong.tried += 1,
+        7 => wrong.dropped += 1,
         _ => match &mut wrong.ending {
             Ending::Found(root) => root.left ^= 1,
             Ending::None => wrong.ending = Ending::Full(1),
@@ -122,7 +123,7 @@ fn said(outcome: &Outcome) -> String {
         Ending::None => "none".to_string(),
         Ending::Full(size) => format!("full size {size}"),
     };
-    format!("{ending} tried {} kept {}", outcome.tried, outcome.kept())
+    format!("{ending} tried {} kept {} dropped {}", outcome.tried, outcome.kept(), outcome.dropped)
 }
 
 impl Comparison {

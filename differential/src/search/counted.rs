@@ -29,6 +29,8 @@ struct Count {
     /// More candidates than this are not tried, so that a random input can't run for hours.
     limit: u64,
     tried: Cell<u64>,
+    /// Those that the Rust's line did not take.
+    dropped: Cell<u64>,
     kept: Cell<usize>,
     stopped: Cell<Option<Stop>>,
 }
@@ -77,6 +79,8 @@ impl EnumFormulaCacheLine<LtlCharac> for CountedLine<'_> {
             } else {
                 count.kept.set(count.kept.get() + 1);
             }
+        } else {
+            count.dropped.set(count.dropped.get() + 1);
         }
         new
     }
@@ -183,6 +187,7 @@ pub struct End {
     stopped: Option<Stop>,
     pub tried: u64,
     pub kept: usize,
+    pub dropped: u64,
 }
 
 impl Start {
@@ -201,6 +206,7 @@ impl Start {
                 room: input.room,
                 limit,
                 tried: Cell::new(0),
+                dropped: Cell::new(0),
                 kept: Cell::new(0),
                 stopped: Cell::new(None),
             }),
@@ -236,6 +242,7 @@ impl Start {
             cache: cache.cache,
             tried: self.count.tried.get() + (found.is_some() && stopped.is_none()) as u64,
             kept: self.count.kept.get(),
+            dropped: self.count.dropped.get(),
             found,
             stopped,
         }
@@ -300,6 +307,7 @@ pub fn outcome(input: &Input, limit: u64) -> Result<Outcome, usize> {
     Ok(Outcome {
         ending,
         tried: end.tried,
+        dropped: end.dropped,
         nodes,
         matrices,
     })

@@ -40,6 +40,7 @@ pub enum Ending {
 pub struct Outcome {
     pub ending: Ending,
     pub tried: u64,
+    pub dropped: u64,
     pub nodes: Vec<Node>,
     pub matrices: Vec<u64>,
 }

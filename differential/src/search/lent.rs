@@ -33,7 +33,7 @@ impl Lens {
             rights: input.room,
             sizes: input.room,
             matrices: input.room * input.r,
-            out: 8,
+            out: 16,
         }
     }
 }
@@ -83,6 +83,7 @@ impl Lent {
         }
         self.out[2] = outcome.tried;
         self.out[3] = outcome.kept() as u64;
+        self.out[8] = outcome.dropped;
     }
 
     /// The first place at which the two differ.

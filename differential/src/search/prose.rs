@@ -26,6 +26,7 @@ struct Walk<'a> {
     /// More candidates than this are not tried.
     limit: u64,
     tried: u64,
+    dropped: u64,
     kept: Vec<(Node, Vec<u64>)>,
 }
 
@@ -49,6 +50,7 @@ impl Walk<'_> {
             return Some(Ending::Found(node));
         }
         if self.kept.iter().any(|kept| kept.1 == matrix) {
+            self.dropped += 1;
             return None;
         }
         if self.kept.len() == self.input.room {
@@ -139,6 +141,7 @@ pub fn outcome(input: &Input, limit: u64) -> Result<Outcome, usize> {
         input,
         limit,
         tried: 0,
+        dropped: 0,
         kept: vec![],
     };
     let mut ending = walk.leaves();
@@ -153,6 +156,7 @@ pub fn outcome(input: &Input, limit: u64) -> Result<Outcome, usize> {
     Ok(Outcome {
         ending: ending.unwrap_or(Ending::None),
         tried: walk.tried,
+        dropped: walk.dropped,
         nodes: walk.kept.iter().map(|kept| kept.0).collect(),
         matrices: walk.kept.into_iter().flat_map(|kept| kept.1).collect(),
     })

@@ -20,7 +20,7 @@ pub fn number(input: &Input, lens: &Lens) -> u64 {
         || input.words.len() < m * r
         || nodes.iter().any(|count| *count < room)
         || lens.matrices < room * r
-        || lens.out < 8;
+        || lens.out < 16;
     if short {
         return 3;
     }
@@ -120,7 +120,7 @@ fn break_one(random: &mut Random, input: &mut Input, lens: &mut Lens, r: usize, 
             *count = below(random, *count);
         }
         9 => lens.matrices = below(random, lens.matrices),
-        10 => lens.out = below(random, 8),
+        10 => lens.out = below(random, 16),
         11 | 12 => {
             if let Some(length) = input.lengths.get_mut(session) {
                 *length = if random.below(2) == 0 {

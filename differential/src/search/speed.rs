@@ -109,7 +109,7 @@ fn measure(library: &mut Linked, set: &Set) -> bool {
             let began = Instant::now();
             let end = Start::new(input, u64::MAX).search();
             time += began.elapsed();
-            ends.push((end.tried, end.kept as u64));
+            ends.push((end.tried, end.kept as u64, end.dropped));
         }
         rust.push(time);
         let began = Instant::now();
@@ -121,7 +121,7 @@ fn measure(library: &mut Linked, set: &Set) -> bool {
     let alike = ends
         .iter()
         .zip(&lents)
-        .all(|(end, lent)| *end == (lent.out[2], lent.out[3]));
+        .all(|(end, lent)| *end == (lent.out[2], lent.out[3], lent.out[8]));
     let tried: u64 = lents.iter().map(|lent| lent.out[2]).sum();
     let kept: u64 = lents.iter().map(|lent| lent.out[3]).sum();
     let (rust, ours) = (Times::new(rust), Times::new(ours));

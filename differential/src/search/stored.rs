@@ -158,11 +158,11 @@ pub fn lines() -> String {
             rights: vec![9; PLACES],
             sizes: vec![9; PLACES],
             matrices: vec![9; WORDS],
-            out: vec![0; 8],
+            out: vec![0; 16],
         };
         lent.write(&outcome);
-        let (tried, kept) = (outcome.tried, outcome.kept());
-        let counts = format!("tried {tried} kept {kept}");
+        let (tried, kept, dropped) = (outcome.tried, outcome.kept(), outcome.dropped);
+        let counts = format!("tried {tried} kept {kept} dropped {dropped}");
         let answer = match outcome.ending {
             Ending::Found(root) => format!(
                 "found size {} {counts} root {} {} {} {}",

@@ -76,7 +76,7 @@ returns : tie.Need-returns
 returns c = let a = c .before .before .before .before .before .before .before .before .before .before .before .before .before .before .before .before .before .before .before .before .before .before .before .before .before .before .args in λ names next e.
     found-written (a .names .now) (nodes (a .codes .now) (a .lefts .now) (a .rights .now) (a .sizes .now)) (nodeOf (a .root)) (c .before .before .before .before .before .before .before .before .before .before .before .before .before .before .before .before .before .before .before .before .before .before .before .before .before .before .pre .0) _ refl (c .before .before .before .before .before .before .before .before .before .before .before .before .before .before .before .before .before .before .print .result) _ (c .before .before .before .before .before .before .before .before .before .before .before .before .before .before .before .before .before .before .print .ensures)
     (text-front (a .names .now) (nodes (a .codes .now) (a .lefts .now) (a .rights .now) (a .sizes .now)) (nodeOf (a .root)) (c .before .before .before .before .before .before .before .before .before .before .before .before .before .before .before .before .before .before .before .before .before .before .before .before .before .before .pre .0) _ refl (c .before .before .before .before .before .before .before .before .before .before .before .before .before .before .before .before .before .before .print .result) _ (c .before .before .before .before .before .before .before .before .before .before .before .before .before .before .before .before .before .before .print .ensures) (c .before .before .before .before .before .before .before .before .before .before .before .before .before .before .before .printed .given .1))
-    names next e (a .root .size) (a .tried) (length (a .codes .now)) (c .before .before .before .before .before .before .before .before .before .before .before .before .before .before .before .before .before .before .before .before .before .before .before .before .before .before .pre .1) (c .before .before .before .before .before .before .before .before .before .before .before .before .found .ensures) (c .before .before .before .before .before .before .before .put .ensures) (c .before .before .put2 .ensures)
+    names next e (a .root .size) (a .tried) (length (a .codes .now)) (a .dropped) (c .before .before .before .before .before .before .before .before .before .before .before .before .before .before .before .before .before .before .before .before .before .before .before .before .before .before .pre .1) (c .before .before .before .before .before .before .before .before .before .before .before .before .found .ensures) (c .before .before .before .before .before .before .before .put .ensures) (c .before .before .put2 .ensures)
 
 -- src/lib.rt:17:1
 same-length-2 : tie.Need-same-length-2

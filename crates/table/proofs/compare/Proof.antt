@@ -1,65 +1,54 @@
--- `compare` meets its contract: the first difference decides.
+-- `compare` meets its contract: each refusal is the first row that is given, and else the comparison at the place decides.
 -- Assumes nothing.
-use mathlib.Core.Path.{subst}
-use Prim.Native.Nat.{ℕ}
+use mathlib.Core.Logic.{inl, inr}
 use native.Mathlib.Omega.{arith}
 use borrow.Author.Needs.{needs}
 use Rattle.rules.specs.Limits.{mostSessions}
-use Rattle.table.specs.Compare.{CompareAsk, Same}
-use Rattle.table.proofs.Comparing.{same-below, differs-here}
+use Rattle.table.proofs.Differences.{refused-one, refused-three, compared}
 use Rattle.rows.proofs.Products.{at-most}
 use Rattle.table.proofs.compare.Statement.{statement}
 use Rattle.table.proofs.compare.Tie as tie
 
 returns : tie.Need-returns
-returns c = search needs
+returns c = refused-one _ _ _ _ (inl (omega arith))
 
 returns-2 : tie.Need-returns-2
-returns-2 c = search needs
+returns-2 c = refused-one _ _ _ _ (inr (omega arith))
+
+returns-3 : tie.Need-returns-3
+returns-3 c = refused-three _ _ _ _ (omega arith) (omega arith) (inr (omega arith))
 
 cast-from : tie.Need-cast-from
 cast-from c = search needs
 
 mul-from : tie.Need-mul-from
-mul-from c = let a = c .before .before .before .before .before .args in omega (arith, at-most (a .place .0) 65535 (a .r) mostSessions (omega arith) (omega arith))
+mul-from c = let a = c .before .before .before .before .before .before .args in omega (arith, at-most (a .place .0) 65535 (a .r) mostSessions (omega arith) (omega arith))
 
-add-if3 : tie.Need-add-if3
-add-if3 c = let a = c .before .before .before .before .before .args in omega (arith, at-most (a .place .0) 65535 (a .r) mostSessions (omega arith) (omega arith))
-
-returns-3 : tie.Need-returns-3
-returns-3 c = search needs
-
-mul-first-difference : tie.Need-mul-first-difference
-mul-first-difference c = search needs
-
-sub-first-difference : tie.Need-sub-first-difference
-sub-first-difference c = search needs
-
-part-first-difference-start : tie.Need-part-first-difference-start
-part-first-difference-start c = search needs
-
-part-first-difference-end : tie.Need-part-first-difference-end
-part-first-difference-end c = search needs
-
-first-difference-requires : tie.Need-first-difference-requires
-first-difference-requires c κs = search needs
-
-cast-t13 : tie.Need-cast-t13
-cast-t13 c = search needs
+add-if4 : tie.Need-add-if4
+add-if4 c = let a = c .before .before .before .before .before .before .args in omega (arith, at-most (a .place .0) 65535 (a .r) mostSessions (omega arith) (omega arith))
 
 returns-4 : tie.Need-returns-4
-returns-4 c =
-    let a = c .before .before .before .before .before .before .before .before .before .args in
-    let f = c .before .first-difference .ensures in
-    let ask : CompareAsk (a .r) (a .matrices .now) (a .rows .now) (a .place .0) = search needs in
-    (ask, c .if4 .taken, same-below ask f, differs-here ask f (c .if4 .taken))
+returns-4 c = refused-three _ _ _ _ (omega arith) (omega arith) (inl (omega arith))
+
+mul-compare-at : tie.Need-mul-compare-at
+mul-compare-at c = search needs
+
+sub-compare-at : tie.Need-sub-compare-at
+sub-compare-at c = search needs
+
+part-compare-at-start : tie.Need-part-compare-at-start
+part-compare-at-start c = search needs
+
+part-compare-at-end : tie.Need-part-compare-at-end
+part-compare-at-end c = search needs
+
+compare-at-requires : tie.Need-compare-at-requires
+compare-at-requires c κs = search needs
 
 returns-5 : tie.Need-returns-5
 returns-5 c =
     let a = c .before .before .before .before .before .before .before .before .before .args in
-    let f = c .before .first-difference .ensures in
-    let ask : CompareAsk (a .r) (a .matrices .now) (a .rows .now) (a .place .0) = search needs in
-    (ask, λ j l. same-below ask f j (omega arith))
+    compared (a .r) (a .place .0) (a .matrices .now) (a .words .now) (omega arith) (omega arith) (omega arith) (omega arith) (c .compare-at .result) (c .compare-at .ensures)
 
 pub compare-spec : {M : Type 1} → statement M
 compare-spec =
@@ -67,15 +56,14 @@ compare-spec =
     (tie.spec
     returns
     returns-2
+    returns-3
     cast-from
     mul-from
-    add-if3
-    returns-3
-    mul-first-difference
-    sub-first-difference
-    part-first-difference-start
-    part-first-difference-end
-    first-difference-requires
-    cast-t13
+    add-if4
     returns-4
+    mul-compare-at
+    sub-compare-at
+    part-compare-at-start
+    part-compare-at-end
+    compare-at-requires
     returns-5)

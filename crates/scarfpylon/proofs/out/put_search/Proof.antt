@@ -48,35 +48,44 @@ cast-out-5 c = search needs
 slice-write-out-8 : tie.Need-slice-write-out-8
 slice-write-out-8 c = simp length-set (omega arith)
 
+slice-write-out-9 : tie.Need-slice-write-out-9
+slice-write-out-9 c = simp length-set (omega arith)
+
 enum-known-answer-2 : tie.Need-enum-known-answer-2
 enum-known-answer-2 c = search needs
 
-slice-write-out-9 : tie.Need-slice-write-out-9
-slice-write-out-9 c = search needs
-
 slice-write-out-10 : tie.Need-slice-write-out-10
-slice-write-out-10 c = simp length-set (omega arith)
+slice-write-out-10 c = search needs
 
 slice-write-out-11 : tie.Need-slice-write-out-11
 slice-write-out-11 c = simp length-set (omega arith)
 
-enum-known-answer-3 : tie.Need-enum-known-answer-3
-enum-known-answer-3 c = search needs
-
 slice-write-out-12 : tie.Need-slice-write-out-12
-slice-write-out-12 c = search needs
-
-cast-out-6 : tie.Need-cast-out-6
-cast-out-6 c = search needs
+slice-write-out-12 c = simp length-set (omega arith)
 
 slice-write-out-13 : tie.Need-slice-write-out-13
 slice-write-out-13 c = simp length-set (omega arith)
 
+enum-known-answer-3 : tie.Need-enum-known-answer-3
+enum-known-answer-3 c = search needs
+
 slice-write-out-14 : tie.Need-slice-write-out-14
-slice-write-out-14 c = simp length-set (omega arith)
+slice-write-out-14 c = search needs
+
+cast-out-6 : tie.Need-cast-out-6
+cast-out-6 c = search needs
 
 slice-write-out-15 : tie.Need-slice-write-out-15
 slice-write-out-15 c = simp length-set (omega arith)
+
+slice-write-out-16 : tie.Need-slice-write-out-16
+slice-write-out-16 c = simp length-set (omega arith)
+
+slice-write-out-17 : tie.Need-slice-write-out-17
+slice-write-out-17 c = simp length-set (omega arith)
+
+slice-write-out-18 : tie.Need-slice-write-out-18
+slice-write-out-18 c = simp length-set (omega arith)
 
 enum-told : tie.Need-enum-told
 enum-told c = search needs
@@ -120,16 +129,19 @@ put-search-spec =
     slice-write-out-7
     cast-out-5
     slice-write-out-8
-    enum-known-answer-2
     slice-write-out-9
+    enum-known-answer-2
     slice-write-out-10
     slice-write-out-11
-    enum-known-answer-3
     slice-write-out-12
-    cast-out-6
     slice-write-out-13
+    enum-known-answer-3
     slice-write-out-14
+    cast-out-6
     slice-write-out-15
+    slice-write-out-16
+    slice-write-out-17
+    slice-write-out-18
     enum-told
     same-length
     returns

@@ -148,6 +148,7 @@ judge-requires c κs =
       room-in = c₃₁ .pre .room-in;
       kept-in = c₁₂ .loop .inv .1 .kept-in;
       counts = counts-one (c₃₁ .pre) (c₁₂ .loop .inv .1) (rw (c₈ .step .given .1) at (c₁₀ .next .ensures));
+      few = c₁₂ .loop .inv .1 .few;
     }
 
 enum-known-stand : tie.Need-enum-known-stand Inv-loop μ-loop

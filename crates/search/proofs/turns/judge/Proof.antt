@@ -10,6 +10,9 @@ use Rattle.search.proofs.turns.judge.Tie as tie
 add-tried : tie.Need-add-tried
 add-tried c = search needs
 
+add-next : tie.Need-add-next
+add-next c = search needs
+
 rows-of-requires : tie.Need-rows-of-requires
 rows-of-requires c κs = search needs
 
@@ -30,6 +33,7 @@ returns c =
     record {
       tries = refl;
       kept-in = c₁₉ .pre .kept-in;
+      few = omega (arith, c₁₉ .pre .few);
       runs = λ unary binary t₀ k x ok room m long h e p.
           stands-found ok h p m long (record { filled = c₅ .rows-of .result; answer = c₅ .rows-of .ensures }) _ _ e (sym (c .if1 .taken) ∙ c₁ .agrees .ensures);
     }
@@ -60,6 +64,7 @@ returns-2 c =
     record {
       tries = refl;
       kept-in = c₂₄ .pre .kept-in;
+      few = omega (arith, c₂₄ .pre .few);
       runs = λ unary binary t₀ k x ok room m long h e p.
           stands-dropped ok h p m long (record { filled = c₁₀ .rows-of .result; answer = c₁₀ .rows-of .ensures }) _ _ e (sym (c₅ .if1 .left) ∙ c₆ .agrees .ensures)
           (c₂₄ .pre .kept-in) (repeats (c₂ .known-at .result) (c₁ .match .keys2) (c₂ .known-at .ensures));
@@ -82,19 +87,20 @@ returns-3 c =
     record {
       tries = refl;
       kept-in = c₂₆ .pre .kept-in;
+      few = omega (arith, c₂₆ .pre .few);
       runs = λ unary binary t₀ k x ok room m long h e p.
           stands-full ok h p m long (record { filled = c₁₂ .rows-of .result; answer = c₁₂ .rows-of .ensures }) _ _ e (sym (c₇ .if1 .left) ∙ c₈ .agrees .ensures)
           (c₂₆ .pre .kept-in) (fresh (c₄ .known-at .result) (c₃ .match .keys1) (c₄ .known-at .ensures)) (c .if2 .taken);
     }
 
-cast-t35 : tie.Need-cast-t35
-cast-t35 c = search needs
+cast-t37 : tie.Need-cast-t37
+cast-t37 c = search needs
 
 keep-requires : tie.Need-keep-requires
 keep-requires c κs = search needs
 
-add-t47 : tie.Need-add-t47
-add-t47 c = search needs
+add-t49 : tie.Need-add-t49
+add-t49 c = search needs
 
 same-length-7 : tie.Need-same-length-7
 same-length-7 c = search needs
@@ -127,6 +133,7 @@ returns-4 c =
     record {
       tries = refl;
       kept-in = omega (arith, c₁₇ .if2 .left);
+      few = omega (arith, c₄₃ .pre .few);
       runs = λ unary binary t₀ k x ok room m long h e p.
           stands-kept ok h p m long (record { filled = c₂₉ .rows-of .result; answer = c₂₉ .rows-of .ensures }) _ _ e (sym (c₂₄ .if1 .left) ∙ c₂₅ .agrees .ensures)
           (c₄₃ .pre .kept-in) (fresh (c₂₁ .known-at .result) (c₂₀ .match .keys1) (c₂₁ .known-at .ensures)) (c₁₇ .if2 .left) (room-at _ room (c₁₇ .if2 .left))
@@ -138,6 +145,7 @@ judge-spec =
     tie.close
     (tie.spec
     add-tried
+    add-next
     rows-of-requires
     agrees-requires
     same-length
@@ -152,9 +160,9 @@ judge-spec =
     same-length-5
     same-length-6
     returns-3
-    cast-t35
+    cast-t37
     keep-requires
-    add-t47
+    add-t49
     same-length-7
     same-length-8
     same-length-9

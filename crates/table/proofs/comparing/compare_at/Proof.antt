@@ -1,18 +1,18 @@
--- `first_difference` meets its contract: the rows passed are equal.
+-- `compare_at` meets its contract: the rows passed are equal.
 -- Assumes nothing.
-use mathlib.Core.Path.{_≡_}
+use mathlib.Core.Path.{_≡_, refl}
 use Prim.Native.Nat.{ℕ, _-_, _≤_, _<_}
 use native.Mathlib.Omega.{arith}
 use lib.ListN.{getD}
 use borrow.Author.Count.{below-more}
-use Rattle.table.proofs.tests.first_difference.Statement.{statement}
-use Rattle.table.proofs.tests.first_difference.Tie as tie
+use Rattle.table.proofs.comparing.compare_at.Statement.{statement}
+use Rattle.table.proofs.comparing.compare_at.Tie as tie
 
 abbrev Inv-loop : tie.InvT-loop
-Inv-loop r x rows j₀ j = (j ≤ r) × ((t : ℕ) → t < j → getD rows t 0 ≡ getD x t 0)
+Inv-loop r place x rows j₀ j = (j ≤ r) × ((t : ℕ) → t < j → getD rows t 0 ≡ getD x t 0)
 
 abbrev μ-loop : tie.MeasureT-loop
-μ-loop r x rows j₀ j = r - j
+μ-loop r place x rows j₀ j = r - j
 
 loop-holds : tie.Need-loop-holds Inv-loop μ-loop
 loop-holds c = (omega arith, λ t h. absurd (omega arith))
@@ -29,8 +29,11 @@ mul-if1-2 c = omega arith
 shared-slice-read-if1-2 : tie.Need-shared-slice-read-if1-2 Inv-loop μ-loop
 shared-slice-read-if1-2 c = omega arith
 
+cast-session : tie.Need-cast-session Inv-loop μ-loop
+cast-session c = omega arith
+
 returns : tie.Need-returns Inv-loop μ-loop
-returns c = record { within = omega arith; before = c .before .before .before .before .loop .inv .1; here = λ h. c .if1 .taken }
+returns c = (omega arith, c .before .before .before .before .loop .inv .1, c .if1 .taken)
 
 add-j : tie.Need-add-j Inv-loop μ-loop
 add-j c = omega arith
@@ -42,10 +45,10 @@ loop-again : tie.Need-loop-again Inv-loop μ-loop
 loop-again c = (omega arith, below-more _ _ (c .before .before .before .before .loop .inv .1) (c .if1 .left))
 
 returns-2 : tie.Need-returns-2 Inv-loop μ-loop
-returns-2 c = record { within = omega arith; before = λ t h. c .before .loop .inv .1 t (omega arith); here = λ h. absurd (omega arith) }
+returns-2 c = (refl, λ t h. c .before .loop .inv .1 t (omega arith))
 
-pub first-difference-spec : {M : Type 1} → statement M
-first-difference-spec =
+pub compare-at-spec : {M : Type 1} → statement M
+compare-at-spec =
     tie.close
     (tie.spec
     Inv-loop
@@ -55,6 +58,7 @@ first-difference-spec =
     shared-slice-read-if1
     mul-if1-2
     shared-slice-read-if1-2
+    cast-session
     returns
     add-j
     loop-less
