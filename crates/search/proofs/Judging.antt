@@ -4,11 +4,11 @@ use mathlib.Core.Path.{_≡_, refl, sym, ap, _∙_, subst}
 use mathlib.Core.Logic.{_⊎_, inl, inr}
 use mathlib.Core.Bool.{Bool, true, false}
 use mathlib.Core.List.{List, [], _∷_, _++_, map}
-use Prim.Native.Nat.{ℕ, suc, _+_, _-_, _*_, _≤_, _<_}
+use Prim.Native.Nat.{ℕ, zero, suc, _+_, _-_, _*_, _^_, _≤_, _<_}
 use native.Mathlib.Omega.{arith}
 use native.Mathlib.Numerals.{add-one}
 use native.Mathlib.Decide.{decLe}
-use lib.ListN.{length, getD, take, length-append, List·getD-append}
+use lib.ListN.{length, take, drop, length-append, length-drop, List·getD-append}
 use lib.Seq.{getD-append-seam}
 use denote.Enum.Declared.{tagOf}
 use borrow.Author.Tests.{le-leb, lt-leb}
@@ -16,17 +16,19 @@ use Rattle.rules.specs.declared.kinds.Place.{Place}
 use Rattle.formula.specs.declared.kinds.Node.{Node}
 use Rattle.formula.specs.Kinds.{nodeOf}
 use Rattle.formula.specs.Nodes as nodes
-use Rattle.walk.specs.Walk.{Candidate, found, full, State, going, ended, kept, judge, consider}
+use Rattle.walk.specs.Walk.{Candidate, found, full, State, going, ended, kept, layer, judge, consider}
 use Rattle.walk.specs.Walk as walk
 use Rattle.walk.specs.Input.{Input, Passes, separating, offer}
 use Rattle.walk.specs.Promises.{Table}
-use Rattle.walk.proofs.Places.{sizeAt, Split}
+use Rattle.walk.proofs.Places.{sizeAt, split-push}
 use Rattle.order.specs.declared.Cursor.{Cursor}
-use Rattle.order.specs.declared.Step.the-variants.{Candidate as Told}
+use Rattle.order.specs.declared.Step.the-variants.{Candidate as Told, End}
 use Rattle.order.specs.Size.{Cand, cand, start}
-use Rattle.order.specs.Ahead.{rest}
+use Rattle.order.specs.Ahead.{ahead, candidateAt, rest, first}
 use Rattle.order.specs.Steps.{Rises, Steps}
-use Rattle.order.proofs.Rest.{step-left, step-safe}
+use Rattle.order.proofs.Cursors.{after-step}
+use Rattle.order.proofs.Layers.{first-layer}
+use Rattle.order.proofs.Rest.{step-left, step-safe, end-left}
 use Rattle.table.specs.declared.Known.{Known}
 use Rattle.table.specs.declared.Known.the-variants.{At, New}
 use Rattle.table.specs.Slices.{Cols}
@@ -43,12 +45,13 @@ use Rattle.rows.specs.Formulas as matrices
 use Rattle.table.proofs.Acceptance.{agrees-separating}
 use Rattle.table.proofs.Duplicates.{known-is-known}
 use Rattle.table.proofs.Kept.{held-is-stored, keep-grows}
+use Rattle.search.specs.declared.counts.Counts.{Counts}
 use Rattle.search.specs.declared.given.Given.{Given}
 use Rattle.search.specs.declared.turns.Stand.{Stand}
 use Rattle.search.specs.declared.turns.Stand.the-variants.{Going, Found, Full}
-use Rattle.search.specs.Turns.{input, Room, Stood, Posed, make, sizesLeft, layerAt, walkLeft, Standing}
-use Rattle.search.proofs.Making.{made-written, made-base, safe-makes}
-use Rattle.search.proofs.Left.{left-less}
+use Rattle.search.specs.Slices.{layerAt}
+use Rattle.search.specs.Turns.{input, Room, oneMore, Stood, make, Standing, PointAt, Posed}
+use Rattle.search.proofs.Making.{made-written, safe-makes, offered}
 
 -- ---- what the table's functions answered
 
@@ -133,12 +136,15 @@ module _ {i : Input} (ok : Passes i) {t₀ t : Cols} {k : Table} (h : Holds i k 
   separates : (v : Bool) → v ≡ agreeing (i .recording .sessions) (i .recording .marks) (i .recording .lengths) rows → separating i (x .matrix) ≡ v
   separates v e = ap (separating i) (sym rows-are) ∙ sym (agrees-separating i ok rows rows-long) ∙ sym e
 
-  module _ (n kept : ℕ) (counted : kept ≡ length k) where
+  module _ (n kept : ℕ) (fits : n + 1 < 2 ^ 64) (counted : kept ≡ length k) where
+    one : n + 1 ≡ oneMore n
+    one = omega arith
+
     pub stands-found : true ≡ agreeing (i .recording .sessions) (i .recording .marks) (i .recording .lengths) rows
-        → Stood i t₀ (consider (offer i) (i .room) (going k n) x) t (Found node (record { tried = n + 1; kept = kept }))
+        → Stood i t₀ (consider (offer i) (i .room) (going k n) x) t (Found node (record { tried = oneMore n; kept = kept }))
     stands-found e = record {
       table = k;
-      is = con-found i k n x (separates true e) ∙ ap (λ (z : nodes.Node). ended (found z) k (n + 1)) (p .node-is);
+      is = con-found i k n x (separates true e) ∙ ap (λ (z : nodes.Node). ended (found z) k (n + 1)) (p .node-is) ∙ ap (ended (found (nodeOf node)) k) one;
       counted = counted;
       holds = h;
     }
@@ -151,28 +157,33 @@ module _ {i : Input} (ok : Passes i) {t₀ t : Cols} {k : Table} (h : Holds i k 
           (subst (λ (z : ℕ). KnownAnswer (i .recording .sessions) (t .matrices) rows z a) counted v)
 
       pub stands-dropped : Repeats (i .recording .sessions) (t .matrices) rows kept
-          → Stood i t₀ (consider (offer i) (i .room) (going k n) x) t (Going (record { tried = n + 1; kept = kept }))
-      stands-dropped v = record { table = k; is = con-known i k n x (separates false e) (knows (At (v .place)) (v .answer)); counted = counted; holds = h }
+          → Stood i t₀ (consider (offer i) (i .room) (going k n) x) t (Going (record { tried = oneMore n; kept = kept }))
+      stands-dropped v = record {
+        table = k;
+        is = con-known i k n x (separates false e) (knows (At (v .place)) (v .answer)) ∙ ap (going k) one;
+        counted = counted;
+        holds = h;
+      }
 
       module _ (v : Fresh (i .recording .sessions) (t .matrices) rows kept) where
-        pub stands-full : i .room ≤ kept → Stood i t₀ (consider (offer i) (i .room) (going k n) x) t (Full (node .size) (record { tried = n + 1; kept = kept }))
+        pub stands-full : i .room ≤ kept → Stood i t₀ (consider (offer i) (i .room) (going k n) x) t (Full (node .size) (record { tried = oneMore n; kept = kept }))
         stands-full l = record {
           table = k;
           is = con-full i k n x (separates false e) (knows New (v .answer)) (omega (arith, counted))
-              ∙ ap (λ (z : nodes.Node). ended (full (z .size)) k (n + 1)) (p .node-is);
+              ∙ ap (λ (z : nodes.Node). ended (full (z .size)) k (n + 1)) (p .node-is) ∙ ap (ended (full (node .size)) k) one;
           counted = counted;
           holds = h;
         }
 
         pub stands-kept : {t′ : Cols} → kept < i .room → RoomAt i kept t₀ → Keeps (i .recording .sessions) rows kept (nodeOf node) t t′
-            → Stood i t₀ (consider (offer i) (i .room) (going k n) x) t′ (Going (record { tried = n + 1; kept = kept + 1 }))
+            → Stood i t₀ (consider (offer i) (i .room) (going k n) x) t′ (Going (record { tried = oneMore n; kept = kept + 1 }))
         stands-kept {t′} l room z =
             let room′ = subst (λ (q : ℕ). RoomAt i q t₀) counted room in
             let a = subst (λ (q : ℕ). KeepAnswer (i .recording .sessions) rows q (nodeOf node) t t′ (z .done)) counted (z .answer) in
             let b = subst (λ (q : nodes.Node). KeepAnswer (i .recording .sessions) rows (length k) q t t′ (z .done)) (sym (p .node-is)) a in
             record {
               table = k ++ (x ∷ []);
-              is = con-kept i k n x (separates false e) (knows New (v .answer)) (omega (arith, counted));
+              is = con-kept i k n x (separates false e) (knows New (v .answer)) (omega (arith, counted)) ∙ ap (going (k ++ (x ∷ []))) one;
               counted = omega (arith, counted, length-append k (x ∷ []));
               holds = keep-grows i ok k t₀ t t′ h room′ rows x rows-long rows-are fine (z .done) b .1;
             }
@@ -191,24 +202,21 @@ goes-table : (i : Input) (k k′ : Table) (n n′ : ℕ) (x : Candidate (List �
 unfolding consider
 goes-table i k k′ n n′ x e = judged-table i k k′ (suc n) n′ x _ _ _ e
 
-module _ {i : Input} {t₀ t t′ : Cols} {k₀ k : Table} {starts : List ℕ} {s kept kept′ : ℕ} (w : Standing i t₀ t k₀ k starts s kept) (x : Candidate (List ℕ))
+module _ {i : Input} {t₀ t t′ : Cols} {k : Table} {starts : List ℕ} {s kept kept′ : ℕ} (w : Standing i t₀ t k starts s kept) (x : Candidate (List ℕ))
     (size : x .node .size ≡ s) where
   module _ (h : Holds i (k ++ (x ∷ [])) t₀ t′) (counted : kept′ ≡ length (k ++ (x ∷ []))) where
     more : length (k ++ (x ∷ [])) ≡ length k + 1
     more = length-append k (x ∷ [])
 
-    old : (p : ℕ) → p < length k → getD (k ++ (x ∷ [])) p nothing ≡ getD k p nothing
-    old p l = List·getD-append k (x ∷ []) nothing p l
-
     old-size : (p : ℕ) → p < length k → sizeAt nothing (k ++ (x ∷ [])) p ≡ sizeAt nothing k p
-    old-size p l = ap (λ (c : Candidate (List ℕ)). c .node .size) (old p l)
+    old-size p l = ap (λ (c : Candidate (List ℕ)). c .node .size) (List·getD-append k (x ∷ []) nothing p l)
 
     new-size : (p : ℕ) → length k ≤ p → p < length (k ++ (x ∷ [])) → sizeAt nothing (k ++ (x ∷ [])) p ≡ s
     new-size p l m =
         let e : p ≡ length k = omega (arith, more) in
         ap (λ (q : ℕ). sizeAt nothing (k ++ (x ∷ [])) q) e ∙ ap (λ (c : Candidate (List ℕ)). c .node .size) (getD-append-seam k x [] nothing) ∙ size
 
-    standing-more : Standing i t₀ t′ k₀ (k ++ (x ∷ [])) starts s kept′
+    standing-more : Standing i t₀ t′ (k ++ (x ∷ [])) starts s kept′
     standing-more = record {
       counted = counted;
       holds = h;
@@ -223,55 +231,67 @@ module _ {i : Input} {t₀ t t′ : Cols} {k₀ k : Table} {starts : List ℕ} {
         | yes z ↦ omega (arith, old-size p z, w .small p z)
         | no z ↦ omega (arith, new-size p (omega arith) a)
       ];
-      less = omega (arith, more, w .less);
-      same = λ p a. old p (omega (arith, w .less)) ∙ w .same p a;
-      begins = w .begins;
+      begins = λ u l. split-push nothing k u (start starts u) x (w .begins u l) (omega (arith, size));
     }
 
-  pub standing-after : (k′ : Table) → (k′ ≡ k) ⊎ (k′ ≡ k ++ (x ∷ [])) → Holds i k′ t₀ t′ → kept′ ≡ length k′ → Standing i t₀ t′ k₀ k′ starts s kept′
+  pub standing-after : (k′ : Table) → (k′ ≡ k) ⊎ (k′ ≡ k ++ (x ∷ [])) → Holds i k′ t₀ t′ → kept′ ≡ length k′ → Standing i t₀ t′ k′ starts s kept′
   standing-after k′ (inl e) h c =
-      subst (λ (z : Table). Standing i t₀ t′ k₀ z starts s kept′) (sym e)
-      (record {
-        counted = c ∙ ap length e;
-        holds = subst (λ (z : Table). Holds i z t₀ t′) e h;
-        rising = w .rising;
-        small = w .small;
-        less = w .less;
-        same = w .same;
-        begins = w .begins;
-      })
+      subst (λ (z : Table). Standing i t₀ t′ z starts s kept′) (sym e)
+      (record { counted = c ∙ ap length e; holds = subst (λ (z : Table). Holds i z t₀ t′) e h; rising = w .rising; small = w .small; begins = w .begins })
   standing-after k′ (inr e) h c =
-      subst (λ (z : Table). Standing i t₀ t′ k₀ z starts s kept′) (sym e) (standing-more (subst (λ (z : Table). Holds i z t₀ t′) e h) (c ∙ ap length e))
+      subst (λ (z : Table). Standing i t₀ t′ z starts s kept′) (sym e) (standing-more (subst (λ (z : Table). Holds i z t₀ t′) e h) (c ∙ ap length e))
 
--- ---- the candidate that a step tells
+-- ---- the candidates that are left, as the walk has them
 
-module _ {i : Input} (ok : Passes i) {t₀ t : Cols} {k₀ k : Table} {starts : List ℕ} {s kept : ℕ} (w : Standing i t₀ t k₀ k starts s kept)
-    (low : 1 ≤ s) (high : s ≤ i .bound) (rises : Rises (layerAt i s starts)) {at next : Cursor} {code : ℕ} {a b : Place}
-    (step : Steps (layerAt i s starts) at (Told code a b next)) where
-  abbrev told : Cand
-  told = cand code (a .0) (b .0)
+drop-map : {A B : Type 0} (f : A → B) (l : List A) (j : ℕ) → drop j (map f l) ≡ map f (drop j l)
+drop-map f [] zero = refl
+drop-map f [] (suc j) = refl
+drop-map f (x ∷ l) zero = refl
+drop-map f (x ∷ l) (suc j) = drop-map f l j
 
-  abbrev formula : Candidate (List ℕ)
-  formula = make i k₀ s told
+module _ {i : Input} (ok : Passes i) {t₀ t : Cols} {k : Table} {starts : List ℕ} {s kept j : ℕ} {at : Cursor} (w : PointAt i t₀ t starts s at kept k j)
+    (low : 1 ≤ s) (reached : s < length starts) where
+  layer-is : map (make i k s) (rest (layerAt i s starts) (first starts s)) ≡ layer (offer i) s k
+  layer-is = first-layer (offer i) nothing k (layerAt i s starts) (offered i ok s starts k) (λ u a b. w .stands .begins u b) low reached
 
-  makes-base : Makes (i .recording .propositions) (length k₀) code (a .0) (b .0)
-  makes-base = safe-makes i ok s starts (length k₀) told (w .begins s low (omega arith) .inside) (step-safe step rises)
+  pub layer-left : drop j (layer (offer i) s k) ≡ map (make i k s) (rest (layerAt i s starts) at)
+  unfolding rest
+  layer-left =
+      let g = layerAt i s starts in
+      ap (drop j) (sym layer-is) ∙ drop-map (make i k s) (map (candidateAt g) (ahead g (first starts s))) j
+      ∙ ap (map (make i k s)) (drop-map (candidateAt g) (ahead g (first starts s)) j ∙ ap (map (candidateAt g)) (sym (w .left)))
 
-  makes : Makes (i .recording .propositions) (length k) code (a .0) (b .0)
-  makes = safe-makes i ok s starts (length k) told (omega (arith, w .begins s low (omega arith) .inside, w .less)) (step-safe step rises)
+  -- none is left
+  pub none-left : Steps (layerAt i s starts) at End → length (layer (offer i) s k) ≤ j
+  none-left step = omega (arith, ap length (layer-left ∙ ap (map (make i k s)) (end-left step)), length-drop j (layer (offer i) s k))
 
-  pub posed : Posed i k (record { code = code; left = a; right = b; size = s }) formula
-  posed = record { node-is = refl; makes = makes; matrix-is = made-written i k makes ∙ made-base i k₀ k (w .same) makes-base }
+  -- ---- or the one that a step tells
 
-  pub tries : (n : ℕ) → walkLeft i k₀ k starts s at n
-      ≡ sizesLeft i (i .bound + 1 - s) s (map (make i k₀ s) (rest (layerAt i s starts) next)) (consider (offer i) (i .room) (going k n) formula)
-  tries n =
-      ap (λ (cs : List Cand). sizesLeft i (i .bound + 1 - s) s (map (make i k₀ s) cs) (going k n)) (step-left step)
-      ∙ left-less i (i .bound + 1 - s) s formula (map (make i k₀ s) (rest (layerAt i s starts) next)) (going k n) (omega arith)
+  module _ (rises : Rises (layerAt i s starts)) {next : Cursor} {code : ℕ} {a b : Place} (step : Steps (layerAt i s starts) at (Told code a b next)) where
+    abbrev told : Cand
+    told = cand code (a .0) (b .0)
 
-  module _ {t′ : Cols} (n : ℕ) {kept′ n′ : ℕ} (y : Stood i t₀ (consider (offer i) (i .room) (going k n) formula) t′ (Going (record { tried = n′; kept = kept′ }))) where
-    pub turn-stands : Standing i t₀ t′ k₀ (y .table) starts s kept′
-    turn-stands = standing-after w formula refl (y .table) (goes-table i k (y .table) n n′ formula (y .is)) (y .holds) (y .counted)
+    first-left : drop j (layer (offer i) s k) ≡ make i k s told ∷ map (make i k s) (rest (layerAt i s starts) next)
+    first-left = layer-left ∙ ap (map (make i k s)) (step-left step)
 
-    pub turn-goes : walkLeft i k₀ k starts s at n ≡ walkLeft i k₀ (y .table) starts s next n′
-    turn-goes = tries n ∙ ap (sizesLeft i (i .bound + 1 - s) s (map (make i k₀ s) (rest (layerAt i s starts) next))) (y .is)
+    pub some-left : j < length (layer (offer i) s k)
+    some-left = omega (arith, ap length first-left, length-drop j (layer (offer i) s k))
+
+    pub next-is : take 1 (drop j (layer (offer i) s k)) ≡ make i k s (cand code (a .0) (b .0)) ∷ []
+    next-is = ap (take 1) first-left
+
+    makes : Makes (i .recording .propositions) (length k) code (a .0) (b .0)
+    makes = safe-makes i ok s starts (length k) told (w .stands .begins s (omega arith) .inside) (step-safe step rises)
+
+    pub posed : Posed i k (record { code = code; left = a; right = b; size = s }) (make i k s (cand code (a .0) (b .0)))
+    posed = record { node-is = refl; makes = makes; matrix-is = made-written i k makes }
+
+    module _ {t′ : Cols} (n : ℕ) {after : Counts} (y : Stood i t₀ (consider (offer i) (i .room) (going k n) (make i k s (cand code (a .0) (b .0)))) t′ (Going after)) where
+      pub turn-stands : PointAt i t₀ t′ starts s next (after .kept) (y .table) (suc j)
+      turn-stands =
+          let z = after-step (layerAt i s starts) at j step (w .left) in
+          record {
+            stands = standing-after (w .stands) (make i k s told) refl (y .table) (goes-table i k (y .table) n (after .tried) (make i k s told) (y .is)) (y .holds) (y .counted);
+            cursor = z .0;
+            left = z .1;
+          }

@@ -26,7 +26,8 @@ use Rattle.rows.specs.Formulas.{nothing, matrixAt, LeafIn, Makes}
 use Rattle.rows.proofs.Groups.{unary-or-binary, unary-or-leaf, binary-or-leaf}
 use Rattle.rows.specs.Formulas as rows
 use Rattle.sequence.proofs.Decoding.{unary-of, binary-of}
-use Rattle.search.specs.Turns.{leafOf, made, make, layerAt}
+use Rattle.search.specs.Slices.{layerAt}
+use Rattle.search.specs.Turns.{leafOf, made, make}
 use Rattle.checks.proofs.Passing.{at-in}
 
 -- ---- the operator with a code
@@ -76,17 +77,6 @@ module _ (i : Input) (k : Table) where
   made-written {code = code} {left} {right} (Makes.leaf c e f z h) = sym (made-leaf c code left right e f)
   made-written {code = code} {left} {right} (Makes.unary op e l z) = sym (made-unary op code left right e)
   made-written {code = code} {left} {right} (Makes.binary op e l q) = sym (made-binary op code left right e)
-
--- over any table that begins with the same formulas
-pub made-base : (i : Input) (k₀ k : Table) {m code left right : ℕ} → ((p : ℕ) → p < length k₀ → getD k p nothing ≡ getD k₀ p nothing)
-    → Makes m (length k₀) code left right → made i k (cand code left right) ≡ made i k₀ (cand code left right)
-made-base i k₀ k {code = code} {left} {right} same (Makes.leaf c e f z h) = made-leaf i k c code left right e f ∙ sym (made-leaf i k₀ c code left right e f)
-made-base i k₀ k {code = code} {left} {right} same (Makes.unary op e l z) =
-    made-unary i k op code left right e
-    ∙ ap (λ (c : Candidate (List ℕ)). offer i .unaryMatrix op (c .matrix)) (same left l) ∙ sym (made-unary i k₀ op code left right e)
-made-base i k₀ k {code = code} {left} {right} same (Makes.binary op e l q) =
-    made-binary i k op code left right e
-    ∙ ap₂ (λ (c d : Candidate (List ℕ)). offer i .binaryMatrix op (c .matrix) (d .matrix)) (same left l) (same right q) ∙ sym (made-binary i k₀ op code left right e)
 
 -- ---- what a step tells can be made
 

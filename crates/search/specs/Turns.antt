@@ -1,23 +1,24 @@
 -- What the loop of the search promises. No public contract cites this.
 -- Assumes nothing.
 use mathlib.Core.Path.{_≡_}
-use mathlib.Core.Bool.{not, cond, false}
-use mathlib.Core.List.{List, foldl, map}
-use Prim.Native.Nat.{ℕ, zero, suc, _+_, _-_, _*_, _^_, _≤_, _<_}
-use lib.ListN.{length, getD}
+use mathlib.Core.Bool.{Bool, not, cond, true, false}
+use mathlib.Core.List.{List, [], map}
+use Prim.Native.Nat.{ℕ, zero, suc, _+_, _-_, _*_, _^_, _≤_, _<_, min}
+use lib.ListN.{length, getD, drop}
 use lib.Dec.{eqb}
 use Rattle.rules.specs.Limits.{mostPropositions, mostSize, mostRoom}
 use Rattle.sequence.specs.Operators.{unaryCode, binaryCode, unaryOf, binaryOf}
 use Rattle.formula.specs.declared.kinds.Node.{Node}
 use Rattle.formula.specs.Kinds.{nodeOf}
 use Rattle.formula.specs.Formula.{Leaf, proposition, constant}
-use Rattle.walk.specs.Walk.{Candidate, found, full, State, going, ended, consider, through}
+use Rattle.walk.specs.Walk.{Candidate, found, full, State, going, ended, consider}
 use Rattle.walk.specs.Input.{Input, Passes, offer, inputOf}
-use Rattle.walk.specs.Promises.{Table}
+use Rattle.walk.specs.Cut.{Cut, settle}
+use Rattle.walk.specs.Promises.{Table, goOn}
 use Rattle.walk.proofs.Places.{sizeAt, Split}
 use Rattle.order.specs.declared.Cursor.{Cursor}
-use Rattle.order.specs.Size.{Cand, Layer, layerOf, start}
-use Rattle.order.specs.Ahead.{rest, first, leafCursor}
+use Rattle.order.specs.Size.{Cand, start}
+use Rattle.order.specs.Ahead.{ahead, first, leafCursor, cursorAfter}
 use Rattle.order.specs.Starts.{startsOf}
 use Rattle.table.specs.Formulas.{Holds}
 use Rattle.rows.specs.Formulas.{nothing, matrixAt, Makes, Masks}
@@ -30,8 +31,10 @@ use Rattle.search.specs.declared.turns.Point.{Point}
 use Rattle.search.specs.declared.turns.Start.{Start}
 use Rattle.search.specs.declared.turns.Stand.{Stand}
 use Rattle.search.specs.declared.turns.Stand.the-variants.{Going, Found, Full}
+use Rattle.search.specs.declared.state.State as value
 use Rattle.search.specs.Costs.{operators, inAll}
 use Rattle.search.specs.Table.{Cols, cols, tableOver}
+use Rattle.search.specs.Slices.{noNode, layerAt, todo, StateIn, StandsIn}
 
 -- the arguments as the walk's input
 abbrev pub input : Given → List ℕ → List ℕ → List ℕ → List ℕ → List ℕ → Input
@@ -59,11 +62,21 @@ stateOf (Going n) k = going k (n .tried)
 stateOf (Found root n) k = ended (found (nodeOf root)) k (n .tried)
 stateOf (Full size n) k = ended (full size) k (n .tried)
 
--- and as an answer: "After the last, NONE."
-abbrev pub answerOf : Stand → SearchAnswer
-answerOf (Going n) = answer.None n
-answerOf (Found root n) = answer.Found root n
-answerOf (Full size n) = answer.Full size n
+-- the state by value, before a candidate, and at the end: "After the last, NONE."
+abbrev pub moreState : ℕ → Cursor → Counts → value.State
+moreState s at n = record { size = s; at = at; counts = n; end = 0; root = noNode }
+
+abbrev pub overState : ℕ → Stand → value.State
+overState s (Going n) = record { size = s; at = leafCursor 0; counts = n; end = 2; root = noNode }
+overState s (Found root n) = record { size = s; at = leafCursor 0; counts = n; end = 1; root = root }
+overState s (Full size n) = record { size = s; at = leafCursor 0; counts = n; end = 3; root = noNode }
+
+abbrev pub answerOf : value.State → SearchAnswer
+answerOf st = cond (eqb (st .end) 1) (answer.Found (st .root) (st .counts)) (cond (eqb (st .end) 3) (answer.Full (st .size) (st .counts)) (answer.None (st .counts)))
+
+-- a count that has reached the largest number of its word stays
+abbrev pub oneMore : ℕ → ℕ
+oneMore n = min (n + 1) (2 ^ 64 - 1)
 
 pub record Stood (i : Input) (t₀ : Cols) (st : State (List ℕ)) (t : Cols) (stand : Stand) : Type 0 where
   pub table : Table
@@ -87,35 +100,25 @@ made i k c =
 abbrev pub make : Input → Table → ℕ → Cand → Candidate (List ℕ)
 make i k s c = record { node = record { code = c .code; left = c .left; right = c .right; size = s }; matrix = made i k c }
 
--- ---- what is left of the walk
+-- ---- where the walk is
 
-module _ (i : Input) where
-  -- d sizes, from s on
-  unfoldable pub sizes : ℕ → ℕ → State (List ℕ) → State (List ℕ)
-  sizes zero s st = st
-  sizes (suc d) s st = sizes d (suc s) (through (offer i) (i .room) s st)
-
-  -- d sizes, of the first of which, s, the candidates cs are left
-  unfoldable pub sizesLeft : ℕ → ℕ → List (Candidate (List ℕ)) → State (List ℕ) → State (List ℕ)
-  sizesLeft zero s cs st = st
-  sizesLeft (suc d) s cs st = sizes d (suc s) (foldl (consider (offer i) (i .room)) st cs)
-
-  abbrev pub layerAt : ℕ → List ℕ → Layer
-  layerAt s starts = layerOf s starts (i .recording .propositions) (i .constants) (i .unary) (i .binary)
-
-  -- from a cursor of size s on, over k₀, which was kept when the size began, with k kept and n tried
-  abbrev pub walkLeft : Table → Table → List ℕ → ℕ → Cursor → ℕ → State (List ℕ)
-  walkLeft k₀ k starts s at n = sizesLeft (i .bound + 1 - s) s (map (make i k₀ s) (rest (layerAt s starts) at)) (going k n)
-
--- the slices hold the table k, of sizes up to s; k₀ was kept when size s began, and its sizes begin where `starts` says
-pub record Standing (i : Input) (t₀ t : Cols) (k₀ k : Table) (starts : List ℕ) (s kept : ℕ) : Type 0 where
+-- the slices hold the table k, of sizes up to s, which begin where `starts` says
+pub record Standing (i : Input) (t₀ t : Cols) (k : Table) (starts : List ℕ) (s kept : ℕ) : Type 0 where
   pub counted : kept ≡ length k
   pub holds : Holds i k t₀ t
   pub rising : (p q : ℕ) → p ≤ q → q < length k → sizeAt nothing k p ≤ sizeAt nothing k q
   pub small : (p : ℕ) → p < length k → sizeAt nothing k p ≤ s
-  pub less : length k₀ ≤ length k
-  pub same : (p : ℕ) → p < length k₀ → getD k p nothing ≡ getD k₀ p nothing
-  pub begins : (u : ℕ) → 1 ≤ u → u ≤ s → Split nothing k₀ u (start starts u)
+  pub begins : (u : ℕ) → u ≤ s → Split nothing k u (start starts u)
+
+-- and the cursor is the one after j candidates of the size
+pub record PointAt (i : Input) (t₀ t : Cols) (starts : List ℕ) (s : ℕ) (at : Cursor) (kept : ℕ) (k : Table) (j : ℕ) : Type 0 where
+  pub stands : Standing i t₀ t k starts s kept
+  pub cursor : at ≡ cursorAfter (layerAt i s starts) j
+  pub left : ahead (layerAt i s starts) at ≡ drop j (ahead (layerAt i s starts) (first starts s))
+
+-- the cut walk at size s after j of its candidates
+abbrev pub settled : Input → ℕ → ℕ → State (List ℕ) → Cut (List ℕ)
+settled i s j st = settle (offer i) (i .room) (i .bound) (suc (i .bound) - s) s j st
 
 -- ---- the functions
 
@@ -135,13 +138,21 @@ pub record Posed (i : Input) (k : Table) (node : Node) (x : Candidate (List ℕ)
 pub record JudgeAsks (g : Given) (before : Counts) : Type 0 where
   pub room-in : g .room ≤ mostRoom
   pub kept-in : before .kept ≤ g .room
-  pub counts : before .tried + 1 < 2 ^ 64
+
+-- FOUND and FULL are of the candidate's size
+abbrev pub Sized : ℕ → Stand → Type 0
+Sized s (Going n) = Unit {0}
+Sized s (Found root n) = root .size ≡ s
+Sized s (Full size n) = size ≡ s
 
 -- it is counted, and comes to what the walk makes of it
 pub record JudgeDoes (g : Given) (marks lengths words masks : List ℕ) (node : Node) (before : Counts) (rows : List ℕ) (t t′ : Cols) (stand : Stand) : Type 0 where
-  pub tries : countsOf stand .tried ≡ before .tried + 1
+  pub tries : countsOf stand .tried ≡ oneMore (before .tried)
+  pub grows : (before .kept ≤ countsOf stand .kept) × (countsOf stand .kept ≤ before .kept + 1)
   pub kept-in : countsOf stand .kept ≤ g .room
+  pub sized : Sized (node .size) stand
   pub runs : (unary binary : List ℕ) (t₀ : Cols) (k : Table) (x : Candidate (List ℕ)) → Passes (input g marks lengths words unary binary) → Room g t₀
+      → before .tried + 1 < 2 ^ 64
       → Masks (input g marks lengths words unary binary) masks → g .sessions ≤ length rows
       → Holds (input g marks lengths words unary binary) k t₀ t → before .kept ≡ length k → Posed (input g marks lengths words unary binary) k node x
       → Stood (input g marks lengths words unary binary) t₀
@@ -153,12 +164,36 @@ pub record GoAsks (g : Given) (unary binary : List ℕ) (from : Point) : Type 0 
   pub propositions-in : g .propositions ≤ mostPropositions
   pub unary-few : length unary ≤ operators
   pub binary-few : length binary ≤ operators
-  pub size-in : (1 ≤ from .size) × (from .size ≤ g .bound)
-  pub kept-in : from .counts .kept ≤ g .room
-  pub counts : from .counts .tried + inAll < 2 ^ 64
+  pub state-in : StateIn (input g [] [] [] unary binary) (moreState (from .size) (from .at) (from .counts))
 
-pub record GoDoes (g : Given) (marks lengths words unary binary : List ℕ) (from : Point) (t t′ : Cols) (stand : Stand) : Type 0 where
-  pub runs : (t₀ : Cols) (k₀ k : Table) → Passes (input g marks lengths words unary binary) → Room g t₀
-      → Standing (input g marks lengths words unary binary) t₀ t k₀ k (startsOf (t .sizes) (from .counts .kept)) (from .size) (from .counts .kept)
-      → Stood (input g marks lengths words unary binary) t₀
-      (walkLeft (input g marks lengths words unary binary) k₀ k (startsOf (t .sizes) (from .counts .kept)) (from .size) (from .at) (from .counts .tried)) t′ stand
+-- whatever it is handed, it leaves a state that 14 lets pass, and after as many candidates as there can be the walk has ended; from a point of the
+-- walk it goes on by as many candidates
+pub record GoDoes (g : Given) (marks lengths words unary binary : List ℕ) (budget : ℕ) (from : Point) (t t′ : Cols) (state : value.State) : Type 0 where
+  pub state-in : StateIn (input g [] [] [] unary binary) state
+  pub spends : state .counts .tried ≤ from .counts .tried + budget
+  pub ends : state .end ≡ 0 → budget ≤ inAll
+  pub runs : (t₀ : Cols) (k : Table) (j : ℕ) → Passes (input g marks lengths words unary binary) → Room g t₀
+      → PointAt (input g marks lengths words unary binary) t₀ t (startsOf (t .sizes) (from .counts .kept)) (from .size) (from .at) (from .counts .kept) k j
+      → from .counts .tried + todo (input g marks lengths words unary binary) (startsOf (t .sizes) (from .counts .kept)) (from .size) (from .at) ≤ inAll
+      → StandsIn (input g marks lengths words unary binary) t₀
+      (goOn (input g marks lengths words unary binary) budget (settled (input g marks lengths words unary binary) (from .size) j (going k (from .counts .tried)))) state t′
+
+-- ---- a state's numbers
+
+-- the end of the list that a state goes through, by its numbers
+abbrev pub positionOf : Given → ℕ → ℕ → ℕ → ℕ → ℕ
+positionOf g unary binary size split =
+    cond (eqb size 1) (cond (eqb (g .constants) 1) (g .propositions + 2) (g .propositions)) (cond (eqb split 0) unary binary)
+
+pub record StateFits (g : Given) (unary binary : ℕ) (st : value.State) : Type 0 where
+  pub kept-in : st .counts .kept ≤ g .room
+  pub kept-tried : st .counts .kept ≤ st .counts .tried
+  pub size-in : (1 ≤ st .size) × (st .size ≤ g .bound)
+  pub left-in : st .at .left ≤ st .counts .kept
+  pub right-in : st .at .right ≤ st .counts .kept
+  pub operator-in : st .at .operator ≤ positionOf g unary binary (st .size) (st .at .split)
+
+-- they fit, or they don't
+abbrev pub StateTold : Given → ℕ → ℕ → value.State → Bool → Type 0
+StateTold g unary binary st true = StateFits g unary binary st
+StateTold g unary binary st false = StateFits g unary binary st → ⊥

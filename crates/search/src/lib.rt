@@ -1,13 +1,16 @@
 // The search: the walk of document 01 over a table in lent slices (aux.rs, cache.rs, cm.rs).
 pub mod counts;
 mod given;
+pub mod slices;
+pub mod state;
 mod turns;
 
 use crate::counts::Counts;
 use crate::given::Given;
-use crate::turns::Stand;
+use crate::state::State;
 use formula::kinds::Node;
 ghost use mathlib.Core.Path.{_≡_};
+ghost use Prim.Native.Nat.{_<_};
 ghost use Rattle.search.specs.Table.{cols};
 ghost use Rattle.search.specs.Turns.{answerOf};
 ghost use Rattle.walk.specs.Input.{inputOf};
@@ -21,15 +24,23 @@ pub enum SearchAnswer {
     Refused(u8),
 }
 
-// The answer where the walk stands at its end: after the last candidate it is NONE.
-fn answer_of(stand: Stand) -> SearchAnswer
-    ensures { λ answer. ⌜ answer ≡ answerOf stand ⌝ }
+// The answer where the walk has ended.
+fn answer_of(state: State) -> SearchAnswer
+    requires { ⌜ state .size < 256 ⌝ }
+    ensures { λ answer. ⌜ answer ≡ answerOf state ⌝ }
 {
-    match stand {
-        Stand::Going(counts) => SearchAnswer::None(counts),
-        Stand::Found { root, counts } => SearchAnswer::Found { root, counts },
-        Stand::Full { size, counts } => SearchAnswer::Full { size, counts },
+    let counts = state.counts;
+    let root = state.root;
+    if state.end == 1 {
+        return SearchAnswer::Found { root, counts };
     }
+    if state.end == 3 {
+        return SearchAnswer::Full {
+            size: state.size as u8,
+            counts,
+        };
+    }
+    SearchAnswer::None(counts)
 }
 
 // The smallest formula that separates the sessions marked 1 from those marked 0. It takes r sessions and m propositions (marks, lengths, words m per
@@ -86,20 +97,20 @@ pub fn search(
         room,
         constants,
     };
-    let first = turns::first_point();
-    let stand = turns::go_on(
+    let state = turns::go_on(
         given,
         marks,
         lengths,
         words,
         unary,
         binary,
-        first,
+        18446744073709551615,
+        turns::first_point(),
         codes,
         lefts,
         rights,
         sizes,
         matrices,
     );
-    answer_of(stand)
+    answer_of(state)
 }

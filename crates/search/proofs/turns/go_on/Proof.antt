@@ -5,20 +5,23 @@ use native.Mathlib.Omega.{arith}
 use lib.ListN.{length}
 use borrow.Author.Needs.{needs}
 use Rattle.search.specs.Table.{cols}
-use Rattle.search.proofs.Rounds.{Loop, todo, loop-start, stops-none, turn-size, less-size, counts-one, less-one, turn-goes-on, stops}
-use Rattle.search.proofs.Rounds.{ended, masked}
+use Rattle.search.specs.Slices.{todo}
+use Rattle.search.specs.Turns.{input}
+use Rattle.search.proofs.Whole.{pos-of-ne}
+use Rattle.search.proofs.Rounds.{Loop, loop-start, stops-none, turn-size, less-size, stops-more, less-one, turn-goes-on, stops}
+use Rattle.search.proofs.Rounds.{ended-step, masked}
 use Rattle.search.proofs.turns.go_on.Statement.{statement}
 use Rattle.search.proofs.turns.go_on.Tie as tie
 
 abbrev Inv-loop : tie.InvT-loop
-Inv-loop given marks lengths words unary binary codes₀ lefts₀ rights₀ sizes₀ matrices₀ m bound constants masks rows₀ s₀ at₀ counts₀ starts₀ codes lefts rights sizes matrices rows s at counts starts =
+Inv-loop given marks lengths words unary binary budget codes₀ lefts₀ rights₀ sizes₀ matrices₀ m bound constants masks rows₀ s₀ at₀ counts₀ left₀ starts₀ codes lefts rights sizes matrices rows s at counts left starts =
     (length rows ≡ 32)
-    × Loop given marks lengths words unary binary (record { size = s₀; at = at₀; counts = counts₀ })
-    (cols codes₀ lefts₀ rights₀ sizes₀ matrices₀) (cols codes lefts rights sizes matrices) starts s at counts
+    × Loop given marks lengths words unary binary budget (record { size = s₀; at = at₀; counts = counts₀ })
+    (cols codes₀ lefts₀ rights₀ sizes₀ matrices₀) (cols codes lefts rights sizes matrices) starts s at counts left
 
 abbrev μ-loop : tie.MeasureT-loop
-μ-loop given marks lengths words unary binary codes₀ lefts₀ rights₀ sizes₀ matrices₀ m bound constants masks rows₀ s₀ at₀ counts₀ starts₀ codes lefts rights sizes matrices rows s at counts starts =
-    todo given unary binary starts s at
+μ-loop given marks lengths words unary binary budget codes₀ lefts₀ rights₀ sizes₀ matrices₀ m bound constants masks rows₀ s₀ at₀ counts₀ left₀ starts₀ codes lefts rights sizes matrices rows s at counts left starts =
+    todo (input given marks lengths words unary binary) starts s at
 
 slice-aggregate-masks-of : tie.Need-slice-aggregate-masks-of Inv-loop μ-loop
 slice-aggregate-masks-of c = search needs
@@ -29,7 +32,7 @@ masks-of-requires c κs = search needs
 cast-of-table : tie.Need-cast-of-table Inv-loop μ-loop
 cast-of-table c =
     let c₁₇ = c .before .before .before .before .before .before .before .before .before .before .before .before .before .before .before .before .before in
-    omega (arith, c₁₇ .pre .kept-in, c₁₇ .pre .room-in)
+    omega (arith, c₁₇ .pre .state-in .kept-in, c₁₇ .pre .room-in)
 
 of-table-requires : tie.Need-of-table-requires Inv-loop μ-loop
 of-table-requires c κs = search needs
@@ -58,38 +61,42 @@ enum-known-step c = search needs
 enum-told : tie.Need-enum-told Inv-loop μ-loop
 enum-told c = search needs
 
+over-requires : tie.Need-over-requires Inv-loop μ-loop
+over-requires c κs = search needs
+
 same-length : tie.Need-same-length Inv-loop μ-loop
 same-length c =
-    let c₅ = c .before .before .before .before .before in
-    c₅ .loop .inv .1 .long .codes
+    let c₆ = c .before .before .before .before .before .before in
+    c₆ .loop .inv .1 .long .codes
 
 same-length-2 : tie.Need-same-length-2 Inv-loop μ-loop
 same-length-2 c =
-    let c₅ = c .before .before .before .before .before in
-    c₅ .loop .inv .1 .long .lefts
+    let c₆ = c .before .before .before .before .before .before in
+    c₆ .loop .inv .1 .long .lefts
 
 same-length-3 : tie.Need-same-length-3 Inv-loop μ-loop
 same-length-3 c =
-    let c₅ = c .before .before .before .before .before in
-    c₅ .loop .inv .1 .long .rights
+    let c₆ = c .before .before .before .before .before .before in
+    c₆ .loop .inv .1 .long .rights
 
 same-length-4 : tie.Need-same-length-4 Inv-loop μ-loop
 same-length-4 c =
-    let c₅ = c .before .before .before .before .before in
-    c₅ .loop .inv .1 .long .sizes
+    let c₆ = c .before .before .before .before .before .before in
+    c₆ .loop .inv .1 .long .sizes
 
 same-length-5 : tie.Need-same-length-5 Inv-loop μ-loop
 same-length-5 c =
-    let c₅ = c .before .before .before .before .before in
-    c₅ .loop .inv .1 .long .matrices
+    let c₆ = c .before .before .before .before .before .before in
+    c₆ .loop .inv .1 .long .matrices
 
 returns : tie.Need-returns Inv-loop μ-loop
 returns c =
-    let c₂ = c .before .before in
-    let c₃ = c₂ .before in
-    let c₅ = c₃ .before .before in
-    let c₂₄ = c₅ .before .before .before .before .before .before .before .before .before .before .before .before .before .before .before .before .before .before .before in
-    stops-none (c₂₄ .pre) (c₅ .loop .inv .1) (ended (c₃ .next .result) (c₂ .match .keys2) (c₃ .next .ensures)) (c .if1 .taken)
+    let c₁ = c .before in
+    let c₃ = c₁ .before .before in
+    let c₄ = c₃ .before in
+    let c₆ = c₄ .before .before in
+    let c₂₅ = c₆ .before .before .before .before .before .before .before .before .before .before .before .before .before .before .before .before .before .before .before in
+    rw (c .over .ensures) (stops-none (c₂₅ .pre) (c₆ .loop .inv .1) (ended-step (c₄ .next .result) (c₃ .match .keys2) (c₄ .next .ensures)) (c₁ .if1 .taken))
 
 add-s : tie.Need-add-s Inv-loop μ-loop
 add-s c =
@@ -110,7 +117,7 @@ loop-less c =
     let c₇ = c₆ .before in
     let c₉ = c₇ .before .before in
     let c₂₈ = c₉ .before .before .before .before .before .before .before .before .before .before .before .before .before .before .before .before .before .before .before in
-    rw (c₂ .begin .ensures) (less-size (c₂₈ .pre) (c₉ .loop .inv .1) (ended (c₇ .next .result) (c₆ .match .keys2) (c₇ .next .ensures)) (c₄ .if1 .left))
+    rw (c₂ .begin .ensures) (less-size (c₂₈ .pre) (c₉ .loop .inv .1) (ended-step (c₇ .next .result) (c₆ .match .keys2) (c₇ .next .ensures)) (c₄ .if1 .left))
 
 loop-again : tie.Need-loop-again Inv-loop μ-loop
 loop-again c =
@@ -120,106 +127,149 @@ loop-again c =
     let c₇ = c₆ .before in
     let c₉ = c₇ .before .before in
     let c₂₈ = c₉ .before .before .before .before .before .before .before .before .before .before .before .before .before .before .before .before .before .before .before in
-    (c₉ .loop .inv .0, rw (c₂ .begin .ensures) (turn-size (c₂₈ .pre) (c₉ .loop .inv .1) (ended (c₇ .next .result) (c₆ .match .keys2) (c₇ .next .ensures)) (c₄ .if1 .left)))
+    (c₉ .loop .inv .0, rw (c₂ .begin .ensures) (turn-size (c₂₈ .pre) (c₉ .loop .inv .1) (ended-step (c₇ .next .result) (c₆ .match .keys2) (c₇ .next .ensures)) (c₄ .if1 .left)))
 
-cast-t40 : tie.Need-cast-t40 Inv-loop μ-loop
-cast-t40 c =
-    let c₅ = c .before .before .before .before .before in
-    let c₂₄ = c₅ .before .before .before .before .before .before .before .before .before .before .before .before .before .before .before .before .before .before .before in
-    omega (arith, c₅ .loop .inv .1 .high, c₂₄ .pre .bound-in)
+more-requires : tie.Need-more-requires Inv-loop μ-loop
+more-requires c κs = search needs
+
+same-length-6 : tie.Need-same-length-6 Inv-loop μ-loop
+same-length-6 c =
+    let c₇ = c .before .before .before .before .before .before .before in
+    c₇ .loop .inv .1 .long .codes
+
+same-length-7 : tie.Need-same-length-7 Inv-loop μ-loop
+same-length-7 c =
+    let c₇ = c .before .before .before .before .before .before .before in
+    c₇ .loop .inv .1 .long .lefts
+
+same-length-8 : tie.Need-same-length-8 Inv-loop μ-loop
+same-length-8 c =
+    let c₇ = c .before .before .before .before .before .before .before in
+    c₇ .loop .inv .1 .long .rights
+
+same-length-9 : tie.Need-same-length-9 Inv-loop μ-loop
+same-length-9 c =
+    let c₇ = c .before .before .before .before .before .before .before in
+    c₇ .loop .inv .1 .long .sizes
+
+same-length-10 : tie.Need-same-length-10 Inv-loop μ-loop
+same-length-10 c =
+    let c₇ = c .before .before .before .before .before .before .before in
+    c₇ .loop .inv .1 .long .matrices
+
+returns-2 : tie.Need-returns-2 Inv-loop μ-loop
+returns-2 c =
+    let c₁ = c .before in
+    let c₃ = c₁ .before .before in
+    let c₅ = c₃ .before .before in
+    let c₇ = c₅ .before .before in
+    let c₂₆ = c₇ .before .before .before .before .before .before .before .before .before .before .before .before .before .before .before .before .before .before .before in
+    rw (c .more .ensures) (stops-more (c₂₆ .pre) (c₇ .loop .inv .1) (rw (c₃ .step .given .1) at (c₅ .next .ensures)) (c₁ .if2 .taken))
+
+sub-left : tie.Need-sub-left Inv-loop μ-loop
+sub-left c = omega (arith, pos-of-ne _ (c .if2 .left))
+
+cast-t42 : tie.Need-cast-t42 Inv-loop μ-loop
+cast-t42 c =
+    let c₆ = c .before .before .before .before .before .before in
+    let c₂₅ = c₆ .before .before .before .before .before .before .before .before .before .before .before .before .before .before .before .before .before .before .before in
+    omega (arith, c₆ .loop .inv .1 .high, c₂₅ .pre .bound-in)
 
 slice-aggregate-judge : tie.Need-slice-aggregate-judge Inv-loop μ-loop
 slice-aggregate-judge c =
-    let c₁₃ = c .before .before .before .before .before .before .before .before .before .before .before .before .before in
-    sym (c₁₃ .masks-of .kept .1 .1 .0)
+    let c₁₄ = c .before .before .before .before .before .before .before .before .before .before .before .before .before .before in
+    sym (c₁₄ .masks-of .kept .1 .1 .0)
 
 slice-aggregate-judge-2 : tie.Need-slice-aggregate-judge-2 Inv-loop μ-loop
 slice-aggregate-judge-2 c =
-    let c₇ = c .before .before .before .before .before .before .before in
-    sym (c₇ .loop .inv .0)
+    let c₈ = c .before .before .before .before .before .before .before .before in
+    sym (c₈ .loop .inv .0)
 
 judge-requires : tie.Need-judge-requires Inv-loop μ-loop
 judge-requires c κs =
-    let c₈ = c .before .before .before .before .before .before .before .before in
-    let c₁₀ = c₈ .before .before in
-    let c₁₂ = c₁₀ .before .before in
-    let c₃₁ = c₁₂ .before .before .before .before .before .before .before .before .before .before .before .before .before .before .before .before .before .before .before in
+    let c₁₃ = c .before .before .before .before .before .before .before .before .before .before .before .before .before in
+    let c₃₂ = c₁₃ .before .before .before .before .before .before .before .before .before .before .before .before .before .before .before .before .before .before .before in
     record {
-      room-in = c₃₁ .pre .room-in;
-      kept-in = c₁₂ .loop .inv .1 .kept-in;
-      counts = counts-one (c₃₁ .pre) (c₁₂ .loop .inv .1) (rw (c₈ .step .given .1) at (c₁₀ .next .ensures));
+      room-in = c₃₂ .pre .room-in;
+      kept-in = c₁₃ .loop .inv .1 .kept-in;
     }
 
 enum-known-stand : tie.Need-enum-known-stand Inv-loop μ-loop
 enum-known-stand c = search needs
 
-same-length-6 : tie.Need-same-length-6 Inv-loop μ-loop
-same-length-6 c =
-    let c₁₂ = c .before .before .before .before .before .before .before .before .before .before .before .before in
-    let c₂₅ = c₁₂ .before .before .before .before .before .before .before .before .before .before .before .before .before in
-    c₁₂ .judge .kept .1 .1 .1 .1 .1 .1 .1 .1 .0 ∙ c₂₅ .loop .inv .1 .long .codes
+over-requires-2 : tie.Need-over-requires-2 Inv-loop μ-loop
+over-requires-2 c κs = search needs
 
-same-length-7 : tie.Need-same-length-7 Inv-loop μ-loop
-same-length-7 c =
-    let c₁₂ = c .before .before .before .before .before .before .before .before .before .before .before .before in
-    let c₂₅ = c₁₂ .before .before .before .before .before .before .before .before .before .before .before .before .before in
-    c₁₂ .judge .kept .1 .1 .1 .1 .1 .1 .1 .1 .1 .0 ∙ c₂₅ .loop .inv .1 .long .lefts
+same-length-11 : tie.Need-same-length-11 Inv-loop μ-loop
+same-length-11 c =
+    let c₁₃ = c .before .before .before .before .before .before .before .before .before .before .before .before .before in
+    let c₂₇ = c₁₃ .before .before .before .before .before .before .before .before .before .before .before .before .before .before in
+    c₁₃ .judge .kept .1 .1 .1 .1 .1 .1 .1 .1 .0 ∙ c₂₇ .loop .inv .1 .long .codes
 
-same-length-8 : tie.Need-same-length-8 Inv-loop μ-loop
-same-length-8 c =
-    let c₁₂ = c .before .before .before .before .before .before .before .before .before .before .before .before in
-    let c₂₅ = c₁₂ .before .before .before .before .before .before .before .before .before .before .before .before .before in
-    c₁₂ .judge .kept .1 .1 .1 .1 .1 .1 .1 .1 .1 .1 .0 ∙ c₂₅ .loop .inv .1 .long .rights
+same-length-12 : tie.Need-same-length-12 Inv-loop μ-loop
+same-length-12 c =
+    let c₁₃ = c .before .before .before .before .before .before .before .before .before .before .before .before .before in
+    let c₂₇ = c₁₃ .before .before .before .before .before .before .before .before .before .before .before .before .before .before in
+    c₁₃ .judge .kept .1 .1 .1 .1 .1 .1 .1 .1 .1 .0 ∙ c₂₇ .loop .inv .1 .long .lefts
 
-same-length-9 : tie.Need-same-length-9 Inv-loop μ-loop
-same-length-9 c =
-    let c₁₂ = c .before .before .before .before .before .before .before .before .before .before .before .before in
-    let c₂₅ = c₁₂ .before .before .before .before .before .before .before .before .before .before .before .before .before in
-    c₁₂ .judge .kept .1 .1 .1 .1 .1 .1 .1 .1 .1 .1 .1 .0 ∙ c₂₅ .loop .inv .1 .long .sizes
+same-length-13 : tie.Need-same-length-13 Inv-loop μ-loop
+same-length-13 c =
+    let c₁₃ = c .before .before .before .before .before .before .before .before .before .before .before .before .before in
+    let c₂₇ = c₁₃ .before .before .before .before .before .before .before .before .before .before .before .before .before .before in
+    c₁₃ .judge .kept .1 .1 .1 .1 .1 .1 .1 .1 .1 .1 .0 ∙ c₂₇ .loop .inv .1 .long .rights
 
-same-length-10 : tie.Need-same-length-10 Inv-loop μ-loop
-same-length-10 c =
-    let c₁₂ = c .before .before .before .before .before .before .before .before .before .before .before .before in
-    let c₂₅ = c₁₂ .before .before .before .before .before .before .before .before .before .before .before .before .before in
-    c₁₂ .judge .kept .1 .1 .1 .1 .1 .1 .1 .1 .1 .1 .1 .1 .0 ∙ c₂₅ .loop .inv .1 .long .matrices
+same-length-14 : tie.Need-same-length-14 Inv-loop μ-loop
+same-length-14 c =
+    let c₁₃ = c .before .before .before .before .before .before .before .before .before .before .before .before .before in
+    let c₂₇ = c₁₃ .before .before .before .before .before .before .before .before .before .before .before .before .before .before in
+    c₁₃ .judge .kept .1 .1 .1 .1 .1 .1 .1 .1 .1 .1 .1 .0 ∙ c₂₇ .loop .inv .1 .long .sizes
 
-returns-2 : tie.Need-returns-2 Inv-loop μ-loop
-returns-2 c =
-    let c₁₂ = c .before .before .before .before .before .before .before .before .before .before .before .before in
-    let c₂₁ = c₁₂ .before .before .before .before .before .before .before .before .before in
+same-length-15 : tie.Need-same-length-15 Inv-loop μ-loop
+same-length-15 c =
+    let c₁₃ = c .before .before .before .before .before .before .before .before .before .before .before .before .before in
+    let c₂₇ = c₁₃ .before .before .before .before .before .before .before .before .before .before .before .before .before .before in
+    c₁₃ .judge .kept .1 .1 .1 .1 .1 .1 .1 .1 .1 .1 .1 .1 .0 ∙ c₂₇ .loop .inv .1 .long .matrices
+
+returns-3 : tie.Need-returns-3 Inv-loop μ-loop
+returns-3 c =
+    let c₁ = c .before in
+    let c₁₃ = c₁ .before .before .before .before .before .before .before .before .before .before .before .before in
+    let c₂₁ = c₁₃ .before .before .before .before .before .before .before .before in
     let c₂₃ = c₂₁ .before .before in
     let c₂₅ = c₂₃ .before .before in
-    let c₃₂ = c₂₅ .before .before .before .before .before .before .before in
-    let c₄₄ = c₃₂ .before .before .before .before .before .before .before .before .before .before .before .before in
-    stops (c₄₄ .pre) (c₂₅ .loop .inv .1) (rw (c₂₁ .step .given .1) at (c₂₃ .next .ensures))
-    (masked _ _ _ _ _ _ _ (c₃₂ .masks-of .result) (c₃₂ .masks-of .ensures)) (omega (arith, c₂₅ .loop .inv .0)) (c₁₂ .judge .result) (c .match2 .keys2) (c₁₂ .judge .ensures)
+    let c₂₇ = c₂₅ .before .before in
+    let c₃₄ = c₂₇ .before .before .before .before .before .before .before in
+    let c₄₆ = c₃₄ .before .before .before .before .before .before .before .before .before .before .before .before in
+    rw (c .over2 .ensures) (stops (c₄₆ .pre) (c₂₇ .loop .inv .1) (rw (c₂₃ .step .given .1) at (c₂₅ .next .ensures)) (pos-of-ne _ (c₂₁ .if2 .left))
+    (masked _ _ _ _ _ _ _ (c₃₄ .masks-of .result) (c₃₄ .masks-of .ensures)) (omega (arith, c₂₇ .loop .inv .0)) (c₁₃ .judge .result) (c₁ .match2 .keys2) (c₁₃ .judge .ensures))
 
 loop-less-2 : tie.Need-loop-less-2 Inv-loop μ-loop
 loop-less-2 c =
-    let c₂₃ = c .before .before .before .before .before .before .before .before .before .before .before .before .before .before .before .before .before .before .before .before .before .before .before in
-    let c₂₅ = c₂₃ .before .before in
-    let c₂₇ = c₂₅ .before .before in
-    let c₄₆ = c₂₇ .before .before .before .before .before .before .before .before .before .before .before .before .before .before .before .before .before .before .before in
-    less-one (c₄₆ .pre) (c₂₇ .loop .inv .1) (rw (c₂₃ .step .given .1) at (c₂₅ .next .ensures))
+    let c₂₄ = c .before .before .before .before .before .before .before .before .before .before .before .before .before .before .before .before .before .before .before .before .before .before .before .before in
+    let c₂₆ = c₂₄ .before .before in
+    let c₂₈ = c₂₆ .before .before in
+    let c₄₇ = c₂₈ .before .before .before .before .before .before .before .before .before .before .before .before .before .before .before .before .before .before .before in
+    less-one (c₄₇ .pre) (c₂₈ .loop .inv .1) (rw (c₂₄ .step .given .1) at (c₂₆ .next .ensures))
 
 loop-again-2 : tie.Need-loop-again-2 Inv-loop μ-loop
 loop-again-2 c =
     let c₁ = c .before in
     let c₁₄ = c₁ .before .before .before .before .before .before .before .before .before .before .before .before .before in
-    let c₂₃ = c₁₄ .before .before .before .before .before .before .before .before .before in
-    let c₂₅ = c₂₃ .before .before in
-    let c₂₇ = c₂₅ .before .before in
-    let c₃₄ = c₂₇ .before .before .before .before .before .before .before in
-    let c₄₆ = c₃₄ .before .before .before .before .before .before .before .before .before .before .before .before in (
-      (c₁₄ .judge .kept .1 .1 .1 .1 .1 .1 .1 .0 ∙ c₂₇ .loop .inv .0),
-      turn-goes-on (c₄₆ .pre) (c₂₇ .loop .inv .1) (rw (c₂₃ .step .given .1) at (c₂₅ .next .ensures))
-          (masked _ _ _ _ _ _ _ (c₃₄ .masks-of .result) (c₃₄ .masks-of .ensures)) (omega (arith, c₂₇ .loop .inv .0))
+    let c₂₂ = c₁₄ .before .before .before .before .before .before .before .before in
+    let c₂₄ = c₂₂ .before .before in
+    let c₂₆ = c₂₄ .before .before in
+    let c₂₈ = c₂₆ .before .before in
+    let c₃₅ = c₂₈ .before .before .before .before .before .before .before in
+    let c₄₇ = c₃₅ .before .before .before .before .before .before .before .before .before .before .before .before in (
+      (c₁₄ .judge .kept .1 .1 .1 .1 .1 .1 .1 .0 ∙ c₂₈ .loop .inv .0),
+      turn-goes-on (c₄₇ .pre) (c₂₈ .loop .inv .1) (rw (c₂₄ .step .given .1) at (c₂₆ .next .ensures)) (pos-of-ne _ (c₂₂ .if2 .left))
+          (masked _ _ _ _ _ _ _ (c₃₅ .masks-of .result) (c₃₅ .masks-of .ensures)) (omega (arith, c₂₈ .loop .inv .0))
           (record {
-            codes = c₁₄ .judge .kept .1 .1 .1 .1 .1 .1 .1 .1 .0 ∙ c₂₇ .loop .inv .1 .long .codes;
-            lefts = c₁₄ .judge .kept .1 .1 .1 .1 .1 .1 .1 .1 .1 .0 ∙ c₂₇ .loop .inv .1 .long .lefts;
-            rights = c₁₄ .judge .kept .1 .1 .1 .1 .1 .1 .1 .1 .1 .1 .0 ∙ c₂₇ .loop .inv .1 .long .rights;
-            sizes = c₁₄ .judge .kept .1 .1 .1 .1 .1 .1 .1 .1 .1 .1 .1 .0 ∙ c₂₇ .loop .inv .1 .long .sizes;
-            matrices = c₁₄ .judge .kept .1 .1 .1 .1 .1 .1 .1 .1 .1 .1 .1 .1 .0 ∙ c₂₇ .loop .inv .1 .long .matrices;
+            codes = c₁₄ .judge .kept .1 .1 .1 .1 .1 .1 .1 .1 .0 ∙ c₂₈ .loop .inv .1 .long .codes;
+            lefts = c₁₄ .judge .kept .1 .1 .1 .1 .1 .1 .1 .1 .1 .0 ∙ c₂₈ .loop .inv .1 .long .lefts;
+            rights = c₁₄ .judge .kept .1 .1 .1 .1 .1 .1 .1 .1 .1 .1 .0 ∙ c₂₈ .loop .inv .1 .long .rights;
+            sizes = c₁₄ .judge .kept .1 .1 .1 .1 .1 .1 .1 .1 .1 .1 .1 .0 ∙ c₂₈ .loop .inv .1 .long .sizes;
+            matrices = c₁₄ .judge .kept .1 .1 .1 .1 .1 .1 .1 .1 .1 .1 .1 .1 .0 ∙ c₂₈ .loop .inv .1 .long .matrices;
           })
           (rw (c₁ .stand .given .1) at (c₁₄ .judge .ensures)),
     )
@@ -240,6 +290,7 @@ go-on-spec =
     next-requires
     enum-known-step
     enum-told
+    over-requires
     same-length
     same-length-2
     same-length-3
@@ -250,16 +301,25 @@ go-on-spec =
     begin-requires
     loop-less
     loop-again
-    cast-t40
-    slice-aggregate-judge
-    slice-aggregate-judge-2
-    judge-requires
-    enum-known-stand
+    more-requires
     same-length-6
     same-length-7
     same-length-8
     same-length-9
     same-length-10
     returns-2
+    sub-left
+    cast-t42
+    slice-aggregate-judge
+    slice-aggregate-judge-2
+    judge-requires
+    enum-known-stand
+    over-requires-2
+    same-length-11
+    same-length-12
+    same-length-13
+    same-length-14
+    same-length-15
+    returns-3
     loop-less-2
     loop-again-2)

@@ -7,8 +7,8 @@ use Rattle.search.proofs.Judging.{repeats, fresh, room-at, stands-found
 use Rattle.search.proofs.turns.judge.Statement.{statement}
 use Rattle.search.proofs.turns.judge.Tie as tie
 
-add-tried : tie.Need-add-tried
-add-tried c = search needs
+one-more-requires : tie.Need-one-more-requires
+one-more-requires c κs = search needs
 
 rows-of-requires : tie.Need-rows-of-requires
 rows-of-requires c κs = search needs
@@ -26,13 +26,16 @@ returns : tie.Need-returns
 returns c =
     let c₁ = c .before in
     let c₅ = c₁ .before .before .before .before in
-    let c₁₉ = c₅ .before .before .before .before .before .before .before .before .before .before .before .before .before .before in
-    record {
+    let c₈ = c₅ .before .before .before in
+    let c₁₉ = c₈ .before .before .before .before .before .before .before .before .before .before .before in
+    rw (c₈ .one-more .ensures) (record {
       tries = refl;
+      grows = (omega arith, omega arith);
       kept-in = c₁₉ .pre .kept-in;
-      runs = λ unary binary t₀ k x ok room m long h e p.
-          stands-found ok h p m long (record { filled = c₅ .rows-of .result; answer = c₅ .rows-of .ensures }) _ _ e (sym (c .if1 .taken) ∙ c₁ .agrees .ensures);
-    }
+      sized = refl;
+      runs = λ unary binary t₀ k x ok room f m long h e p.
+          stands-found ok h p m long (record { filled = c₅ .rows-of .result; answer = c₅ .rows-of .ensures }) _ _ f e (sym (c .if1 .taken) ∙ c₁ .agrees .ensures);
+    })
 
 known-at-requires : tie.Need-known-at-requires
 known-at-requires c κs = search needs
@@ -56,14 +59,17 @@ returns-2 c =
     let c₅ = c₂ .before .before .before in
     let c₆ = c₅ .before in
     let c₁₀ = c₆ .before .before .before .before in
-    let c₂₄ = c₁₀ .before .before .before .before .before .before .before .before .before .before .before .before .before .before in
-    record {
+    let c₁₃ = c₁₀ .before .before .before in
+    let c₂₄ = c₁₃ .before .before .before .before .before .before .before .before .before .before .before in
+    rw (c₁₃ .one-more .ensures) (record {
       tries = refl;
+      grows = (omega arith, omega arith);
       kept-in = c₂₄ .pre .kept-in;
-      runs = λ unary binary t₀ k x ok room m long h e p.
-          stands-dropped ok h p m long (record { filled = c₁₀ .rows-of .result; answer = c₁₀ .rows-of .ensures }) _ _ e (sym (c₅ .if1 .left) ∙ c₆ .agrees .ensures)
+      sized = tt;
+      runs = λ unary binary t₀ k x ok room f m long h e p.
+          stands-dropped ok h p m long (record { filled = c₁₀ .rows-of .result; answer = c₁₀ .rows-of .ensures }) _ _ f e (sym (c₅ .if1 .left) ∙ c₆ .agrees .ensures)
           (c₂₄ .pre .kept-in) (repeats (c₂ .known-at .result) (c₁ .match .keys2) (c₂ .known-at .ensures));
-    }
+    })
 
 same-length-5 : tie.Need-same-length-5
 same-length-5 c = search needs
@@ -78,14 +84,17 @@ returns-3 c =
     let c₇ = c₄ .before .before .before in
     let c₈ = c₇ .before in
     let c₁₂ = c₈ .before .before .before .before in
-    let c₂₆ = c₁₂ .before .before .before .before .before .before .before .before .before .before .before .before .before .before in
-    record {
+    let c₁₅ = c₁₂ .before .before .before in
+    let c₂₆ = c₁₅ .before .before .before .before .before .before .before .before .before .before .before in
+    rw (c₁₅ .one-more .ensures) (record {
       tries = refl;
+      grows = (omega arith, omega arith);
       kept-in = c₂₆ .pre .kept-in;
-      runs = λ unary binary t₀ k x ok room m long h e p.
-          stands-full ok h p m long (record { filled = c₁₂ .rows-of .result; answer = c₁₂ .rows-of .ensures }) _ _ e (sym (c₇ .if1 .left) ∙ c₈ .agrees .ensures)
+      sized = refl;
+      runs = λ unary binary t₀ k x ok room f m long h e p.
+          stands-full ok h p m long (record { filled = c₁₂ .rows-of .result; answer = c₁₂ .rows-of .ensures }) _ _ f e (sym (c₇ .if1 .left) ∙ c₈ .agrees .ensures)
           (c₂₆ .pre .kept-in) (fresh (c₄ .known-at .result) (c₃ .match .keys1) (c₄ .known-at .ensures)) (c .if2 .taken);
-    }
+    })
 
 cast-t35 : tie.Need-cast-t35
 cast-t35 c = search needs
@@ -123,21 +132,24 @@ returns-4 c =
     let c₂₄ = c₂₁ .before .before .before in
     let c₂₅ = c₂₄ .before in
     let c₂₉ = c₂₅ .before .before .before .before in
-    let c₄₃ = c₂₉ .before .before .before .before .before .before .before .before .before .before .before .before .before .before in
-    record {
+    let c₃₂ = c₂₉ .before .before .before in
+    let c₄₃ = c₃₂ .before .before .before .before .before .before .before .before .before .before .before in
+    rw (c₃₂ .one-more .ensures) (record {
       tries = refl;
+      grows = (omega arith, omega arith);
       kept-in = omega (arith, c₁₇ .if2 .left);
-      runs = λ unary binary t₀ k x ok room m long h e p.
-          stands-kept ok h p m long (record { filled = c₂₉ .rows-of .result; answer = c₂₉ .rows-of .ensures }) _ _ e (sym (c₂₄ .if1 .left) ∙ c₂₅ .agrees .ensures)
+      sized = tt;
+      runs = λ unary binary t₀ k x ok room f m long h e p.
+          stands-kept ok h p m long (record { filled = c₂₉ .rows-of .result; answer = c₂₉ .rows-of .ensures }) _ _ f e (sym (c₂₄ .if1 .left) ∙ c₂₅ .agrees .ensures)
           (c₄₃ .pre .kept-in) (fresh (c₂₁ .known-at .result) (c₂₀ .match .keys1) (c₂₁ .known-at .ensures)) (c₁₇ .if2 .left) (room-at _ room (c₁₇ .if2 .left))
           (record { done = c₁₀ .keep .result; answer = c₁₀ .keep .ensures });
-    }
+    })
 
 pub judge-spec : {M : Type 1} → statement M
 judge-spec =
     tie.close
     (tie.spec
-    add-tried
+    one-more-requires
     rows-of-requires
     agrees-requires
     same-length
