@@ -72,7 +72,10 @@ overState s (Found root n) = record { size = s; at = leafCursor 0; counts = n; e
 overState s (Full size n) = record { size = s; at = leafCursor 0; counts = n; end = 3; root = noNode }
 
 abbrev pub answerOf : value.State → SearchAnswer
-answerOf st = cond (eqb (st .end) 1) (answer.Found (st .root) (st .counts)) (cond (eqb (st .end) 3) (answer.Full (st .size) (st .counts)) (answer.None (st .counts)))
+answerOf st =
+    cond (eqb (st .end) 1) (answer.Found (st .root) (st .counts))
+    (cond (eqb (st .end) 3) (answer.Full (st .size) (st .counts))
+    (answer.None (st .counts)))
 
 -- a count that has reached the largest number of its word stays
 abbrev pub oneMore : ℕ → ℕ

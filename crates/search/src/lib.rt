@@ -31,14 +31,12 @@ fn answer_of(state: State) -> SearchAnswer
 {
     let counts = state.counts;
     let root = state.root;
+    let size = state.size as u8;
     if state.end == 1 {
         return SearchAnswer::Found { root, counts };
     }
     if state.end == 3 {
-        return SearchAnswer::Full {
-            size: state.size as u8,
-            counts,
-        };
+        return SearchAnswer::Full { size, counts };
     }
     SearchAnswer::None(counts)
 }
