@@ -111,8 +111,7 @@ loop-again : tie.Need-loop-again Inv-loop μ-loop
 loop-again c =
     let c₁₀ = c .before .before .before .before .before .before .before .before .before .before in
     let c₁₆ = c₁₀ .before .before .before .before .before .before in
-    let c₁₇ = c₁₆ .before in
-    (
+    let c₁₇ = c₁₆ .before in (
       omega (arith, c₁₆ .loop-test .taken),
       (c₁₀ .resume .kept .1 .1 .1 .1 .1 .1 .1 .1 .1 .1 .1 .1 .0 ∙ c₁₇ .loop .inv .1),
       (c₁₀ .resume .kept .1 .1 .1 .1 .1 .1 .1 .1 .1 .1 .1 .1 .1 .0 ∙ c₁₇ .loop .inv .2),

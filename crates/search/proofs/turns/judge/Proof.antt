@@ -97,7 +97,7 @@ returns-3 c =
     })
 
 cast-t35 : tie.Need-cast-t35
-cast-t35 c = search needs
+cast-t35 c = omega (arith, @if2 .left, @pre .room-in)
 
 keep-requires : tie.Need-keep-requires
 keep-requires c κs = search needs
