@@ -97,7 +97,10 @@ returns-3 c =
     })
 
 cast-t35 : tie.Need-cast-t35
-cast-t35 c = omega (arith, @if2 .left, @pre .room-in)
+cast-t35 c =
+    let c₁ = c .before in
+    let c₂₇ = c₁ .before .before .before .before .before .before .before .before .before .before .before .before .before .before .before .before .before .before .before .before .before .before .before .before .before .before in
+    omega (arith, c₁ .if2 .left, c₂₇ .pre .room-in)
 
 keep-requires : tie.Need-keep-requires
 keep-requires c κs = search needs
