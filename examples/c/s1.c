@@ -5,7 +5,7 @@
 
 #include "scarfpylon.h"
 
-enum { SESSIONS = 32, NAMES = 16, ROOM = 200, TEXT = 391, OUT = 8, LONG_OUT = 16 };
+enum { SESSIONS = 32, NAMES = 16, ROOM = 200, TEXT = 391, REPORT = 15562, NODES = 31, OUT = 8, LONG_OUT = 16 };
 
 static const uint8_t file[] = {
     0x01, 0x01, 0x70,                                                             /* one name: p */
@@ -18,14 +18,15 @@ static const uint8_t file[] = {
 
 static uint8_t marks[SESSIONS], lengths[SESSIONS], unary[5], binary[6];
 static uint64_t words[SESSIONS * NAMES];
-static uint8_t codes[ROOM], sizes[ROOM], text[TEXT];
+static uint8_t codes[ROOM], sizes[ROOM], text[TEXT], report[REPORT];
 static uint16_t lefts[ROOM], rights[ROOM];
 static uint64_t matrices[ROOM * SESSIONS];
 
 static int refused(const char *by, uint64_t result) {
     if (result == 0) return 0;
-    printf("%s: refused %d", by, (int)(result & 255));
-    if ((result & 255) == 8) printf(" at %llu", (unsigned long long)(result >> 8));
+    int number = (int)(result & 255);
+    printf("%s: refused %d", by, number);
+    if (number == 8 || number == 11 || number == 13) printf(" at %llu", (unsigned long long)(result >> 8));
     printf("\n");
     return 1;
 }
@@ -65,6 +66,23 @@ int main(void) {
         printf("check: separates\n");
     else
         printf("check: session %llu disagrees\n", (unsigned long long)verdict[1]);
+
+    /* the same formula on each session: where p and the whole hold and fail */
+    if (refused("report", scarfpylon_report(r, m, marks, r, lengths, r, words, m * r, codes, kept, lefts, kept, rights, kept, sizes, kept,
+                                            code, left, right, size, report, REPORT, written, OUT)))
+        return 1;
+    printf("%.*s", (int)written[0], (const char *)report);
+
+    /* a suspicion that is typed, and a byte that can't continue a formula */
+    static const char typed[] = "X p U p", wrong[] = "X p )";
+    uint8_t typed_codes[NODES], typed_sizes[NODES];
+    uint16_t typed_lefts[NODES], typed_rights[NODES];
+    if (refused("parse", scarfpylon_parse(file, parts[2], (const uint8_t *)typed, sizeof typed - 1, typed_codes, NODES, typed_lefts, NODES,
+                                          typed_rights, NODES, typed_sizes, NODES, written, OUT)))
+        return 1;
+    printf("%s: %llu nodes, root of code %d\n", typed, (unsigned long long)written[0], typed_codes[written[0] - 1]);
+    refused(wrong, scarfpylon_parse(file, parts[2], (const uint8_t *)wrong, sizeof wrong - 1, typed_codes, NODES, typed_lefts, NODES,
+                                    typed_rights, NODES, typed_sizes, NODES, written, OUT));
 
     uint64_t next[OUT], until[OUT];
     if (refused("unary", scarfpylon_unary(1, 4, 6, next, OUT)) || refused("binary", scarfpylon_binary(7, 4, 3, 4, 4, until, OUT))) return 1;
