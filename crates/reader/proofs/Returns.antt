@@ -17,17 +17,18 @@ use Rattle.grammar.specs.Nodes.{node, nodesOf}
 use Rattle.grammar.proofs.Levels.{sides}
 use Rattle.grammar.proofs.Peeks.{some}
 use Rattle.grammar.proofs.Passage as passage
-use Rattle.reader.specs.declared.operator.Op.{Op}
-use Rattle.reader.specs.declared.operator.Op.the-variants.{Is, Nothing, Cut}
-use Rattle.reader.specs.declared.front.First.{First}
-use Rattle.reader.specs.declared.front.First.the-variants.{Operator as PrefixOperator, Open, Word as LeafWord, Bad as NoOperand}
+use Rattle.tokens.specs.declared.operator.Op.{Op}
+use Rattle.tokens.specs.declared.operator.Op.the-variants.{Is, Nothing, Cut}
+use Rattle.tokens.specs.declared.front.First.{First}
+use Rattle.tokens.specs.declared.front.First.the-variants.{Operator as PrefixOperator, Open, Word as LeafWord, Bad as NoOperand}
 use Rattle.reader.specs.declared.Got.{Got}
 use Rattle.reader.specs.declared.Got.the-variants.{Val, Bad}
-use Rattle.reader.specs.declared.operator.End.{End}
-use Rattle.reader.specs.declared.operator.End.the-variants.{At, Bad as NoEnd}
+use Rattle.reader.specs.declared.closing.End.{End}
+use Rattle.reader.specs.declared.closing.End.the-variants.{At, Bad as NoEnd}
 use Rattle.names.specs.Names.{namesIn, GoodNames}
+use Rattle.tokens.specs.Next.{Said, Operator, Fronts}
 use Rattle.reader.specs.Inner.{codesBy, pack, packs, LeafFields, mostField}
-use Rattle.reader.specs.Answers.{Said, Operator, Closing, Fronts, Room, Infix, More, Prefix, Bracket, Ending, Fits, Whole}
+use Rattle.reader.specs.Answers.{Closing, Infix, More, Prefix, Bracket, Ending, Fits, Whole}
 use Rattle.reader.proofs.Lookup.{field-small}
 use Rattle.reader.proofs.Scratch.{nodes-length, written-length, written-then, written-leaf, written-unary, written-more}
 

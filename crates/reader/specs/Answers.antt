@@ -1,59 +1,28 @@
 -- What the functions of the descent answer, in the terms of `Passing`.
 -- Assumes nothing.
 use mathlib.Core.Path.{_≡_}
-use mathlib.Core.Bool.{false, cond}
 use mathlib.Core.Logic.{_⊎_}
 use mathlib.Core.List.{List, [], _∷_, _++_}
-use Prim.Native.Nat.{ℕ, suc, _+_, _-_, _≤_, _<_}
-use lib.ListN.{length, take, drop, getD}
-use Rattle.sequence.specs.Operators.{Unary, Binary, unaryCode, binaryCode}
+use Prim.Native.Nat.{ℕ, suc, _+_, _≤_, _<_}
+use lib.ListN.{length}
 use lib.Seq.{sets}
 use Rattle.rules.specs.Limits.{mostSize}
 use Rattle.formula.specs.Formula.{size}
 use Rattle.formula.specs.Nodes.{Node}
 use Rattle.grammar.specs.Nodes.{nodesOf}
-use Rattle.grammar.specs.Token.{Typed, Atom, Token, pre, atom, opens, closes}
-use Rattle.names.specs.Names.{isNameByte, namesIn, GoodNames}
-use Rattle.grammar.specs.Grammar.{operand, level, rightLevel, Derives, Reads, Refused11}
-use Rattle.sequence.specs.Operators.Unary.{strongNext}
-use Rattle.grammar.specs.Scan.{leafy, classify, ready, after, rest, word as inWord}
-use Rattle.grammar.specs.Passing.{Peek, op, nothing, cut, expect, peek, QuietAt, Passes, Stops, Expression, Refuses, Continues}
-use Rattle.reader.specs.declared.operator.Op.{Op}
-use Rattle.reader.specs.declared.operator.Op.the-variants.{Is, Nothing, Cut}
-use Rattle.reader.specs.declared.front.First.{First}
-use Rattle.reader.specs.declared.front.First.the-variants.{Operator as PrefixOperator, Open, Word as LeafWord, Bad as NoOperand}
-use Rattle.reader.specs.declared.operator.End.{End}
-use Rattle.reader.specs.declared.operator.End.the-variants.{At, Bad as NoEnd}
+use Rattle.grammar.specs.Token.{Typed, Token, closes}
+use Rattle.names.specs.Names.{namesIn, GoodNames}
+use Rattle.grammar.specs.Grammar.{operand, Derives, Reads, Refused11}
+use Rattle.grammar.specs.Scan.{ready, after}
+use Rattle.grammar.specs.Passing.{QuietAt, Passes, Stops, Expression, Refuses, Continues}
+use Rattle.reader.specs.declared.closing.End.{End}
+use Rattle.reader.specs.declared.closing.End.the-variants.{At, Bad as NoEnd}
 use Rattle.reader.specs.declared.Got.{Got}
 use Rattle.reader.specs.declared.Got.the-variants.{Val, Bad}
 use Rattle.reader.specs.declared.judge.Judged.{Judged}
 use Rattle.reader.specs.declared.judge.Judged.the-variants.{Nodes as Sized, Long, Stops as StopsAt, Unknown as UnknownName, Large}
 use Rattle.reader.specs.Words.{mostBytes, UnknownAt, FirstUnknown, Deep}
 use Rattle.reader.specs.Inner.{codesBy, packs, mostField}
-
--- the next operator, with offsets of the whole text
-abbrev pub Said : ℕ → Peek → Op → Type 0
-Said at (op o n) (Is l r next c) = (l ≡ level o) × (r ≡ rightLevel o) × (next ≡ at + n) × (c ≡ binaryCode o)
-Said at (op o n) (Nothing i) = ⊥
-Said at (op o n) (Cut i) = ⊥
-Said at (nothing n) (Is l r next c) = ⊥
-Said at (nothing n) (Nothing i) = i ≡ at + n
-Said at (nothing n) (Cut i) = ⊥
-Said at (cut n) (Is l r next c) = ⊥
-Said at (cut n) (Nothing i) = ⊥
-Said at (cut n) (Cut i) = i ≡ at + n
-
-abbrev pub Operator : List ℕ → ℕ → Op → Type 0
-Operator text at r = Said at (peek (drop at text)) r
-
--- the last byte of `->` or `<->`
-abbrev pub Arrow : List ℕ → ℕ → ℕ → ℕ → Op → Type 0
-Arrow text at code right r = (o : Binary) → level o ≡ 0 → rightLevel o ≡ right → binaryCode o ≡ code → Said at (expect (62 ∷ []) o (drop at text)) r
-
--- behind `U` or `R`
-abbrev pub Word : List ℕ → ℕ → ℕ → ℕ → Op → Type 0
-Word text at code right r =
-    (o : Binary) → level o ≡ 3 → rightLevel o ≡ right → binaryCode o ≡ code → Said at (cond (isNameByte (getD text at 0)) (cut 0) (op o 0)) r
 
 -- a closing bracket, after an expression with which nothing goes on
 abbrev pub Closing : List ℕ → ℕ → End → Type 0
@@ -64,34 +33,6 @@ Closing text at (NoEnd k) = QuietAt text 0 at → (d : ℕ) → Stops text (afte
 abbrev pub Ending : List ℕ → ℕ → End → Type 0
 Ending text at (At next) = (next ≡ length text) × (QuietAt text 0 at → Passes text (after 0) at [] (after 0) (length text))
 Ending text at (NoEnd k) = QuietAt text 0 at → Stops text (after 0) at k
-
--- a word so far goes on from i to r; from there no word's byte comes, or the word has all its 16
-pub record Ran (text : List ℕ) (start i r : ℕ) : Type 0 where
-  pub forward : i ≤ r
-  pub within : r ≤ length text
-  pub short : r ≤ start + 16
-  pub stops : r < start + 16 → isNameByte (getD text r 0) ≡ false
-  pub grows : (v : List ℕ) → start + length v ≡ i → (x : List ℕ) × (start + length (v ++ x) ≡ r) × ((d : ℕ) → Passes text (inWord v d) i [] (inWord (v ++ x) d) r) × (take (r - i) (drop i text) ≡ x)
-
--- behind `X[`
-abbrev pub Strong : List ℕ → ℕ → First → Type 0
-Strong text at (PrefixOperator next code) = (at < next) × ((d : ℕ) → Passes text (rest 33 (93 ∷ []) (pre strongNext) d) at (pre strongNext ∷ []) (ready d) next) × (code ≡ unaryCode strongNext)
-Strong text at (Open next) = ⊥
-Strong text at (LeafWord next start) = ⊥
-Strong text at (NoOperand k) = (d : ℕ) → Stops text (rest 33 (93 ∷ []) (pre strongNext) d) at k
-
--- the word from one offset to another is this leaf's
-pub record LeafAt (text : List ℕ) (start next : ℕ) (l : Atom) : Type 0 where
-  pub some : start < next
-  pub within : next ≤ length text
-  pub leaf : classify (take (next - start) (drop start text)) ≡ leafy l
-
--- what stands where an operand is awaited
-abbrev pub Fronts : List ℕ → ℕ → First → Type 0
-Fronts text at (PrefixOperator next code) = (at < next) × (u : Unary) × ((d : ℕ) → Passes text (ready d) at (pre u ∷ []) (ready d) next) × (code ≡ unaryCode u)
-Fronts text at (Open next) = (at < next) × ((d : ℕ) → Passes text (ready d) at (opens ∷ []) (ready (suc d)) next)
-Fronts text at (LeafWord next start) = (at < next) × (l : Atom) × ((d : ℕ) → Passes text (ready d) at (atom l ∷ []) (after d) next) × LeafAt text start next l
-Fronts text at (NoOperand k) = Refuses text at k
 
 -- what was read is no larger than its bytes are many
 abbrev pub Fits : List ℕ → ℕ → ℕ → ℕ → Type 0

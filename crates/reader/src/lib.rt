@@ -1,21 +1,21 @@
 // Formulas read from text: names looked up, the text judged, the tree's nodes written.
-mod bytes;
+mod closing;
 mod fill;
-mod front;
 mod judge;
 mod leaves;
 mod nodes;
-mod operator;
 mod write;
 
-use front::First;
+use closing::End;
 use judge::Judged;
 use names::NamesAnswer;
 use nodes::put;
 use nodes::put_one;
 use nodes::put_two;
-use operator::End;
-use operator::Op;
+use tokens::front::First;
+use tokens::front::front;
+use tokens::operator::Op;
+use tokens::operator::operator;
 use write::least;
 ghost use Prim.Native.Nat.{_+_, _≤_};
 ghost use Rattle.reader.specs.Parsing.{saidParsed, columns, Parses};
@@ -48,7 +48,7 @@ pub(crate) fn read_text(names: &[u8], text: &[u8], scratch: &mut [u64]) -> Got
     let Got::Val { next, size } = t else {
         return t;
     };
-    let e = operator::ending(text, next);
+    let e = closing::ending(text, next);
     match e {
         End::At(i) => Got::Val { next: i, size },
         End::Bad(k) => Got::Bad(k),
@@ -87,7 +87,7 @@ fn read_more(
     requires { ⌜ Room (now names) (now text) (now scratch) (place + size) at × (1 ≤ size) ⌝ }
     ensures { λ r. ⌜ More (now (names .entry)) place (now (scratch .entry)) (now (scratch .exit)) (now (text .entry)) level at size r ⌝ }
 {
-    let o = operator::operator(text, at);
+    let o = operator(text, at);
     match o {
         Op::Nothing(_) => Got::Val { next: at, size },
         Op::Cut(k) => Got::Bad(k),
@@ -116,7 +116,7 @@ fn read_prefix(names: &[u8], text: &[u8], at: usize, place: usize, scratch: &mut
     requires { ⌜ Room (now names) (now text) (now scratch) place at ⌝ }
     ensures { λ r. ⌜ Prefix (now (names .entry)) place (now (scratch .entry)) (now (scratch .exit)) (now (text .entry)) at r ⌝ }
 {
-    let f = front::front(text, at);
+    let f = front(text, at);
     match f {
         First::Operator { next, code } => {
             let t = read_prefix(names, text, next, place, scratch);
@@ -149,7 +149,7 @@ fn read_bracket(names: &[u8], text: &[u8], at: usize, place: usize, scratch: &mu
     let Got::Val { next, size } = t else {
         return t;
     };
-    let e = operator::closing(text, next);
+    let e = closing::closing(text, next);
     match e {
         End::At(i) => Got::Val { next: i, size },
         End::Bad(k) => Got::Bad(k),

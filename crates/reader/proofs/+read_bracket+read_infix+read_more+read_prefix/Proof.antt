@@ -22,13 +22,13 @@ use Rattle.reader.proofs.+read_bracket+read_infix+read_more+read_prefix
 use Rattle.reader.proofs.read_prefix.Reads as read-prefix
 use Rattle.reader.proofs.read_prefix.Kinds as read-prefix-kinds
 use Rattle.reader.proofs.+read_bracket+read_infix+read_more+read_prefix.Lts-read_prefix as read-prefix-lts
-use Rattle.reader.proofs.front.front.Reads as front-reads
+use Rattle.tokens.proofs.front.front.Reads as front-reads
 use Rattle.reader.proofs.leaves.leaf_of.Reads as leaf-of-reads
 use Rattle.reader.proofs.nodes.put.Reads as put-reads
 use Rattle.reader.proofs.nodes.put_one.Reads as put-one-reads
 use Rattle.reader.proofs.nodes.put_two.Reads as put-two-reads
-use Rattle.reader.proofs.operator.closing.Reads as closing-reads
-use Rattle.reader.proofs.operator.operator.Reads as operator-reads
+use Rattle.reader.proofs.closing.closing.Reads as closing-reads
+use Rattle.tokens.proofs.operator.operator.Reads as operator-reads
 use Rattle.reader.proofs.+read_bracket+read_infix+read_more+read_prefix.{statement}
 use Rattle.reader.proofs.+read_bracket+read_infix+read_more+read_prefix.Tie.{close}
 
@@ -357,7 +357,7 @@ read-prefix-read-prefix-requires t c κs =
     let s = (c .before .before .before .before .before .before .before .before) in
     let r = s .pre .1 in
     let x = operator-next (s .args .names .now) (s .args .text .now) (s .args .place) (s .args .scratch .now) (s .args .scratch .now) (s .args .at)
-    (c .before .before .f .given .1) (c .before .before .before .before .front .ensures) in
+    (c .before .before .f .given .1) (c .before .before .before .before .front .ensures .0 (s .pre .1 .within)) in
     (omega (arith, x .0, x .1), room-on r refl (x .1) (omega (arith, x .0, r .before)))
 
 read-prefix-enum-known-t : (t : ℕ) → read-prefix-lts.Need-enum-known-t (read-prefix-calls t) (read-prefix-at t) read-prefix.Post
@@ -374,7 +374,7 @@ read-prefix-returns t c =
     let s = (c .before .before .before .before .before .before .before .before .before .before .before .before .before) in
     prefix-operator-refused (s .args .names .now) (s .args .text .now) (s .args .place) (s .args .scratch .now) _ (s .args .at)
     (c .before .before .before .before .before .before .before .f .given .1)
-    (c .before .before .before .before .before .before .before .before .before .front .ensures) (c .enum-told .given .1)
+    (c .before .before .before .before .before .before .before .before .before .front .ensures .0 (s .pre .1 .within)) (c .enum-told .given .1)
     (c .before .before .before .before .read-prefix .ensures)
 
 read-prefix-put-one-requires : (t : ℕ) → read-prefix-lts.Need-put-one-requires (read-prefix-calls t) (read-prefix-at t) read-prefix.Post
@@ -383,7 +383,7 @@ read-prefix-put-one-requires t c κs =
     let r = s .pre .1 in
     let x = operator-next (s .args .names .now) (s .args .text .now) (s .args .place) (s .args .scratch .now) (s .args .scratch .now) (s .args .at)
     (c .before .before .before .before .before .before .before .before .before .f .given .1)
-    (c .before .before .before .before .before .before .before .before .before .before .before .front .ensures) in
+    (c .before .before .before .before .before .before .before .before .before .before .before .front .ensures .0 (s .pre .1 .within)) in
     let y = prefix-val (s .args .names .now) (s .args .text .now) (s .args .place) (s .args .scratch .now) _ _ (c .before .before .t .given .1)
     (c .before .before .before .before .before .before .read-prefix .ensures) in
     (y .0 .0, omega (arith, r .before, r .room, x .0, y .0 .1, y .0 .2, y .1), omega (arith, r .before, r .short, x .0, y .0 .1, y .0 .2))
@@ -394,7 +394,7 @@ read-prefix-add-whole t c =
     let r = s .pre .1 in
     let x = operator-next (s .args .names .now) (s .args .text .now) (s .args .place) (s .args .scratch .now) (s .args .scratch .now) (s .args .at)
     (c .before .before .before .before .before .before .before .before .before .before .before .before .f .given .1)
-    (c .before .before .before .before .before .before .before .before .before .before .before .before .before .before .front .ensures) in
+    (c .before .before .before .before .before .before .before .before .before .before .before .before .before .before .front .ensures .0 (s .pre .1 .within)) in
     let y = prefix-val (s .args .names .now) (s .args .text .now) (s .args .place) (s .args .scratch .now) _ _
     (c .before .before .before .before .before .t .given .1)
     (c .before .before .before .before .before .before .before .before .before .read-prefix .ensures) in
@@ -408,7 +408,7 @@ read-prefix-read-bracket-requires t c κs =
     let s = (c .before .before .before .before .before .before .before .before) in
     let r = s .pre .1 in
     let x = open-next (s .args .names .now) (s .args .text .now) (s .args .place) (s .args .scratch .now) (s .args .scratch .now) (s .args .at)
-    (c .before .before .f2 .given .1) (c .before .before .before .before .front .ensures) in
+    (c .before .before .f2 .given .1) (c .before .before .before .before .front .ensures .0 (s .pre .1 .within)) in
     (omega (arith, x .0, x .1), room-on r refl (x .1) (omega (arith, x .0, r .before)))
 
 read-prefix-enum-known-f-3 : (t : ℕ) → read-prefix-lts.Need-enum-known-f-3 (read-prefix-calls t) (read-prefix-at t) read-prefix.Post
@@ -418,7 +418,7 @@ read-prefix-sub-leaf-of : (t : ℕ) → read-prefix-lts.Need-sub-leaf-of (read-p
 read-prefix-sub-leaf-of t c =
     let s = (c .before .before .before .before .before .before .before) in
     let x = word-next (s .args .names .now) (s .args .text .now) (s .args .place) (s .args .scratch .now) (s .args .scratch .now) (s .args .at)
-    (c .before .f3 .given .1) (c .before .before .before .front .ensures) in
+    (c .before .f3 .given .1) (c .before .before .before .front .ensures .0 (s .pre .1 .within)) in
     omega (arith, x .1)
 
 read-prefix-leaf-of-requires : (t : ℕ) → read-prefix-lts.Need-leaf-of-requires (read-prefix-calls t) (read-prefix-at t) read-prefix.Post
@@ -426,7 +426,7 @@ read-prefix-leaf-of-requires t c κs =
     let s = (c .before .before .before .before .before .before .before) in
     let r = s .pre .1 in
     let x = word-next (s .args .names .now) (s .args .text .now) (s .args .place) (s .args .scratch .now) (s .args .scratch .now) (s .args .at)
-    (c .before .f3 .given .1) (c .before .before .before .front .ensures) in
+    (c .before .f3 .given .1) (c .before .before .before .front .ensures .0 (s .pre .1 .within)) in
     (r .names, omega (arith, x .1, x .2))
 
 read-prefix-put-requires : (t : ℕ) → read-prefix-lts.Need-put-requires (read-prefix-calls t) (read-prefix-at t) read-prefix.Post
@@ -434,8 +434,8 @@ read-prefix-put-requires t c κs =
     let s = (c .before .before .before .before .before .before .before .before .before) in
     let r = s .pre .1 in
     let x = word-next (s .args .names .now) (s .args .text .now) (s .args .place) (s .args .scratch .now) (s .args .scratch .now) (s .args .at)
-    (c .before .before .before .f3 .given .1) (c .before .before .before .before .before .front .ensures) in
-    (omega (arith, r .before, r .room, x .0, x .2), leaf-small (s .args .names .now) (s .args .text .now) (s .args .place) (s .args .scratch .now) (s .args .scratch .now) (s .args .at) (r .names) (c .before .before .before .f3 .given .1) (c .before .before .before .before .before .front .ensures) (c .before .leaf-of .ensures), omega arith, omega arith)
+    (c .before .before .before .f3 .given .1) (c .before .before .before .before .before .front .ensures .0 (s .pre .1 .within)) in
+    (omega (arith, r .before, r .room, x .0, x .2), leaf-small (s .args .names .now) (s .args .text .now) (s .args .place) (s .args .scratch .now) (s .args .scratch .now) (s .args .at) (r .names) (c .before .before .before .f3 .given .1) (c .before .before .before .before .before .front .ensures .0 (s .pre .1 .within)) (c .before .leaf-of .ensures), omega arith, omega arith)
 
 read-prefix-enum-known-f-4 : (t : ℕ) → read-prefix-lts.Need-enum-known-f-4 (read-prefix-calls t) (read-prefix-at t) read-prefix.Post
 read-prefix-enum-known-f-4 t c = search needs
@@ -448,7 +448,7 @@ read-prefix-returns-2 t c =
     let s = (c .before .before .before .before .before .before .before .before .before .before .before .before .before .before .before .before .before .before) in
     prefix-operator (s .args .names .now) (s .args .text .now) (s .args .place) (s .args .scratch .now) _ (s .args .at) _
     (c .before .before .before .before .before .before .before .before .before .before .before .before .f .given .1)
-    (c .before .before .before .before .before .before .before .before .before .before .before .before .before .before .front .ensures)
+    (c .before .before .before .before .before .before .before .before .before .before .before .before .before .before .front .ensures .0 (s .pre .1 .within))
     (c .before .before .before .before .before .t .given .1)
     (c .before .before .before .before .before .before .before .before .before .read-prefix .ensures) (c .before .before .put-one .ensures)
 
@@ -460,7 +460,7 @@ read-prefix-returns-3 t c =
     let s = (c .before .before .before .before .before .before .before .before .before .before .before) in
     prefix-bracket (s .args .names .now) (s .args .text .now) (s .args .place) (s .args .scratch .now) _ (s .args .at)
     (c .before .before .read-bracket .result) (c .before .before .before .before .before .f2 .given .1)
-    (c .before .before .before .before .before .before .before .front .ensures) (c .before .before .read-bracket .ensures)
+    (c .before .before .before .before .before .before .before .front .ensures .0 (s .pre .1 .within)) (c .before .before .read-bracket .ensures)
 
 read-prefix-same-length-4 : (t : ℕ) → read-prefix-lts.Need-same-length-4 (read-prefix-calls t) (read-prefix-at t) read-prefix.Post
 read-prefix-same-length-4 t c = search needs
@@ -470,14 +470,14 @@ read-prefix-returns-4 t c =
     let s = (c .before .before .before .before .before .before .before .before .before .before .before .before) in
     prefix-leaf (s .args .names .now) (s .args .text .now) (s .args .place) (s .args .scratch .now) _ (s .args .at)
     (c .before .before .before .before .before .before .f3 .given .1)
-    (c .before .before .before .before .before .before .before .before .front .ensures) (c .before .before .before .before .leaf-of .ensures)
+    (c .before .before .before .before .before .before .before .before .front .ensures .0 (s .pre .1 .within)) (c .before .before .before .before .leaf-of .ensures)
     (c .before .before .put .ensures)
 
 read-prefix-returns-5 : (t : ℕ) → read-prefix-lts.Need-returns-5 (read-prefix-calls t) (read-prefix-at t) read-prefix.Post
 read-prefix-returns-5 t c =
     let s = (c .before .before .before .before .before .before .before) in
     prefix-refused (s .args .names .now) (s .args .text .now) (s .args .place) (s .args .scratch .now) (s .args .scratch .now) (s .args .at)
-    (c .before .f4 .given .1) (c .before .before .before .front .ensures)
+    (c .before .f4 .given .1) (c .before .before .before .front .ensures .0 (s .pre .1 .within))
 
 pub +read-bracket+read-infix+read-more+read-prefix-spec : {M : Type 1} → statement M
 +read-bracket+read-infix+read-more+read-prefix-spec =
