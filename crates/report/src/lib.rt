@@ -1,9 +1,7 @@
 // A report that a person can follow: per session and node under the root, the first snapshot where it holds, the first where it doesn't, and at how
 // many it holds. A layer above the library: it calls public operations alone.
-mod line;
 mod sessions;
 mod under;
-pub mod values;
 
 use formula::Verdict;
 use formula::kinds::Node;

@@ -1,8 +1,8 @@
 // The lines of all sessions, one after the other.
-use crate::line;
-use crate::values::First;
-use crate::values::Summary;
-use crate::values::summary_of;
+use summary::line;
+use summary::values::First;
+use summary::values::Summary;
+use summary::values::summary_of;
 use formula::Sequenced;
 use formula::kinds::Node;
 use formula::nodes::count;

@@ -2,9 +2,9 @@
 -- Assumes nothing.
 use native.Mathlib.Omega.{arith}
 use Rattle.words.specs.Word.{width}
-use Rattle.report.proofs.Firsts.{none-set, lowest-there, lowest-least}
-use Rattle.report.proofs.values.lowest.Statement.{statement}
-use Rattle.report.proofs.values.lowest.Tie as tie
+use Rattle.summary.proofs.Firsts.{none-set, lowest-there, lowest-least}
+use Rattle.summary.proofs.values.lowest.Statement.{statement}
+use Rattle.summary.proofs.values.lowest.Tie as tie
 
 returns : tie.Need-returns
 returns c = none-set _ (c .if1 .taken)

@@ -1,10 +1,10 @@
 -- `put_blank_first` meets its contract: one after the other.
 -- Assumes nothing.
 use Rattle.writing.proofs.Writing.{wrote-both}
-use Rattle.report.specs.Lines.{blank, firstText}
+use Rattle.summary.specs.Line.{blank, firstText}
 use borrow.Author.Needs.{needs}
-use Rattle.report.proofs.line.put_blank_first.Statement.{statement}
-use Rattle.report.proofs.line.put_blank_first.Tie as tie
+use Rattle.summary.proofs.line.put_blank_first.Statement.{statement}
+use Rattle.summary.proofs.line.put_blank_first.Tie as tie
 
 slice-aggregate-put : tie.Need-slice-aggregate-put
 slice-aggregate-put c = search needs

@@ -12,10 +12,10 @@ use Rattle.words.specs.Ltlf.{Reading}
 use Rattle.words.specs.Word.{width, bit, At, Means}
 use Rattle.words.proofs.Bits.{bit-lt, bit-first, bit-rest, bit-zero, bits-ext}
 use Rattle.words.proofs.At.{at-or-not, at-and, and-at, at-not, at-below, wf-lt, lt-wf, not-at}
-use Rattle.report.specs.declared.values.First.{First}
-use Rattle.report.specs.declared.values.First.the-variants.{Never, Snapshot}
-use Rattle.report.specs.declared.values.Summary.{Summary}
-use Rattle.report.specs.Values.{LeastIn, CountIn, Fails, Summed}
+use Rattle.summary.specs.declared.values.First.{First}
+use Rattle.summary.specs.declared.values.First.the-variants.{Never, Snapshot}
+use Rattle.summary.specs.declared.values.Summary.{Summary}
+use Rattle.summary.specs.Values.{LeastIn, CountIn, Fails, Summed}
 
 -- ---- trailing zeros
 

@@ -2,7 +2,7 @@
 use sequence::CharSeq;
 ghost use Prim.Native.Nat.{_^_, _<_, min};
 ghost use Rattle.words.specs.Word.{width, At};
-ghost use Rattle.report.specs.Values.{LeastIn, Summed};
+ghost use Rattle.summary.specs.Values.{LeastIn, Summed};
 
 // A snapshot's number, or none.
 pub enum First {

@@ -7,7 +7,7 @@ use writing::put;
 use writing::put_decimal;
 ghost use Rattle.writing.specs.Writing.{Wrote};
 ghost use mathlib.Core.List.{_++_};
-ghost use Rattle.report.specs.Lines.{blank, firstText, summaryText, placeLine, rootLine};
+ghost use Rattle.summary.specs.Line.{blank, firstText, summaryText, placeLine, rootLine};
 
 fn put_first(text: &mut [u8], at: usize, first: First) -> usize
     ensures { λ r. ⌜ Wrote (now (text .entry)) at (firstText first) (now (text .exit)) r ⌝ }
@@ -39,7 +39,8 @@ fn put_summary(text: &mut [u8], at: usize, s: Summary) -> usize
     put(text, d, b"\n")
 }
 
-pub(crate) fn put_place(
+// The line of a place.
+pub fn put_place(
     text: &mut [u8],
     at: usize,
     session: Session,
@@ -54,7 +55,8 @@ pub(crate) fn put_place(
     put_summary(text, c, s)
 }
 
-pub(crate) fn put_root(text: &mut [u8], at: usize, session: Session, s: Summary) -> usize
+// The line of the root.
+pub fn put_root(text: &mut [u8], at: usize, session: Session, s: Summary) -> usize
     ensures { λ r. ⌜ Wrote (now (text .entry)) at (rootLine (session .0) s) (now (text .exit)) r ⌝ }
 {
     let a = put_decimal(text, at, session.0 as u64);

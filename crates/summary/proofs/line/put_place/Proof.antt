@@ -3,10 +3,10 @@
 use mathlib.Core.List.{_++_}
 use Rattle.writing.proofs.Writing.{wrote-both}
 use Rattle.writing.specs.Writing.{decimal}
-use Rattle.report.specs.Lines.{blank, summaryText}
+use Rattle.summary.specs.Line.{blank, summaryText}
 use borrow.Author.Needs.{needs}
-use Rattle.report.proofs.line.put_place.Statement.{statement}
-use Rattle.report.proofs.line.put_place.Tie as tie
+use Rattle.summary.proofs.line.put_place.Statement.{statement}
+use Rattle.summary.proofs.line.put_place.Tie as tie
 
 cast-put-decimal : tie.Need-cast-put-decimal
 cast-put-decimal c = search needs

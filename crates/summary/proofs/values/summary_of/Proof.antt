@@ -4,10 +4,10 @@ use native.Mathlib.Omega.{arith}
 use lib.Count.{ones-le}
 use lib.Bits.{bitAnd}
 use Rattle.words.specs.Word.{width}
-use Rattle.report.proofs.Firsts.{least-holds, least-fails, counts, masked-low}
+use Rattle.summary.proofs.Firsts.{least-holds, least-fails, counts, masked-low}
 use borrow.Author.Needs.{needs}
-use Rattle.report.proofs.values.summary_of.Statement.{statement}
-use Rattle.report.proofs.values.summary_of.Tie as tie
+use Rattle.summary.proofs.values.summary_of.Statement.{statement}
+use Rattle.summary.proofs.values.summary_of.Tie as tie
 
 mask-requires : tie.Need-mask-requires
 mask-requires c κs = search needs

@@ -4,9 +4,9 @@ use mathlib.Core.Path.{_≡_}
 use mathlib.Core.Logic.{_⊎_}
 use Prim.Native.Nat.{ℕ, zero, suc, _<_}
 use Rattle.words.specs.Ltlf.{Reading}
-use Rattle.report.specs.declared.values.First.{First}
-use Rattle.report.specs.declared.values.First.the-variants.{Never, Snapshot}
-use Rattle.report.specs.declared.values.Summary.{Summary}
+use Rattle.summary.specs.declared.values.First.{First}
+use Rattle.summary.specs.declared.values.First.the-variants.{Never, Snapshot}
+use Rattle.summary.specs.declared.values.Summary.{Summary}
 
 -- "the first snapshot where it holds": the least of n positions at which f holds; ""Never" is a case of its own"
 abbrev pub LeastIn : ℕ → Reading → First → Type 0

@@ -3,10 +3,10 @@
 use mathlib.Core.List.{_++_}
 use Rattle.writing.proofs.Writing.{wrote-both}
 use Rattle.writing.specs.Writing.{decimal}
-use Rattle.report.specs.Lines.{blank, newline, firstText}
+use Rattle.summary.specs.Line.{blank, newline, firstText}
 use borrow.Author.Needs.{needs}
-use Rattle.report.proofs.line.put_summary.Statement.{statement}
-use Rattle.report.proofs.line.put_summary.Tie as tie
+use Rattle.summary.proofs.line.put_summary.Statement.{statement}
+use Rattle.summary.proofs.line.put_summary.Tie as tie
 
 put-blank-first-requires : tie.Need-put-blank-first-requires
 put-blank-first-requires c κs = search needs

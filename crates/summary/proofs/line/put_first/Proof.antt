@@ -1,12 +1,12 @@
 -- `put_first` meets its contract: the case decides.
 -- Assumes nothing.
 use mathlib.Core.Path.{sym, subst}
-use Rattle.report.specs.declared.values.First.{First}
-use Rattle.report.specs.Lines.{firstText}
+use Rattle.summary.specs.declared.values.First.{First}
+use Rattle.summary.specs.Line.{firstText}
 use Rattle.writing.specs.Writing.{Wrote}
 use borrow.Author.Needs.{needs}
-use Rattle.report.proofs.line.put_first.Statement.{statement}
-use Rattle.report.proofs.line.put_first.Tie as tie
+use Rattle.summary.proofs.line.put_first.Statement.{statement}
+use Rattle.summary.proofs.line.put_first.Tie as tie
 
 enum-told : tie.Need-enum-told
 enum-told c = search needs
