@@ -18,7 +18,7 @@ use Rattle.names.specs.Names.{nameLength, letter, name, isTaken, notTaken, name
 use Rattle.names.specs.Reserved.{reserved}
 use Rattle.reading.specs.Reading.{Got, got, bad, Reader, andThen, each, byte, within, counted, isIn, atEnd}
 use Rattle.reading.proofs.Readers.{got-bad}
-use Rattle.file.specs.Numbers.{propositions, sessions, bound}
+use Rattle.sections.specs.Numbers.{propositions, sessions, bound}
 use Rattle.file.specs.Format.{Parts}
 use Rattle.file.specs.Offence.{number, word, session, allSessions, isUnary, isBinary, code, codes, settings, parts, wholeFile}
 use Rattle.file.specs.Promises.{StaysRefused, longestItem, RefusedAlike}

@@ -10,14 +10,14 @@ use borrow.Author.Tests.{ltb-false, leb-false}
 use lib.Dec.{ltb, leb, eqb}
 use lib.ListN.{length, getD, take, drop, length-append}
 use Rattle.words.specs.Word.{width}
-use Rattle.file.specs.Numbers.{sessions, propositions, bound}
+use Rattle.sections.specs.Numbers.{sessions, propositions, bound}
 use Rattle.names.specs.Names.{nameLength, letter, name, isTaken, notTaken, namesUpTo, wholeNames}
 use Rattle.rules.specs.Lists.{Each}
 use Rattle.reading.specs.Reading.{Got, got, bad, Reader, andThen, each, byte, within, counted, atEnd}
 use Rattle.file.specs.Offence.{number, word, session, allSessions, isUnary, isBinary, code, codes, settings, parts, wholeFile}
 use Rattle.reading.proofs.Lists.{within-high}
 use Rattle.reading.proofs.Readers.{got-bad, byte-sound}
-use Rattle.file.proofs.CodeLaws.{New, new-sound}
+use Rattle.sections.proofs.CodeLaws.{New, new-sound}
 use Rattle.names.proofs.NameLaws.{names-sound}
 use Rattle.file.proofs.Whole.{few-unary, few-binary}
 

@@ -11,7 +11,7 @@ use lib.ListN.{length, drop, length-map}
 use lib.Seq.{sets}
 use Rattle.file.specs.declared.ReadAnswer.{ReadAnswer}
 use Rattle.file.specs.declared.ReadAnswer.the-variants.{Parts as AllParts, Broken, Room}
-use Rattle.file.specs.Numbers.{sessions, propositions}
+use Rattle.sections.specs.Numbers.{sessions, propositions}
 use Rattle.file.specs.Format.{Parts, Good}
 use Rattle.reading.specs.Reading.{section, Got, got, bad}
 use Rattle.names.specs.Names.{nameBytes}

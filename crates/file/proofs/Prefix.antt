@@ -12,14 +12,14 @@ use borrow.Author.Tests.{lt-ltb, le-leb, ne-eqb}
 use lib.ListN.{length, getD, take, drop, length-take, length-append}
 use lib.Seq.{getD-take, take-all, take-take}
 use Rattle.words.specs.Word.{width}
-use Rattle.file.specs.Numbers.{sessions, propositions, bound}
+use Rattle.sections.specs.Numbers.{sessions, propositions, bound}
 use Rattle.names.specs.Names.{nameLength, letter, name, namesUpTo}
 use Rattle.rules.specs.Lists.{Each}
 use Rattle.reading.specs.Reading.{Got, got, bad, Reader, andThen, each, byte, within, counted, atEnd}
 use Rattle.file.specs.Offence.{word, session, allSessions, isUnary, isBinary, code, codes, settings, parts, wholeFile}
 use Rattle.reading.proofs.Lists.{within-high}
 use Rattle.reading.proofs.Readers.{byte-sound}
-use Rattle.file.proofs.CodeLaws.{New, new-sound}
+use Rattle.sections.proofs.CodeLaws.{New, new-sound}
 use Rattle.names.proofs.NameLaws.{names-sound}
 use Rattle.file.proofs.Whole.{few-unary, few-binary}
 use Rattle.file.proofs.Cuts.{drop-take}

@@ -6,7 +6,7 @@ use mathlib.Core.List.{List, [], _++_}
 use Prim.Native.Nat.{ℕ, _+_, _≤_}
 use native.Mathlib.Omega.{arith}
 use lib.ListN.{length}
-use Rattle.file.specs.Numbers.{propositions, sessions}
+use Rattle.sections.specs.Numbers.{propositions, sessions}
 use Rattle.file.specs.Format.{Parts, Session, sessionBytes, fileBytes, Good}
 use Rattle.reading.specs.Reading.{one, section, got}
 use Rattle.names.specs.Names.{nameBytes, namesUpTo}
@@ -19,7 +19,8 @@ use Rattle.reading.proofs.Ends.{each-map, end-sound, end-complete, whole-run, r
 use Rattle.names.proofs.NameLaws.{names-sound, names-complete}
 use Rattle.file.proofs.Numbers.{Bytes}
 use Rattle.file.proofs.SessionLaws.{Fit, sessions-sound, sessions-complete}
-use Rattle.file.proofs.CodeLaws.{New, new-sound, new-complete, unary-good, good-unary, binary-good, good-binary, settingsBytes, settings-sound, settings-complete}
+use Rattle.sections.proofs.CodeLaws.{New, new-sound, new-complete}
+use Rattle.file.proofs.CodeLaws.{unary-good, good-unary, binary-good, good-binary, settingsBytes, settings-sound, settings-complete}
 use Rattle.session.proofs.Few.{few}
 
 pub few-unary : (l : List ℕ) → Each (New isUnary) [] l → length l ≤ 5

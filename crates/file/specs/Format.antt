@@ -6,17 +6,13 @@ use Prim.Native.Nat.{ℕ, zero, suc, _/_, _%_, _≤_}
 use lib.ListN.{length}
 use Rattle.words.specs.Word.{width, WfRecorded}
 use Rattle.sequence.specs.Operators.{Unary, Binary, unaryCode, binaryCode}
-use Rattle.file.specs.Numbers.{sessions, propositions, bound}
+use Rattle.sections.specs.Numbers.{sessions, propositions, bound}
+pub use Rattle.sections.specs.Sections.{Session}
 use Rattle.reading.specs.Reading.{section, one}
 use Rattle.names.specs.Names.{nameBytes, GoodName}
 use Rattle.rules.specs.Lists.{Each}
 
 -- ---- the parts
-
-pub record Session : Type 0 where
-  pub mark : ℕ
-  pub length : ℕ
-  pub words : List ℕ
 
 pub record Parts : Type 0 where
   pub names : List (List ℕ)

@@ -1,8 +1,4 @@
 // The lines of all sessions, one after the other.
-use summary::line;
-use summary::values::First;
-use summary::values::Summary;
-use summary::values::summary_of;
 use formula::Sequenced;
 use formula::kinds::Node;
 use formula::nodes::count;
@@ -10,6 +6,10 @@ use formula::nodes::node_at;
 use formula::sequence_of;
 use rules::kinds::Place;
 use rules::kinds::Session;
+use summary::line;
+use summary::values::First;
+use summary::values::Summary;
+use summary::values::summary_of;
 ghost use Prim.Native.Nat.{_≤_, _<_};
 ghost use lib.ListN.{length};
 ghost use Rattle.rules.specs.Limits.{mostSessions, mostRoom};

@@ -40,13 +40,7 @@ fn put_summary(text: &mut [u8], at: usize, s: Summary) -> usize
 }
 
 // The line of a place.
-pub fn put_place(
-    text: &mut [u8],
-    at: usize,
-    session: Session,
-    place: Place,
-    s: Summary,
-) -> usize
+pub fn put_place(text: &mut [u8], at: usize, session: Session, place: Place, s: Summary) -> usize
     ensures { λ r. ⌜ Wrote (now (text .entry)) at (placeLine (session .0) (place .0) s) (now (text .exit)) r ⌝ }
 {
     let a = put_decimal(text, at, session.0 as u64);

@@ -16,8 +16,8 @@ abbrev μ-loop : tie.MeasureT-loop
 loop-holds : tie.Need-loop-holds Inv-loop μ-loop
 loop-holds c = words-start _ _ _ _ _ (c .before .before .pre .1)
 
-word-at-requires : tie.Need-word-at-requires Inv-loop μ-loop
-word-at-requires c κs = omega (arith, c .before .loop .inv .room)
+word-from-requires : tie.Need-word-from-requires Inv-loop μ-loop
+word-from-requires c κs = search needs
 
 add-to : tie.Need-add-to Inv-loop μ-loop
 add-to c = omega (arith, c .before .before .loop .inv .upto, c .before .before .before .before .before .pre .0, c .before .before .before .before .before .good)
@@ -38,7 +38,7 @@ loop-less : tie.Need-loop-less Inv-loop μ-loop
 loop-less c = search needs
 
 loop-again : tie.Need-loop-again Inv-loop μ-loop
-loop-again c = words-turn _ _ _ _ _ (c .before .before .loop .inv) (c .before .loop-test .taken) _ (c .word-at .ensures)
+loop-again c = words-turn _ _ _ _ _ (c .before .before .loop .inv) (c .before .loop-test .taken) _ (c .word-from .ensures .0 (omega (arith, c .before .before .loop .inv .room)))
 
 same-length : tie.Need-same-length Inv-loop μ-loop
 same-length c = c .before .loop .inv .long
@@ -53,7 +53,7 @@ fill-session-spec =
     Inv-loop
     μ-loop
     loop-holds
-    word-at-requires
+    word-from-requires
     add-to
     mul-to
     slice-write-to
