@@ -20,8 +20,8 @@ use Rattle.rules.specs.Limits.{mostSize, mostRoom}
 use Rattle.formula.specs.Rule.{IsUnary, IsBinary, IsLeaf, Known, Fault, Broken, propositionCode}
 use Rattle.formula.specs.Rule.Fault.{unaryPlace, leftPlace, rightPlace, unknownCode, noProposition, leftUnused, rightUnused, leafSize, unarySize, binarySize, tooLarge}
 use Rattle.formula.specs.Rule.Broken.{tooMany, listed, rooted}
-use Rattle.formula.specs.Inner.{LeafIn, Fits, AllFit}
-use Rattle.formula.specs.Inner.Fits.{leaf, unary, binary}
+use Rattle.formula.specs.Faultless.{LeafIn, Fits, AllFit}
+use Rattle.formula.specs.Faultless.Fits.{leaf, unary, binary}
 
 -- ---- codes
 

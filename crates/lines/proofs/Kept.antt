@@ -18,8 +18,8 @@ use Rattle.walk.specs.Promises.{Table, KeepsAll, Kept, Found}
 use Rattle.walk.specs.Promises as walk
 use Rattle.formula.specs.Kinds.{node, nodes}
 use Rattle.formula.specs.Rule.{Broken}
-use Rattle.formula.specs.Inner.{LeafIn, Fits}
-use Rattle.formula.specs.Inner.Fits.{leaf as a-leaf, unary as a-unary, binary as a-binary}
+use Rattle.formula.specs.Faultless.{LeafIn, Fits}
+use Rattle.formula.specs.Faultless.Fits.{leaf as a-leaf, unary as a-unary, binary as a-binary}
 use Rattle.formula.proofs.Listed.{length-nodes, node-at}
 use Rattle.formula.proofs.Faults.{fits-whole}
 

@@ -3,13 +3,13 @@
 mod sessions;
 mod under;
 
-use formula::Verdict;
 use formula::kinds::Node;
 use sessions::put_sessions;
 use under::places_under;
+use verdict::Verdict;
 ghost use Rattle.session.specs.Recording.{recording};
 ghost use Rattle.formula.specs.Kinds.{nodeOf, nodes};
-ghost use Rattle.formula.specs.Check.{checkRows};
+ghost use Rattle.verdict.specs.Check.{checkRows};
 ghost use Rattle.rules.specs.Refusals.{Decided};
 ghost use Rattle.report.specs.Report.{saidReport, Reports};
 
@@ -78,7 +78,7 @@ pub fn report(
 ) -> Reported
     ensures { λ a. ⌜ Reports (recording r m (now (marks .entry)) (now (lengths .entry)) (now (words .entry))) (nodes (now (codes .entry)) (now (lefts .entry)) (now (rights .entry)) (now (sizes .entry))) (nodeOf root) (now (text .entry)) (saidReport a) (now (text .exit)) ⌝ }
 {
-    let verdict = formula::check(
+    let verdict = verdict::check(
         r,
         m,
         marks,

@@ -1,15 +1,15 @@
 // The lines of all sessions, one after the other.
-use formula::Sequenced;
 use formula::kinds::Node;
 use formula::nodes::count;
 use formula::nodes::node_at;
-use formula::sequence_of;
 use rules::kinds::Place;
 use rules::kinds::Session;
 use summary::line;
 use summary::values::First;
 use summary::values::Summary;
 use summary::values::summary_of;
+use verdict::Sequenced;
+use verdict::sequence_of;
 ghost use Prim.Native.Nat.{_≤_, _<_};
 ghost use lib.ListN.{length};
 ghost use Rattle.rules.specs.Limits.{mostSessions, mostRoom};
@@ -17,7 +17,7 @@ ghost use Rattle.rules.specs.Refusals.{Decided};
 ghost use Rattle.session.specs.Recording.{recording};
 ghost use Rattle.formula.specs.Kinds.{nodeOf, nodes};
 ghost use Rattle.formula.specs.Nodes.{nodeAt};
-ghost use Rattle.formula.specs.Check.{checkRows};
+ghost use Rattle.verdict.specs.Check.{checkRows};
 ghost use Rattle.report.specs.Lines.{NodeSays};
 ghost use Rattle.report.specs.Inner.{MarksUnder, AllPass, WrotePlace, WrotePlaces, WroteSession, WroteSessions};
 

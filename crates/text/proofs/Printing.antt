@@ -15,7 +15,7 @@ use Rattle.formula.specs.Nodes.{Node, nodeAt, Spells, codes}
 use Rattle.formula.proofs.Trees.{spells-size}
 use Rattle.formula.specs.Rule.{IsUnary, IsBinary, propositionCode}
 use Rattle.text.specs.Text.{text, leafText, mostText}
-use Rattle.formula.specs.Inner.{Fits}
+use Rattle.formula.specs.Faultless.{Fits}
 use Rattle.names.specs.Names.{namesIn}
 use Rattle.writing.specs.Writing.{Wrote}
 use Rattle.text.specs.Inner.{Printable, Long, Written, beforeLast}

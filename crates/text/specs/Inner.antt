@@ -10,7 +10,7 @@ use Rattle.formula.specs.Formula.{Formula}
 use Rattle.formula.specs.Nodes.{Node, Spells, codes}
 use Rattle.names.specs.Names.{namesIn, GoodNames}
 use Rattle.writing.specs.Writing.{Wrote}
-use Rattle.formula.specs.Inner.{Fits, AllFit}
+use Rattle.formula.specs.Faultless.{Fits, AllFit}
 use Rattle.text.specs.Text.{text}
 
 -- the names and the list have passed

@@ -5,7 +5,7 @@ use native.Mathlib.Omega.{arith}
 use lib.Seq.{length-take-le}
 use Rattle.formula.specs.Kinds.{nodeOf, nodes}
 use Rattle.session.specs.Recording.{recording}
-use Rattle.formula.proofs.Sequencing.{passed-list}
+use Rattle.verdict.proofs.Sequencing.{passed-list}
 use Rattle.report.proofs.Composing.{whole-report, too-short, reported}
 use borrow.Author.Needs.{needs}
 use Rattle.report.proofs.write.Statement.{statement}

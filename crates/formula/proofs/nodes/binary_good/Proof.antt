@@ -3,7 +3,7 @@
 use native.Mathlib.Omega.{arith}
 use mathlib.Core.Path.{sym}
 use Rattle.formula.specs.Rule.Fault.{leftPlace, rightPlace, binarySize, tooLarge}
-use Rattle.formula.specs.Inner.Fits.{binary}
+use Rattle.formula.specs.Faultless.Fits.{binary}
 use borrow.Author.Needs.{needs}
 use Rattle.formula.proofs.nodes.binary_good.Statement.{statement}
 use Rattle.formula.proofs.nodes.binary_good.Tie as tie

@@ -4,7 +4,7 @@ use native.Mathlib.Omega.{arith}
 use mathlib.Core.Path.{refl}
 use Rattle.formula.specs.Formula.{proposition}
 use Rattle.formula.specs.Rule.Fault.{unknownCode, noProposition, leftUnused, rightUnused, leafSize}
-use Rattle.formula.specs.Inner.Fits.{leaf}
+use Rattle.formula.specs.Faultless.Fits.{leaf}
 use Rattle.formula.proofs.Faults.{is-leaf, unknown, constant-fits}
 use borrow.Author.Needs.{needs}
 use Rattle.formula.proofs.nodes.leaf_good.Statement.{statement}

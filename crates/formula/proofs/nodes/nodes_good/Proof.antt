@@ -3,7 +3,7 @@
 use Prim.Native.Nat.{_≤_, _-_}
 use native.Mathlib.Omega.{arith}
 use Rattle.formula.specs.Kinds.{nodes}
-use Rattle.formula.specs.Inner.{AllFit}
+use Rattle.formula.specs.Faultless.{AllFit}
 use Rattle.formula.proofs.Tests.{fit-more, fault-at}
 use borrow.Author.Needs.{needs}
 use Rattle.formula.proofs.nodes.nodes_good.Statement.{statement}

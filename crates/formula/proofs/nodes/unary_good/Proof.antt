@@ -3,7 +3,7 @@
 use native.Mathlib.Omega.{arith}
 use mathlib.Core.Path.{sym}
 use Rattle.formula.specs.Rule.Fault.{unaryPlace, rightUnused, unarySize, tooLarge}
-use Rattle.formula.specs.Inner.Fits.{unary}
+use Rattle.formula.specs.Faultless.Fits.{unary}
 use Rattle.formula.proofs.Faults.{not-both}
 use borrow.Author.Needs.{needs}
 use Rattle.formula.proofs.nodes.unary_good.Statement.{statement}

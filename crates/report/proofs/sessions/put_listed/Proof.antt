@@ -5,7 +5,7 @@ use Rattle.formula.specs.Kinds.{nodeOf, nodes}
 use Rattle.session.specs.Recording.{recording}
 use Rattle.rules.specs.Refusals.{Decided}
 use Rattle.formula.specs.Nodes.{Node, nodeAt}
-use Rattle.formula.specs.Check.{checkRows}
+use Rattle.verdict.specs.Check.{checkRows}
 use Rattle.report.specs.Lines.{placeLine, NodeSays}
 use Rattle.report.specs.Lines.PlaceLine.{one}
 use Rattle.report.proofs.Composing.{no-line}

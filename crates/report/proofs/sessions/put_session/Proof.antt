@@ -3,7 +3,7 @@
 use native.Mathlib.Omega.{arith}
 use Rattle.formula.specs.Kinds.{nodeOf, nodes}
 use Rattle.session.specs.Recording.{recording}
-use Rattle.formula.proofs.Sequencing.{listed-passes, passed-list}
+use Rattle.verdict.proofs.Sequencing.{listed-passes, passed-list}
 use Rattle.report.proofs.Marking.{few-places}
 use Rattle.report.proofs.Composing.{one-session}
 use borrow.Author.Needs.{needs}

@@ -5,7 +5,7 @@ use Prim.Native.Nat.{_-_, _≤_}
 use native.Mathlib.Omega.{arith}
 use Rattle.formula.specs.Kinds.{nodeOf, nodes}
 use Rattle.session.specs.Recording.{recording}
-use Rattle.formula.proofs.Sequencing.{passed-sessions}
+use Rattle.verdict.proofs.Sequencing.{passed-sessions}
 use Rattle.writing.proofs.Writing.{wrote-length}
 use Rattle.report.specs.Inner.{WroteSessions}
 use Rattle.report.proofs.Composing.{no-sessions, session-more, all-sessions}

@@ -6,12 +6,13 @@ use mathlib.Core.List.{[], _∷_}
 use native.Mathlib.Omega.{arith}
 use Rattle.rules.specs.Refusals.{Decided}
 use Rattle.session.specs.Data.{dataRows}
 use Rattle.formula.specs.Kinds.{nodeOf, nodes}
 use Rattle.formula.specs.Rule.{brokenList}
 use Rattle.session.specs.Recording.{recording}
-use Rattle.formula.proofs.Checking.{decided-early, decided-list, checkable, verdict-answers}
-use Rattle.formula.proofs.check.Statement.{statement}
-use Rattle.formula.proofs.check.Tie as tie
+use Rattle.formula.proofs.Tests.{decided-early}
+use Rattle.verdict.proofs.Checking.{decided-list, checkable, verdict-answers}
+use Rattle.verdict.proofs.check.Statement.{statement}
+use Rattle.verdict.proofs.check.Tie as tie
 
 test-requires : tie.Need-test-requires
 test-requires c κs = search needs

@@ -2,10 +2,10 @@
 -- Assumes nothing.
 use mathlib.Core.Path.{sym, _∙_}
 use mathlib.Core.Bool.{true≢false}
-use Rattle.formula.proofs.Checking.{marked-good, bad-accepts, bad-rejects}
+use Rattle.verdict.proofs.Checking.{marked-good, bad-accepts, bad-rejects}
 use borrow.Author.Needs.{needs}
-use Rattle.formula.proofs.agree.agrees.Statement.{statement}
-use Rattle.formula.proofs.agree.agrees.Tie as tie
+use Rattle.verdict.proofs.agree.agrees.Statement.{statement}
+use Rattle.verdict.proofs.agree.agrees.Tie as tie
 
 accepts-requires : tie.Need-accepts-requires
 accepts-requires c κs = search needs

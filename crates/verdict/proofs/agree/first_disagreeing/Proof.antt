@@ -5,13 +5,13 @@ use mathlib.Core.Bool.{true≢false}
 use Prim.Native.Nat.{_+_, _*_, _-_, _≤_}
 use lib.ListN.{length}
 use native.Mathlib.Omega.{arith}
 use Rattle.formula.specs.Kinds.{nodeOf, nodes}
 use Rattle.session.specs.Recording.{recording}
 use Rattle.formula.proofs.Listed.{length-nodes}
-use Rattle.formula.proofs.Checking.{Before, one-more, agrees-seq, words-room, ready-for, next-from}
+use Rattle.verdict.proofs.Checking.{Before, one-more, agrees-seq, words-room, ready-for, next-from}
 use borrow.Author.Needs.{needs}
-use Rattle.formula.proofs.agree.first_disagreeing.Statement.{statement}
-use Rattle.formula.proofs.agree.first_disagreeing.Tie as tie
+use Rattle.verdict.proofs.agree.first_disagreeing.Statement.{statement}
+use Rattle.verdict.proofs.agree.first_disagreeing.Tie as tie
 
 abbrev Inv-loop : tie.InvT-loop
 Inv-loop r m marks lengths words codes lefts rights sizes root below j₀ from₀ j from = (j ≤ r) × (from ≡ j * m) × Before (recording r m marks lengths words) (nodes codes lefts rights sizes) (nodeOf root) j

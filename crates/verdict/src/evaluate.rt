@@ -1,17 +1,17 @@
 // One session's sequence of a formula, over a node list that has passed the rule.
-use crate::kinds::FALSE;
-use crate::kinds::Node;
-use crate::kinds::PROPOSITION;
-use crate::nodes::node_at;
+use formula::kinds::FALSE;
+use formula::kinds::Node;
+use formula::kinds::PROPOSITION;
+use formula::nodes::node_at;
 use rules::kinds::Proposition;
 use sequence::CharSeq;
 use sequence::operators;
 use sequence::operators::Group;
 ghost use Prim.Native.Nat.{_≤_, _<_};
 ghost use Rattle.sequence.specs.Operators.{unaryCode};
 ghost use Rattle.formula.specs.Kinds.{nodeOf, nodes};
 ghost use Rattle.formula.specs.Rule.{IsUnary, IsBinary};
-ghost use Rattle.formula.specs.Inner.{Ready, Evaluated};
+ghost use Rattle.verdict.specs.Inner.{Ready, Evaluated};
 
 // A leaf's sequence: a proposition's as it was recorded, no place for false, and every place for true.
 fn leaf(

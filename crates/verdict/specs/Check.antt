@@ -8,12 +8,12 @@ use Rattle.rules.specs.Refusals.{Row, Decided}
 use Rattle.session.specs.Data.{outsideNumbers, tooShort, tooLong, bitAbove, markWrong}
 use Rattle.rules.specs.Answers.{Said}
 use Rattle.session.specs.Recording.{Recording}
 use Rattle.formula.specs.Formula.{Formula, Accepts, Separates, MarkedTrace}
 use Rattle.formula.specs.Recorded.{markedTrace, markedTraces}
 use Rattle.formula.specs.Nodes.{Node, Spells, codes}
-use Rattle.formula.specs.declared.Verdict.{Verdict}
-use Rattle.formula.specs.declared.Verdict.the-variants.{Accepted, Disagrees, Refused}
+use Rattle.verdict.specs.declared.Verdict.{Verdict}
+use Rattle.verdict.specs.declared.Verdict.the-variants.{Accepted, Disagrees, Refused}
 use Rattle.formula.specs.Rule.{brokenList}
 
 -- the answer in document 01's terms: 0 with 1, or with 0 and the session's number; or a refusal's number alone
 abbrev pub saidVerdict : Verdict → Said

@@ -16,19 +16,20 @@ use Rattle.sequence.specs.declared.CharSeq.{CharSeq}
 use Rattle.sequence.specs.Sequence.{seq, Denotes}
 use Rattle.session.specs.Data.{outsideNumbers, tooLong}
 use Rattle.session.specs.Recording.{Recording, lengthOf}
 use Rattle.formula.specs.Formula.{Formula, Holds}
 use Rattle.formula.specs.Nodes.{Node, nodeAt}
 use Rattle.formula.specs.Recorded.{markedTrace}
 use Rattle.formula.specs.Rule.{Broken}
 use Rattle.formula.specs.Rule.Broken.{tooMany}
-use Rattle.formula.specs.Check.{checkRows}
-use Rattle.formula.specs.Sequences.{SequenceOn, SequenceAnswer}
-use Rattle.formula.specs.Inner.{Fits, Evaluated, Checkable}
-use Rattle.formula.specs.Inner.Fits.{leaf, unary, binary}
-use Rattle.formula.specs.declared.Sequenced.{Sequenced}
-use Rattle.formula.specs.declared.Sequenced.the-variants.{Sequence, NoSession, Refused}
+use Rattle.verdict.specs.Check.{checkRows}
+use Rattle.verdict.specs.Sequences.{SequenceOn, SequenceAnswer}
+use Rattle.formula.specs.Faultless.{Fits}
+use Rattle.verdict.specs.Inner.{Evaluated, Checkable}
+use Rattle.formula.specs.Faultless.Fits.{leaf, unary, binary}
+use Rattle.verdict.specs.declared.Sequenced.{Sequenced}
+use Rattle.verdict.specs.declared.Sequenced.the-variants.{Sequence, NoSession, Refused}
 use Rattle.formula.proofs.Faults.{whole-fits, fits-whole}
 use Rattle.formula.proofs.Spelled.{one-formula, spelled}
 
 module _ (i : Recording) (k : List Node) (root : Node) (j : ℕ) where
   -- what the evaluator answers is the sequence of the formula that the root spells

@@ -3,8 +3,8 @@
 use mathlib.Core.Path.{refl}
 use mathlib.Core.Logic.{inl, inr}
 use native.Mathlib.Omega.{arith}
-use Rattle.formula.proofs.verdict_on.Statement.{statement}
-use Rattle.formula.proofs.verdict_on.Tie as tie
+use Rattle.verdict.proofs.verdict_on.Statement.{statement}
+use Rattle.verdict.proofs.verdict_on.Tie as tie
 
 cast-number : tie.Need-cast-number
 cast-number c = omega arith

@@ -4,23 +4,23 @@ use mathlib.Core.Path.{_≡_}
 use mathlib.Core.Logic.{inl, inr}
 use native.Mathlib.Omega.{arith}
 use Rattle.sequence.proofs.Groups.{in-unary, in-binary, off-unary, off-binary}
 use Rattle.formula.specs.Kinds.{nodeOf, nodes}
 use Rattle.formula.proofs.Faults.{left-under, right-under}
-use Rattle.formula.proofs.Evaluation.{ready-at, word-of-unary, word-of-binary}
+use Rattle.verdict.proofs.Evaluation.{ready-at, word-of-unary, word-of-binary}
 use borrow.Author.Needs.{needs}
 use Prim.Native.Nat.{ℕ, _<_}
 use borrow.Fn.Kinds.{In}
 use borrow.Fn.PlainCycle.{Measures, is, falls, and}
-use Rattle.formula.proofs.evaluate.eval.Reads as eval
-use Rattle.formula.proofs.evaluate.eval.Kinds as eval-kinds
-use Rattle.formula.proofs.evaluate.+eval.Lts-eval as eval-lts
-use Rattle.formula.proofs.evaluate.leaf.Reads as leaf-reads
+use Rattle.verdict.proofs.evaluate.eval.Reads as eval
+use Rattle.verdict.proofs.evaluate.eval.Kinds as eval-kinds
+use Rattle.verdict.proofs.evaluate.+eval.Lts-eval as eval-lts
+use Rattle.verdict.proofs.evaluate.leaf.Reads as leaf-reads
 use Rattle.formula.proofs.nodes.node_at.Reads as node-at-reads
 use Rattle.sequence.proofs.CharSeq.binary.Reads as binary-reads
 use Rattle.sequence.proofs.CharSeq.unary.Reads as unary-reads
 use Rattle.sequence.proofs.operators.operator_of.Reads as operator-of-reads
-use Rattle.formula.proofs.evaluate.+eval.{statement}
-use Rattle.formula.proofs.evaluate.+eval.Tie.{close}
+use Rattle.verdict.proofs.evaluate.+eval.{statement}
+use Rattle.verdict.proofs.evaluate.+eval.Tie.{close}
 
 abbrev μ-eval : Measures 5 eval-kinds.ps ℕ
 μ-eval κs a = a .1 .1 .1 .1 .1 .1 .1 .0

@@ -11,13 +11,14 @@ use Rattle.rules.specs.Limits.{mostSessions}
 use Rattle.rules.specs.Kinds.{mostNumber}
 use Rattle.session.specs.Data.{dataRows}
 use Rattle.session.specs.Recording.{recording}
 use Rattle.formula.specs.Kinds.{nodeOf, nodes}
 use Rattle.formula.specs.Rule.{brokenList}
 use Rattle.formula.proofs.Listed.{length-nodes}
-use Rattle.formula.proofs.Checking.{decided-early, decided-list, checkable, ready-for}
-use Rattle.formula.proofs.Sequencing.{sequence-on}
-use Rattle.formula.proofs.sequence_of.Statement.{statement}
-use Rattle.formula.proofs.sequence_of.Tie as tie
+use Rattle.formula.proofs.Tests.{decided-early}
+use Rattle.verdict.proofs.Checking.{decided-list, checkable, ready-for}
+use Rattle.verdict.proofs.Sequencing.{sequence-on}
+use Rattle.verdict.proofs.sequence_of.Statement.{statement}
+use Rattle.verdict.proofs.sequence_of.Tie as tie
 
 test-requires : tie.Need-test-requires
 test-requires c κs = search needs

@@ -5,13 +5,13 @@ use Prim.Native.Nat.{ℕ, _+_}
 use lib.ListN.{getD}
 use native.Mathlib.Omega.{arith}
 use Rattle.sequence.specs.Sequence.{seq}
 use Rattle.formula.specs.Kinds.{nodeOf, nodes}
-use Rattle.formula.specs.Inner.{Evaluated}
+use Rattle.verdict.specs.Inner.{Evaluated}
 use Rattle.formula.proofs.Faults.{proposition-under, true-code}
-use Rattle.formula.proofs.Evaluation.{word-of-proposition, word-of-false, word-of-true}
+use Rattle.verdict.proofs.Evaluation.{word-of-proposition, word-of-false, word-of-true}
 use borrow.Author.Needs.{needs}
-use Rattle.formula.proofs.evaluate.leaf.Statement.{statement}
-use Rattle.formula.proofs.evaluate.leaf.Tie as tie
+use Rattle.verdict.proofs.evaluate.leaf.Statement.{statement}
+use Rattle.verdict.proofs.evaluate.leaf.Tie as tie
 
 from-left-requires : tie.Need-from-left-requires
 from-left-requires c κs = search needs

@@ -1,16 +1,16 @@
 // Whether each session's mark is what the session says of the formula.
 use crate::evaluate::eval;
-use crate::kinds::Node;
-use crate::nodes::count;
+use formula::kinds::Node;
+use formula::nodes::count;
 use sequence::CharSeq;
 ghost use mathlib.Core.Path.{_≡_};
 ghost use mathlib.Core.Logic.{_↔_};
 ghost use mathlib.Core.Bool.{true};
 ghost use Prim.Native.Nat.{_≤_, _<_};
 ghost use Rattle.words.specs.Word.{At};
 ghost use Rattle.formula.specs.Kinds.{nodeOf, nodes};
 ghost use Rattle.session.specs.Recording.{recording};
-ghost use Rattle.formula.specs.Inner.{Checkable, Found, AgreesSeq};
+ghost use Rattle.verdict.specs.Inner.{Checkable, Found, AgreesSeq};
 
 // A session of that mark, and a formula's sequence there.
 fn agrees(mark: u8, seq: CharSeq) -> bool

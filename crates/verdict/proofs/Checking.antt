@@ -19,17 +19,18 @@ use Rattle.rules.specs.Refusals.{Row, Decided, firstOf}
 use Rattle.rules.proofs.Refusals.{Numbered, decided-none, decided-both}
 use Rattle.session.specs.Data.{dataRows}
 use Rattle.rules.specs.Limits.{mostSessions, mostPropositions}
 use Rattle.formula.specs.Formula.{Formula, Holds, Separates}
 use Rattle.formula.specs.Nodes.{Node, Spells, codes}
 use Rattle.rules.specs.Lists.{count}
 use Rattle.session.specs.Recording.{Recording, markOf, lengthOf, wordOf}
 use Rattle.formula.specs.Recorded.{markedTrace, markedTraces}
 use Rattle.formula.specs.Rule.{Broken, brokenList}
-use Rattle.formula.specs.Check.{saidVerdict, checkRows, Agrees, Outcome, CheckAnswer}
-use Rattle.formula.specs.declared.Verdict.{Verdict}
-use Rattle.formula.specs.Inner.{Fits, traceAt, Ready, Evaluated, AgreesSeq, Checkable, Found, VerdictOn}
+use Rattle.verdict.specs.Check.{saidVerdict, checkRows, Agrees, Outcome, CheckAnswer}
+use Rattle.verdict.specs.declared.Verdict.{Verdict}
+use Rattle.formula.specs.Faultless.{Fits}
+use Rattle.verdict.specs.Inner.{traceAt, Ready, Evaluated, AgreesSeq, Checkable, Found, VerdictOn}
 use Rattle.formula.proofs.Faults.{whole-fits}
 use Rattle.formula.proofs.Spelled.{spelled}
 
 -- ---- a session's sequence
 
@@ -110,13 +111,6 @@ module _ (i : Recording) (k : List Node) (root : Node) where
 
 pub next-from : {from : ℕ} (j m : ℕ) → from ≡ j * m → from + m ≡ (j + 1) * m
 next-from {from} j m e = subst (λ (x : ℕ). from + m ≡ x * m) (sym (add-one j)) (omega (arith, suc-mul j m))
-
--- a number that is decided stays, whatever comes after
-pub decided-early : (rows more : List Row) (a : ℕ) → Decided rows a → (a ≡ 0 → ⊥) → Decided (rows ++ more) a
-unfolding Decided
-decided-early [] more a d n = absurd (n d)
-decided-early (row ∷ rows) more a (inl p) n = inl p
-decided-early (row ∷ rows) more a (inr p) n = inr (p .0, decided-early rows more a (p .1) n)
 
 module _ (i : Recording) (k : List Node) (root : Node) where
   pub data-numbered : Numbered (dataRows (i .sessions) (i .propositions) (i .marks) (i .lengths) (i .words))

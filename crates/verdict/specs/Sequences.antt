@@ -6,12 +6,12 @@ use Rattle.sequence.specs.declared.CharSeq.{CharSeq}
 use Rattle.sequence.specs.Sequence.{Denotes}
 use Rattle.session.specs.Recording.{Recording, lengthOf}
 use mathlib.Core.List.{List}
 use Rattle.formula.specs.Formula.{Formula, Holds}
 use Rattle.formula.specs.Recorded.{markedTrace}
 use Rattle.formula.specs.Nodes.{Node, Spells, codes}
-use Rattle.formula.specs.Check.{checkRows}
-use Rattle.formula.specs.declared.Sequenced.{Sequenced}
-use Rattle.formula.specs.declared.Sequenced.the-variants.{Sequence, NoSession, Refused}
+use Rattle.verdict.specs.Check.{checkRows}
+use Rattle.verdict.specs.declared.Sequenced.{Sequenced}
+use Rattle.verdict.specs.declared.Sequenced.the-variants.{Sequence, NoSession, Refused}
 
 -- there is a session j, and s is the sequence there of the formula that the root spells: bit p is set exactly where the formula holds at p
 pub record SequenceOn (i : Recording) (k : List Node) (root : Node) (j : ℕ) (s : CharSeq) : Type 0 where

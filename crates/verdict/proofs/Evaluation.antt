@@ -21,13 +21,14 @@ use Rattle.sequence.specs.Masked.BinaryBy.{operator as by-binary, nothing as no
 use Rattle.sequence.proofs.Masked.{unary-reads, binary-reads}
 use Rattle.sequence.proofs.Unique.{unary-one, binary-one}
 use Rattle.sequence.proofs.Groups.{unary-below, binary-between}
 use Rattle.formula.specs.Formula.{proposition, constant, Holds}
 use Rattle.formula.specs.Formula.Tree.{leaf, unary, binary}
 use Rattle.formula.specs.Nodes.{Node, nodeAt, Spells, codes}
 use Rattle.sequence.proofs.Agreeing.{means-agree, unary-agree, binary-agree}
 use Rattle.formula.specs.Rule.{IsUnary, IsBinary, propositionCode}
-use Rattle.formula.specs.Inner.{Fits, traceAt, Ready, Evaluated}
+use Rattle.formula.specs.Faultless.{Fits}
+use Rattle.verdict.specs.Inner.{traceAt, Ready, Evaluated}
 use Rattle.formula.proofs.Faults.{not-both, not-unary-leaf, not-binary-leaf, proposition-under}
 
 module _ (n : ℕ) (words : List ℕ) (from : ℕ) (k : List Node) (nd : Node) where
   -- ---- leaves
