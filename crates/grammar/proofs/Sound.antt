@@ -16,7 +16,7 @@ use Rattle.grammar.specs.Token.{Token, pre, mid, atom, opens, closes, sp
 use Rattle.grammar.specs.Scan.{Sign, blank, bang, opener, closer, amp, bar, dash, less, other, Kind, wordy, square, sign, kind, Class, prefixed, leafy, neither, classify, State, ready, apart, after, word, rest, Step, dead, go, emit, onReady, onReadySign, onAfter, onAfterSign, onEnded, onWord, onApart, coming, step, Scan, good, bad, finish, finishWord, behind, follow, scan}
 use Rattle.grammar.proofs.Flat.{awaits, has, Flat, done, leaves, prefixes, opened, infixes, closed}
 use Rattle.reading.proofs.Lists.{true-false}
-use Rattle.names.proofs.Same.{same-eq}
+use Rattle.spelling.proofs.Same.{same-eq}
 use Rattle.grammar.proofs.Words.{WordBytes, SignIs, KindIs, kind-is, Begun, ClassIs, class-is}
 use Rattle.grammar.proofs.Complete.{bad-good}
 

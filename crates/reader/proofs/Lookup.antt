@@ -11,7 +11,7 @@ use Rattle.names.specs.Names.{sameBytes, namesIn, GoodNames}
 use Rattle.names.specs.Lookup.{findFrom, foundIn}
 use Rattle.names.specs.declared.lookup.Found.{Found}
 use Rattle.names.specs.declared.lookup.Found.the-variants.{At, Nothing}
-use Rattle.names.proofs.Same.{same-eq, same-refl}
+use Rattle.spelling.proofs.Same.{same-eq, same-refl}
 use Rattle.names.proofs.Starts.{few-names, found-among-names}
 use Rattle.names.proofs.Finding.{FoundIs, found-is}
 use Rattle.grammar.specs.Token.{Atom, name, constant}

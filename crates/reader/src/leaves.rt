@@ -1,7 +1,7 @@
 // The leaf that a word is: a constant, or a name by its number.
-use names::known::same;
 use names::lookup::Found;
 use names::lookup::find;
+use spelling::bytes::same;
 ghost use Prim.Native.Nat.{_+_, _≤_};
 ghost use lib.ListN.{length};
 ghost use Rattle.names.specs.Names.{GoodNames};

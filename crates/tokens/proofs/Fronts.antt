@@ -17,7 +17,7 @@ use Rattle.names.specs.Names.{isLetter, isNameByte, sameBytes}
 use Rattle.grammar.specs.Scan.{blank, bang, opener, closer, amp, bar, dash, less, other, Kind, wordy, square, sign, kind, Class, prefixed, leafy, neither, classify, ready, word, rest, dead, onReady, step, finish}
 use Rattle.grammar.specs.Passing.{Passes, Stops}
 use Rattle.reading.proofs.Lists.{true-false}
-use Rattle.names.proofs.Same.{same-eq}
+use Rattle.spelling.proofs.Same.{same-eq}
 use Rattle.grammar.proofs.Words.{KindIs, kind-is, kind-word, letter-word, ClassIs, class-is}
 use Rattle.grammar.proofs.Complete.{NoSquare}
 use Rattle.grammar.proofs.Passage as passage

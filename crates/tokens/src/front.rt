@@ -1,7 +1,7 @@
 // What stands where an operand is awaited.
 use crate::bytes;
-use names::letter::is_letter;
-use names::letter::is_name_byte;
+use spelling::letter::is_letter;
+use spelling::letter::is_name_byte;
 ghost use mathlib.Core.Path.{_≡_};
 ghost use mathlib.Core.Bool.{true};
 ghost use Prim.Native.Nat.{_≤_, _<_, _+_};

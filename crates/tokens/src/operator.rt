@@ -1,6 +1,6 @@
 // The infix operator that comes next.
 use crate::bytes;
-use names::letter::is_name_byte;
+use spelling::letter::is_name_byte;
 ghost use Rattle.tokens.specs.Next.{Operator, Arrow, Word};
 
 // An operator has its level, the lowest level at its right, and its end.

@@ -13,7 +13,7 @@ use Rattle.tokens.proofs.front.front.Reads as front
 use Rattle.tokens.proofs.front.front.Kinds as front-kinds
 use Rattle.tokens.proofs.front.+front.Lts-front as front-lts
 use Rattle.tokens.proofs.bytes.byte.Reads as byte-reads
-use Rattle.names.proofs.letter.is_letter.Reads as is-letter-reads
+use Rattle.spelling.proofs.letter.is_letter.Reads as is-letter-reads
 use Rattle.tokens.proofs.front.word.Reads as word-reads
 use Rattle.tokens.proofs.front.+front.{statement}
 use Rattle.tokens.proofs.front.+front.Tie.{close}

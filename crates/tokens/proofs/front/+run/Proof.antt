@@ -11,7 +11,7 @@ use Rattle.tokens.proofs.front.run.Reads as run
 use Rattle.tokens.proofs.front.run.Kinds as run-kinds
 use Rattle.tokens.proofs.front.+run.Lts-run as run-lts
 use Rattle.tokens.proofs.bytes.byte.Reads as byte-reads
-use Rattle.names.proofs.letter.is_name_byte.Reads as is-name-byte-reads
+use Rattle.spelling.proofs.letter.is_name_byte.Reads as is-name-byte-reads
 use Rattle.tokens.proofs.front.+run.{statement}
 use Rattle.tokens.proofs.front.+run.Tie.{close}
 

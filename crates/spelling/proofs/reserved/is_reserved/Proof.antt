@@ -4,12 +4,12 @@ use Prim.Native.Nat.{_-_}
 use mathlib.Core.Path.{sym, ap, _∙_}
 use native.Mathlib.Omega.{arith}
 use lib.Seq.{length-take-le}
-use Rattle.names.specs.Reserved.{reserved}
-use Rattle.names.specs.Names.{sameBytes}
-use Rattle.names.proofs.Words.{seven, Unlike, unlike-start, unlike-turn, unlike-here, unlike-end}
+use Rattle.spelling.specs.Reserved.{reserved}
+use Rattle.spelling.specs.Spelling.{sameBytes}
+use Rattle.spelling.proofs.Words.{seven, Unlike, unlike-start, unlike-turn, unlike-here, unlike-end}
 use borrow.Author.Needs.{needs}
-use Rattle.names.proofs.reserved.is_reserved.Statement.{statement}
-use Rattle.names.proofs.reserved.is_reserved.Tie as tie
+use Rattle.spelling.proofs.reserved.is_reserved.Statement.{statement}
+use Rattle.spelling.proofs.reserved.is_reserved.Tie as tie
 
 abbrev Inv-loop : tie.InvT-loop
 Inv-loop name i₀ i = Unlike reserved name i

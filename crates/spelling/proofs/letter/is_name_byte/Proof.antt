@@ -4,8 +4,8 @@ use borrow.Author.Tests.{le-leb, lt-leb, eq-eqb, ne-eqb}
 use mathlib.Core.Path.{sym, _∙_}
 use mathlib.Core.Bool.{or-true}
 use borrow.Author.Needs.{needs}
-use Rattle.names.proofs.letter.is_name_byte.Statement.{statement}
-use Rattle.names.proofs.letter.is_name_byte.Tie as tie
+use Rattle.spelling.proofs.letter.is_name_byte.Statement.{statement}
+use Rattle.spelling.proofs.letter.is_name_byte.Tie as tie
 
 is-letter-requires : tie.Need-is-letter-requires
 is-letter-requires c κs = search needs

@@ -1,9 +1,9 @@
 -- `word_at` meets its contract: the table's rule at a place below 7.
 -- Assumes nothing.
-use Rattle.names.proofs.Words.{word-at}
+use Rattle.spelling.proofs.Words.{word-at}
 use borrow.Author.Needs.{needs}
-use Rattle.names.proofs.reserved.word_at.Statement.{statement}
-use Rattle.names.proofs.reserved.word_at.Tie as tie
+use Rattle.spelling.proofs.reserved.word_at.Statement.{statement}
+use Rattle.spelling.proofs.reserved.word_at.Tie as tie
 
 mul-result : tie.Need-mul-result
 mul-result c = search needs

@@ -3,10 +3,10 @@
 use Prim.Native.Nat.{_-_}
 use mathlib.Core.Path.{sym}
 use lib.ListN.{length}
-use Rattle.names.proofs.Same.{Alike, unequal, alike-start, alike-turn, alike-differ, alike-end}
+use Rattle.spelling.proofs.Same.{Alike, unequal, alike-start, alike-turn, alike-differ, alike-end}
 use borrow.Author.Needs.{needs}
-use Rattle.names.proofs.known.same.Statement.{statement}
-use Rattle.names.proofs.known.same.Tie as tie
+use Rattle.spelling.proofs.bytes.same.Statement.{statement}
+use Rattle.spelling.proofs.bytes.same.Tie as tie
 
 abbrev Inv-loop : tie.InvT-loop
 Inv-loop a b i₀ i = Alike a b i

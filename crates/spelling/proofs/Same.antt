@@ -11,7 +11,7 @@ use lib.Dec.{eqb}
 use lib.ListN.{length, getD, drop, drop-of-length-le}
 use lib.Seq.{drop-cons}
 use Rattle.reading.proofs.Lists.{true-false, and-first, and-second, and-both, and-on, and-stop}
-use Rattle.names.specs.Names.{sameBytes}
+use Rattle.spelling.specs.Spelling.{sameBytes}
 
 pub same-refl : (xs : List ℕ) → sameBytes xs xs ≡ true
 same-refl [] = refl

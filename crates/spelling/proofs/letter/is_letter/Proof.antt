@@ -2,8 +2,8 @@
 -- Assumes nothing.
 use native.Mathlib.Omega.{arith}
 use borrow.Author.Tests.{le-leb, lt-leb}
-use Rattle.names.proofs.letter.is_letter.Statement.{statement}
-use Rattle.names.proofs.letter.is_letter.Tie as tie
+use Rattle.spelling.proofs.letter.is_letter.Statement.{statement}
+use Rattle.spelling.proofs.letter.is_letter.Tie as tie
 
 returns : tie.Need-returns
 returns c = let b = c .before .args .b in simp (lt-leb 65 b (c .if1 .taken), lt-leb 97 b (omega arith))

@@ -12,10 +12,10 @@ use lib.ListN.{length, getD, drop, drop-of-length-le}
 use lib.Seq.{drop-cons}
 use Rattle.reading.specs.Reading.{isIn}
 use Rattle.reading.proofs.Lists.{or-on, or-stop}
-use Rattle.names.specs.declared.reserved.Word.{Word}
-use Rattle.names.specs.Reserved.{reserved}
-use Rattle.names.specs.Names.{sameBytes}
-use Rattle.names.specs.Inner.{Spelt, words}
+use Rattle.spelling.specs.declared.reserved.Word.{Word}
+use Rattle.spelling.specs.Reserved.{reserved}
+use Rattle.spelling.specs.Spelling.{sameBytes}
+use Rattle.spelling.specs.Inner.{Spelt, words}
 
 -- ---- the table
 
