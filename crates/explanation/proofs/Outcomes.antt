@@ -23,7 +23,7 @@ use Rattle.formula.specs.Nodes.{Node}
 use Rattle.formula.specs.declared.kinds.Node as declared
 use Rattle.formula.specs.Kinds.{nodeOf}
 use Rattle.formula.specs.Rule.{Broken, brokenList}
-use Rattle.formula.specs.Check.{checkRows}
+use Rattle.verdict.specs.Check.{checkRows}
 use Rattle.walk.specs.Walk.{found, ended}
 use Rattle.walk.specs.Input.{Input, search}
 use Rattle.walk.specs.Promises.{Table, nodes}

@@ -20,7 +20,7 @@ use Rattle.rules.specs.Limits.{mostRoom}
 use Rattle.formula.specs.declared.kinds.Node.{Node}
 use Rattle.formula.specs.Kinds.{nodeOf}
 use Rattle.formula.specs.Rule.{tooMany, brokenList}
-use Rattle.formula.specs.Check.{CheckAnswer, checkRows}
+use Rattle.verdict.specs.Check.{CheckAnswer, checkRows}
 use Rattle.text.specs.Print.{PrintAnswer, PrintsBy, Prints}
 use Rattle.faces.specs.Lists.{plain}
 use Rattle.faces.specs.Inner.{seen}

@@ -12,7 +12,7 @@ use Rattle.formula.specs.Nodes as walk
 use Rattle.session.specs.Recording.{Recording}
 use Rattle.formula.specs.declared.kinds.Node.{Node}
 use Rattle.formula.specs.Kinds.{nodeOf, node, nodes}
-use Rattle.formula.specs.Check.{CheckAnswer}
+use Rattle.verdict.specs.Check.{CheckAnswer}
 use Rattle.text.specs.Print.{Prints}
 use Rattle.formula.proofs.Listed.{length-nodes, node-at}
 use Rattle.faces.specs.Lists.{plain, codesOf, leftsOf, rightsOf, sizesOf}

@@ -7,11 +7,11 @@ use Rattle.formula.specs.Nodes as walk
 use Rattle.session.specs.Recording.{Recording}
 use Rattle.walk.specs.Input.{Input}
 use Rattle.formula.specs.declared.kinds.Node.{Node}
-use Rattle.formula.specs.declared.Verdict.{Verdict}
+use Rattle.verdict.specs.declared.Verdict.{Verdict}
 use Rattle.text.specs.declared.Printed.{Printed}
-use Rattle.formula.specs.Check.{saidVerdict, CheckAnswer}
+use Rattle.verdict.specs.Check.{saidVerdict, CheckAnswer}
 use Rattle.text.specs.Print.{saidPrinted, Prints}
-use Rattle.formula.proofs.Unique.{check-unique}
+use Rattle.verdict.proofs.Unique.{check-unique}
 use Rattle.text.proofs.Unique.{print-unique}
 use Rattle.search.specs.declared.SearchAnswer.{SearchAnswer}
 use Rattle.search.specs.Table.{Cols}

@@ -10,7 +10,7 @@ use Rattle.walk.specs.Input.{Input}
 use Rattle.rules.specs.Limits.{mostRoom}
 use Rattle.rules.specs.Answers.{Said}
 use Rattle.formula.specs.declared.kinds.Node.{Node}
-use Rattle.formula.specs.Check.{CheckAnswer}
+use Rattle.verdict.specs.Check.{CheckAnswer}
 use Rattle.text.specs.Print.{Prints}
 use Rattle.search.specs.declared.SearchAnswer.{SearchAnswer}
 use Rattle.search.specs.declared.SearchAnswer.the-variants.{Found, None, Full, Refused}

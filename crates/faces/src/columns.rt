@@ -3,7 +3,7 @@ use crate::lists::Done;
 use crate::lists::ROOM;
 use crate::lists::SEEN;
 use crate::lists::count_of;
-use formula::Verdict;
+use verdict::Verdict;
 use formula::kinds::Node;
 use rules::kinds::Place;
 use search::SearchAnswer;
@@ -12,7 +12,7 @@ ghost use mathlib.Core.Path.{_≡_};
 ghost use Prim.Native.Nat.{_≤_, min};
 ghost use lib.ListN.{length};
 ghost use Rattle.formula.specs.Kinds.{nodeOf};
-ghost use Rattle.formula.specs.Check.{saidVerdict};
+ghost use Rattle.verdict.specs.Check.{saidVerdict};
 ghost use Rattle.session.specs.Recording.{recording};
 ghost use Rattle.text.specs.Print.{saidPrinted};
 ghost use Rattle.walk.specs.Input.{inputOf};
@@ -60,7 +60,7 @@ pub(crate) fn check(
     let mut rights: [u16; SEEN] = [0; SEEN];
     let mut sizes: [u8; SEEN] = [0; SEEN];
     unpack(list, count, &mut codes, &mut lefts, &mut rights, &mut sizes);
-    formula::check(
+    verdict::check(
         r,
         m,
         marks,

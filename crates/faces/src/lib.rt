@@ -4,13 +4,13 @@ mod columns;
 mod lists;
 mod parsing;
 
-use formula::Verdict;
+use verdict::Verdict;
 use formula::kinds::Node;
 use reader::Parsed;
 use search::SearchAnswer;
 use text::Printed;
 ghost use Rattle.formula.specs.Kinds.{nodeOf};
-ghost use Rattle.formula.specs.Check.{saidVerdict, CheckAnswer};
+ghost use Rattle.verdict.specs.Check.{saidVerdict, CheckAnswer};
 ghost use Rattle.session.specs.Recording.{recording};
 ghost use Rattle.text.specs.Print.{saidPrinted, Prints};
 ghost use Rattle.reader.specs.Parsing.{saidParsed, Parses};

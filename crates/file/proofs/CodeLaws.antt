@@ -12,12 +12,12 @@ use Rattle.file.specs.Offence.{isUnary, isBinary, Settings, settings}
 use Rattle.reading.proofs.Spans.{Spans, both, first, second}
 use Rattle.reading.proofs.Lists.{within-low, within-high, within-is}
 use Rattle.reading.proofs.Readers.{got-value, got-next, in-turn, byte-sound, byte-complete}
-use Rattle.sections.proofs.CodeLaws.{unary-of, unary-in, binary-at, binary-in, New}
+use Rattle.sections.proofs.CodeLaws.{unary-in, unary-at, binary-in, binary-at, New}
 
 -- ---- codes
 
 pub unary-good : (before : List ℕ) (c : ℕ) → New isUnary before c → GoodUnary before c
-unary-good before c n = (unary-of c (within-high 0 4 c (n .0)), n .1)
+unary-good before c n = (unary-at c (n .0), n .1)
 
 pub good-unary : (before : List ℕ) (c : ℕ) → GoodUnary before c → New isUnary before c
 good-unary before c g = (subst (λ (x : ℕ). isUnary x ≡ true) (g .0 .1) (unary-in (g .0 .0)), g .1)

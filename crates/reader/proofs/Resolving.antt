@@ -28,9 +28,9 @@ use Rattle.grammar.specs.Nodes.{node, nodesOf}
 use Rattle.reading.proofs.Lists.{true-false}
 use Rattle.grammar.proofs.Words.{WordBytes, LetterFirst, letter-first, letter-word}
 use Rattle.reader.specs.Words.{WordAt, UnknownAt}
-use Rattle.reader.specs.Inner.{numberOf, codesBy}
-use Rattle.reader.specs.Answers.{AllKnown}
-use Rattle.reader.proofs.Lookup.{number-at}
+use Rattle.descent.specs.Packed.{numberOf, codesBy}
+use Rattle.descent.specs.Judging.{AllKnown}
+use Rattle.descent.proofs.Lookup.{number-at}
 
 -- ---- the leaves of a tree are the atoms of its tokens
 

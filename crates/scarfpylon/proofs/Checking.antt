@@ -10,10 +10,10 @@ use lib.ListN.{length}
 use Rattle.rules.specs.Refusals.{Decided}
 use Rattle.session.specs.Data.{dataRows}
 use Rattle.formula.specs.Nodes.{Node}
-use Rattle.formula.specs.declared.Verdict.{Verdict}
-use Rattle.formula.specs.declared.Verdict.the-variants.{Accepted, Disagrees, Refused}
-use Rattle.formula.specs.Check as core
-use Rattle.formula.specs.Check.{saidVerdict, CheckAnswer}
+use Rattle.verdict.specs.declared.Verdict.{Verdict}
+use Rattle.verdict.specs.declared.Verdict.the-variants.{Accepted, Disagrees, Refused}
+use Rattle.verdict.specs.Check as core
+use Rattle.verdict.specs.Check.{saidVerdict, CheckAnswer}
 use Rattle.session.specs.Recording.{Recording, recording}
 use Rattle.scarfpylon.specs.Out.{outWords, written, returnedOf, saidWords}
 use Rattle.scarfpylon.specs.Check.{checkRows, CheckDone}

@@ -13,7 +13,7 @@ use Rattle.rules.specs.Refusals.{Row, Decided}
 use Rattle.rules.proofs.Refusals.{Numbered, decided-none, decided-unique}
 use Rattle.session.specs.Recording.{Recording}
 use Rattle.formula.specs.Nodes.{Node}
-use Rattle.formula.specs.Check.{checkRows}
+use Rattle.verdict.specs.Check.{checkRows}
 use Rattle.writing.specs.Writing.{decimal}
 use Rattle.report.specs.declared.Reported.{Reported}
 use Rattle.report.specs.declared.Reported.the-variants.{Text, Refused}

@@ -17,11 +17,11 @@ use Rattle.file.specs.Reading.{Lent}
 use Rattle.formula.specs.Nodes.{Node}
 use Rattle.session.specs.Recording.{Recording}
 use Rattle.walk.specs.Input.{Input}
-use Rattle.formula.specs.declared.Verdict.{Verdict}
+use Rattle.verdict.specs.declared.Verdict.{Verdict}
 use Rattle.text.specs.declared.Printed.{Printed}
-use Rattle.formula.specs.Check.{saidVerdict}
+use Rattle.verdict.specs.Check.{saidVerdict}
 use Rattle.text.specs.Print.{saidPrinted}
-use Rattle.formula.proofs.Unique.{check-unique}
+use Rattle.verdict.proofs.Unique.{check-unique}
 use Rattle.text.proofs.Unique.{print-unique}
 use Rattle.search.specs.declared.SearchAnswer.{SearchAnswer}
 use Rattle.search.specs.Table.{Cols}

@@ -6,8 +6,8 @@ use Prim.Native.Nat.{ℕ}
 use Rattle.rules.specs.Refusals.{Row, Decided}
 use Rattle.formula.specs.Nodes.{Node}
 use Rattle.session.specs.Recording.{Recording}
-use Rattle.formula.specs.declared.Verdict.{Verdict}
-use Rattle.formula.specs.Check.{saidVerdict, checkRowsWith, CheckAnswer}
+use Rattle.verdict.specs.declared.Verdict.{Verdict}
+use Rattle.verdict.specs.Check.{saidVerdict, checkRowsWith, CheckAnswer}
 use Rattle.scarfpylon.specs.Out.{outShort, written, saidWords}
 
 module _ (i : Recording) (k : List Node) (root : Node) (old : List ℕ) where

@@ -148,7 +148,7 @@ pub extern "C" fn scarfpylon_check(
         right: Place(right),
         size,
     };
-    let answer = formula::check(
+    let answer = verdict::check(
         r,
         m,
         marks,

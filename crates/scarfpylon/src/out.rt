@@ -1,6 +1,6 @@
 // The number of an answer, and the words of `out` that it names.
 use file::ReadAnswer;
-use formula::Verdict;
+use verdict::Verdict;
 use reader::Parsed;
 use search::SearchAnswer;
 use sequence::Answer;
@@ -9,7 +9,7 @@ ghost use mathlib.Core.Path.{_≡_};
 ghost use Prim.Native.Nat.{_^_, _≤_, _<_};
 ghost use lib.ListN.{length};
 ghost use Rattle.file.specs.Reading as reading;
-ghost use Rattle.formula.specs.Check.{saidVerdict};
+ghost use Rattle.verdict.specs.Check.{saidVerdict};
 ghost use Rattle.reader.specs.Parsing.{saidParsed};
 ghost use Rattle.text.specs.Print.{saidPrinted};
 ghost use Rattle.search.specs.Search.{said};

@@ -6,6 +6,7 @@ use Prim.Native.Nat.{ℕ, _+_, _*_, _^_}
 use lib.Dec.{eqb, leb, ltb}
 use lib.ListN.{length, take, drop}
 use Rattle.words.specs.Word.{width}
+use Rattle.sequence.specs.Operators.{Coded, unary, binary, neither, decode}
 use Rattle.sections.specs.Numbers.{sessions}
 use Rattle.reading.specs.Reading.{got, bad, Reader, andThen, each, byte, within, counted, isIn}
 
@@ -40,12 +41,22 @@ allSessions m = counted 1 sessions (λ _. session m)
 
 -- ---- codes
 
--- "unary 0-4, binary 5-10"
+-- "unary 0-4, binary 5-10": the group of a code is the table's, by its one decoder
+abbrev pub unaryGroup : Coded → Bool
+unaryGroup (unary op) = true
+unaryGroup (binary op) = false
+unaryGroup neither = false
+
+abbrev pub binaryGroup : Coded → Bool
+binaryGroup (unary op) = false
+binaryGroup (binary op) = true
+binaryGroup neither = false
+
 abbrev pub isUnary : ℕ → Bool
-isUnary c = within 0 4 c
+isUnary c = unaryGroup (decode c)
 
 abbrev pub isBinary : ℕ → Bool
-isBinary c = within 5 10 c
+isBinary c = binaryGroup (decode c)
 
 -- the group that is asked for: unary, or binary
 abbrev pub groupOf : Bool → ℕ → Bool

@@ -14,8 +14,8 @@ use Rattle.file.specs.Format.{Parts}
 use Rattle.file.specs.Reading.{said, Lent, after, marksOf, lengthsOf, readOf}
 use Rattle.file.proofs.Numbers.{Bytes}
 use Rattle.formula.specs.Nodes.{Node, nodeAt}
-use Rattle.formula.specs.Check.{saidVerdict, CheckAnswer}
-use Rattle.formula.specs.declared.Verdict.{Verdict}
+use Rattle.verdict.specs.Check.{saidVerdict, CheckAnswer}
+use Rattle.verdict.specs.declared.Verdict.{Verdict}
 use Rattle.reader.specs.declared.Parsed.{Parsed}
 use Rattle.reader.specs.declared.Parsed.the-variants.{Nodes}
 use Rattle.reader.specs.Parsing.{Columns, saidParsed, Parses}

@@ -21,10 +21,10 @@ use Rattle.formula.specs.Formula.{Formula, Separates}
 use Rattle.formula.specs.Recorded.{markedTraces}
 use Rattle.formula.specs.Nodes.{Node, nodeAt, Spells, codes}
 use Rattle.formula.specs.Rule.{Broken as NodesBroken}
-use Rattle.formula.specs.Check.{saidVerdict, checkRows, FirstDisagrees, Outcome, CheckAnswer}
-use Rattle.formula.specs.declared.Verdict.{Verdict}
-use Rattle.formula.specs.declared.Verdict.the-variants.{Accepted, Disagrees, Refused}
-use Rattle.formula.proofs.Checking.{decided-list}
+use Rattle.verdict.specs.Check.{saidVerdict, checkRows, FirstDisagrees, Outcome, CheckAnswer}
+use Rattle.verdict.specs.declared.Verdict.{Verdict}
+use Rattle.verdict.specs.declared.Verdict.the-variants.{Accepted, Disagrees, Refused}
+use Rattle.verdict.proofs.Checking.{decided-list}
 use Rattle.formula.proofs.Spelled.{one-formula}
 use Rattle.grammar.specs.Grammar.{Refused11}
 use Rattle.grammar.proofs.Theorems.{one-tree, decided}

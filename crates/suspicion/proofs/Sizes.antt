@@ -9,8 +9,8 @@ use Rattle.reading.specs.Reading.{Got, got, bad}
 use Rattle.session.specs.Recording.{Recording}
 use Rattle.file.specs.Format.{Parts}
 use Rattle.file.specs.Offence.{wholeFile}
-use Rattle.formula.specs.declared.Verdict.{Verdict}
-use Rattle.formula.specs.declared.Verdict.the-variants.{Accepted, Disagrees, Refused}
+use Rattle.verdict.specs.declared.Verdict.{Verdict}
+use Rattle.verdict.specs.declared.Verdict.the-variants.{Accepted, Disagrees, Refused}
 use Rattle.reader.specs.Words.{mostBytes}
 use Rattle.reader.specs.declared.Parsed.{Parsed}
 use Rattle.reader.specs.declared.Parsed.the-variants.{Nodes, Broken, Stops, Unknown}

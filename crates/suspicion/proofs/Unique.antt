@@ -10,8 +10,8 @@ use Rattle.session.specs.Recording.{Recording}
 use Rattle.file.specs.Format.{Parts}
 use Rattle.file.specs.Offence.{wholeFile}
 use Rattle.formula.specs.Nodes.{nodeAt}
-use Rattle.formula.specs.declared.Verdict.{Verdict}
-use Rattle.formula.proofs.Unique.{check-unique}
+use Rattle.verdict.specs.declared.Verdict.{Verdict}
+use Rattle.verdict.proofs.Unique.{check-unique}
 use Rattle.reader.specs.declared.Parsed.{Parsed}
 use Rattle.reader.specs.declared.Parsed.the-variants.{Nodes, Broken, Stops, Unknown, Refused}
 use Rattle.reader.specs.Parsing.{Columns}

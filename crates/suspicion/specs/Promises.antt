@@ -12,7 +12,7 @@ use Rattle.file.specs.Format.{Parts, Good, GoodFile, fileBytes}
 use Rattle.file.specs.Offence.{wholeFile}
 use Rattle.formula.specs.Formula.{Formula, size, Separates}
 use Rattle.formula.specs.Recorded.{markedTraces}
-use Rattle.formula.specs.Check.{FirstDisagrees}
+use Rattle.verdict.specs.Check.{FirstDisagrees}
 use Rattle.text.specs.Tokens.{Named}
 use Rattle.grammar.specs.Token.{Typed}
 use Rattle.grammar.specs.Grammar.{Reads, IsFormula, Refused11}

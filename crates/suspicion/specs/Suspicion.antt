@@ -13,9 +13,9 @@ use Rattle.file.specs.Offence.{wholeFile}
 use Rattle.file.specs.Reading.{marksOf, lengthsOf, wordsOf}
 use Rattle.formula.specs.Nodes.{Node, nodeAt}
 use Rattle.formula.specs.Kinds.{nodes}
-use Rattle.formula.specs.Check.{saidVerdict, CheckAnswer}
-use Rattle.formula.specs.declared.Verdict.{Verdict}
-use Rattle.formula.specs.declared.Verdict.the-variants.{Accepted, Disagrees, Refused}
+use Rattle.verdict.specs.Check.{saidVerdict, CheckAnswer}
+use Rattle.verdict.specs.declared.Verdict.{Verdict}
+use Rattle.verdict.specs.declared.Verdict.the-variants.{Accepted, Disagrees, Refused}
 use Rattle.reader.specs.declared.Parsed.{Parsed}
 use Rattle.reader.specs.declared.Parsed.the-variants.{Nodes, Broken, Stops, Unknown}
 use Rattle.reader.specs.declared.Parsed.the-variants as parsed

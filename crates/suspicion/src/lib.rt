@@ -3,7 +3,7 @@
 mod line;
 
 use file::ReadAnswer;
-use formula::Verdict;
+use verdict::Verdict;
 use reader::Parsed;
 ghost use Rattle.session.specs.Recording.{recording};
 ghost use Rattle.formula.specs.Kinds.{nodes};
@@ -28,7 +28,7 @@ fn checked(
         (nodes (now (codes .entry)) (now (lefts .entry)) (now (rights .entry)) (now (sizes .entry))) at (now (text .entry)) (now (text .exit)) k ⌝ }
 {
     let root = formula::nodes::node_at(codes, lefts, rights, sizes, at);
-    let verdict = formula::check(
+    let verdict = verdict::check(
         r,
         m,
         marks,

@@ -39,12 +39,12 @@ use denote.Triple.Spec.{Meets, tripleOf}
 use denote.Triple.Table.{entered, cited}
 use denote.Triple.Walked.{says, Stays, stay-none, stay-none-slice, walkOf, Walks, ends-at, walked, goes-none, goes-none-slice, walk-meets}
 use Rattle.formula.specs.declared.kinds.Node.{Node}
-use Rattle.formula.specs.declared.Verdict.{Verdict}
+use Rattle.verdict.specs.declared.Verdict.{Verdict}
 use Rattle.formula.specs.Kinds.{nodeOf}
-use Rattle.formula.specs.Check.{saidVerdict, CheckAnswer}
+use Rattle.verdict.specs.Check.{saidVerdict, CheckAnswer}
 use Rattle.session.specs.Recording.{recording}
-use Rattle.formula.proofs.Verdict as Said-type
-use Rattle.formula.proofs.Verdict.Laws as Said-laws
+use Rattle.verdict.proofs.Verdict as Said-type
+use Rattle.verdict.proofs.Verdict.Laws as Said-laws
 use Rattle.formula.proofs.kinds.Node as T
 use Rattle.formula.proofs.kinds.Node.Laws as T′
 use Rattle.faces.specs.Lists.{plain}
