@@ -2,7 +2,7 @@
 //
 // A line has fields with a `/` between them. A field of numbers has them in decimal with spaces between them; `7:3` is 7 three times.
 use libc::STDOUT_FILENO;
-ghost use Prim.Native.Nat.{_-_, _≤_};
+ghost use Prim.Native.Nat.{_-_, _<_, _≤_};
 ghost use mathlib.Core.Path.{_≡_};
 ghost use lib.ListN.{length};
 ghost use Rattle.io.specs.Digits.{Fewest};
@@ -216,6 +216,48 @@ pub fn places<'a>(line: &[u8], number: usize, to: &'a mut [u16]) -> &'a mut [u16
     let mut list = [0u64; 4200];
     let all = numbers(field(line, number), &mut list);
     let n = narrow16(&list[..all], to);
+    &mut to[..n]
+}
+
+// The value of a hex digit in capitals; 0 for any other byte.
+fn digit(b: u8) -> u8
+    ensures { λ r. ⌜ r < 16 ⌝ }
+{
+    if b >= b'0' {
+        if b <= b'9' {
+            return b - b'0';
+        }
+    }
+    if b >= b'A' {
+        if b <= b'F' {
+            return b - b'A' + 10;
+        }
+    }
+    0
+}
+
+// The bytes that the hex digits spell, and how many there are.
+fn decode(text: &[u8], out: &mut [u8]) -> usize
+    ensures { λ r. ⌜ r ≤ length (now (out .entry)) ⌝ }
+{
+    let mut n: usize = 0;
+    let mut i: usize = 0;
+    while i + 1 < text.len() {
+        if out.len() <= n {
+            return n;
+        }
+        out[n] = digit(text[i]) * 16 + digit(text[i + 1]);
+        n += 1;
+        i += 2;
+    }
+    n
+}
+
+// A list of bytes whose field has them in hex, two digits in capitals each and nothing between them.
+pub fn hex<'a>(line: &[u8], number: usize, to: &'a mut [u8]) -> &'a mut [u8]
+    ensures { λ r. ⌜ length (now r) ≤ length (now (to .entry)) ⌝ }
+{
+    let n = decode(field(line, number), to);
     &mut to[..n]
 }
 
