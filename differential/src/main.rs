@@ -46,7 +46,7 @@ const USAGE: &str = "differential: one of
   speed --beside FILE      how fast it runs beside an earlier library of ours (an absolute path); with the same profile
   until                    how fast `U` is in each form that was tried; only with --profile speed
   collision                an input on which the Rust's published hash loses a formula (with --features published-hash; without, exact keys)
-  sample                   writes the stored answers anew: crates/run_replay/stdin and stdout, crates/run_settled/stdout, crates/run_searches/src/sample.rt and stdout
+  sample                   writes the stored answers anew: crates/run_replay/stdin and stdout, crates/run_settled/stdout, crates/run_searches/stdin and stdout
   findings                 what the Rust does outside document 01's domain";
 
 fn main() {
