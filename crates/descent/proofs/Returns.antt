@@ -47,7 +47,8 @@ module _ (file text : List ℕ) (place : ℕ) (old mid : List ℕ) where
   pub bracket-refused : (at : ℕ) {r : Got} {k : ℕ} → r ≡ Bad k → Infix file place old mid text 0 at r → Bracket file place old mid text at r
   bracket-refused at e f = let g = subst (Infix file place old mid text 0 at) e f in subst (Bracket file place old mid text at) (sym e) (λ d. g (suc d))
 
-  pub bracket-closed : (at : ℕ) {end m next : ℕ} {r : Got} {s : End} → r ≡ Val end m → Infix file place old mid text 0 at r → s ≡ At next → Closing text end s → Bracket file place old mid text at (Val next m)
+  pub bracket-closed : (at : ℕ) {end m next : ℕ} {r : Got} {s : End} → r ≡ Val end m → Infix file place old mid text 0 at r → s ≡ At next → Closing text end s
+      → Bracket file place old mid text at (Val next m)
   bracket-closed at {end} {m} {next} e f u g =
       let x = subst (Infix file place old mid text 0 at) e f in
       let c : Closing text end (At next) = subst (Closing text end) u g in
@@ -65,7 +66,8 @@ module _ (file text : List ℕ) (place : ℕ) (old mid : List ℕ) where
   pub infix-refused : (n at : ℕ) {r : Got} {k : ℕ} → r ≡ Bad k → Prefix file place old mid text at r → Infix file place old mid text n at r
   infix-refused n at e f = let g = subst (Prefix file place old mid text at) e f in subst (Infix file place old mid text n at) (sym e) g
 
-  pub infix-more : (n at : ℕ) {next m : ℕ} (new : List ℕ) {r : Got} (s : Got) → n ≤ 4 → r ≡ Val next m → Prefix file place old mid text at r → More file place mid new text n next m s → Infix file place old new text n at s
+  pub infix-more : (n at : ℕ) {next m : ℕ} (new : List ℕ) {r : Got} (s : Got) → n ≤ 4 → r ≡ Val next m → Prefix file place old mid text at r → More file place mid new text n next m s
+      → Infix file place old new text n at s
   infix-more n at new (Val next w) h e f g =
       let x = subst (Prefix file place old mid text at) e f in
       let C = codesBy (namesIn file) in
@@ -122,7 +124,8 @@ module _ (file text : List ℕ) (place at : ℕ) (h : at ≤ length text) where
       by-peek (cut m) q s = rw s (passage.stop-cut text at h q d)
 
   module _ (old mid : List ℕ) where
-    pub more-refused : (n m : ℕ) {a : Op} {l r next c k : ℕ} (p : ℕ) {b : Got} → a ≡ Is l r next c → Operator text at a → b ≡ Bad k → Infix file p old mid text r next b → More file place old mid text n at m b
+    pub more-refused : (n m : ℕ) {a : Op} {l r next c k : ℕ} (p : ℕ) {b : Got} → a ≡ Is l r next c → Operator text at a → b ≡ Bad k → Infix file p old mid text r next b
+        → More file place old mid text n at m b
     more-refused n m {r = r} {next} {k = k} p e f q g =
         let s = seen e f in
         let x : Refuses text next k = subst (Infix file p old mid text r next) q g in
@@ -173,10 +176,16 @@ module _ (file text : List ℕ) (place : ℕ) (old mid : List ℕ) (at : ℕ) wh
       → new ≡ set mid (place + m) (pack (node c (place + m - 1) 0 (1 + m))) → Prefix file place old new text at (Val end (1 + m))
   prefix-operator new {next = next} {c} e g q p wrote =
       let x = subst (Fronts text at) e g in
-      let y = subst (Prefix file place old mid text next) q p in
-      ((omega arith, omega (arith, x .0, y .0 .1), y .0 .2), unary (x .1) (y .1), passage.is-prefix text (x .1) (x .2) (y .2), ap (λ (v : ℕ). 1 + v) (y .3), written-unary file text place old mid (x .1) (y .1) (x .3) (y .3) (y .4) wrote)
+      let y = subst (Prefix file place old mid text next) q p in (
+        (omega arith, omega (arith, x .0, y .0 .1), y .0 .2),
+        unary (x .1) (y .1),
+        passage.is-prefix text (x .1) (x .2) (y .2),
+        ap (λ (v : ℕ). 1 + v) (y .3),
+        written-unary file text place old mid (x .1) (y .1) (x .3) (y .3) (y .4) wrote,
+      )
 
-  pub prefix-operator-refused : {f : First} {next c k : ℕ} {r : Got} → f ≡ PrefixOperator next c → Fronts text at f → r ≡ Bad k → Prefix file place old mid text next r → Prefix file place old mid text at r
+  pub prefix-operator-refused : {f : First} {next c k : ℕ} {r : Got} → f ≡ PrefixOperator next c → Fronts text at f → r ≡ Bad k → Prefix file place old mid text next r
+      → Prefix file place old mid text at r
   prefix-operator-refused {next = next} {k = k} e g q p =
       let x = subst (Fronts text at) e g in
       let y : Refuses text next k = subst (Prefix file place old mid text next) q p in
@@ -184,8 +193,13 @@ module _ (file text : List ℕ) (place : ℕ) (old mid : List ℕ) (at : ℕ) wh
 
   pub prefix-bracket : {f : First} {next : ℕ} (r : Got) → f ≡ Open next → Fronts text at f → Bracket file place old mid text next r → Prefix file place old mid text at r
   prefix-bracket (Val end m) e g b =
-      let x = subst (Fronts text at) e g in
-      ((b .0 .0, omega (arith, x .0, b .0 .1), b .0 .2), b .1, record { tokens = opens ∷ (b .2 ++ (closes ∷ [])); passes = λ d. passage.pass-then text (x .1 d) (b .3 d); derived = bracket (b .4) }, b .5, b .6)
+      let x = subst (Fronts text at) e g in (
+        (b .0 .0, omega (arith, x .0, b .0 .1), b .0 .2),
+        b .1,
+        record { tokens = opens ∷ (b .2 ++ (closes ∷ [])); passes = λ d. passage.pass-then text (x .1 d) (b .3 d); derived = bracket (b .4) },
+        b .5,
+        b .6,
+      )
   prefix-bracket (Bad k) e g b = let x = subst (Fronts text at) e g in λ d. passage.pass-stop text (x .1 d) (b d)
 
   pub prefix-leaf : {f : First} {next start code left : ℕ} → f ≡ LeafWord next start → Fronts text at f → LeafFields file text start (next - start) code left

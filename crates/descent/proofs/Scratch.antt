@@ -38,7 +38,8 @@ pub written-length : (old : List ℕ) {new : List ℕ} (p : ℕ) (ns : List Node
 written-length old p ns e = ap length e ∙ length-sets old p (packs ns)
 
 -- one run behind another
-pub written-then : (old : List ℕ) {mid new : List ℕ} (p : ℕ) (xs ys : List Node) {q : ℕ} → q ≡ p + length xs → mid ≡ sets old p (packs xs) → new ≡ sets mid q (packs ys) → new ≡ sets old p (packs (xs ++ ys))
+pub written-then : (old : List ℕ) {mid new : List ℕ} (p : ℕ) (xs ys : List Node) {q : ℕ} → q ≡ p + length xs → mid ≡ sets old p (packs xs) → new ≡ sets mid q (packs ys)
+    → new ≡ sets old p (packs (xs ++ ys))
 written-then old {mid} {new} p xs ys {q} z e f =
     f ∙ ap (λ (l : List ℕ). sets l q (packs ys)) e
     ∙ ap (λ (n : ℕ). sets (sets old p (packs xs)) n (packs ys)) (z ∙ ap (λ (n : ℕ). p + n) (sym (packs-length xs)))

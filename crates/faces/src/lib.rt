@@ -4,11 +4,11 @@ mod columns;
 mod lists;
 mod parsing;
 
-use verdict::Verdict;
 use formula::kinds::Node;
 use reader::Parsed;
 use search::SearchAnswer;
 use text::Printed;
+use verdict::Verdict;
 ghost use Rattle.formula.specs.Kinds.{nodeOf};
 ghost use Rattle.verdict.specs.Check.{saidVerdict, CheckAnswer};
 ghost use Rattle.session.specs.Recording.{recording};

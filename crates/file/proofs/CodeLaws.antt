@@ -52,7 +52,8 @@ module _ (file : List ℕ) where
       let two : t .0 ≡ 2 = omega (arith, within-low 2 2 (t .0) (k .0), within-high 2 2 (t .0) (k .0)) in
       let is : record { constants = u .0; bound = v .0 } ≡ s = got-value (v .3) in
       let n : v .1 ≡ next = got-next (v .3) in
-      let good : Set (record { constants = u .0; bound = v .0 }) = record { constants = within-high 0 1 (u .0) (c .0); some = within-low 1 bound (v .0) (b .0); low = within-high 1 bound (v .0) (b .0) } in
+      let good : Set (record { constants = u .0; bound = v .0 }) =
+      record { constants = within-high 0 1 (u .0) (c .0); some = within-low 1 bound (v .0) (b .0); low = within-high 1 bound (v .0) (b .0) } in
       let count = subst (λ (x : ℕ). Spans file at (one x) (t .1)) two (k .1) in
       let spans = both file (one 2) (one (u .0) ++ one (v .0)) count (both file (one (u .0)) (one (v .0)) (c .1) (b .1)) in
       (subst Set is good, subst (λ (x : Settings). Spans file at (settingsBytes x) next) is (subst (λ (x : ℕ). Spans file at (settingsBytes (record { constants = u .0; bound = v .0 })) x) n spans))

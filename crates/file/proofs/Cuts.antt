@@ -123,8 +123,10 @@ module _ (file : List ℕ) (k : ℕ) (short : k ≤ length file) where
       go : (p q : Bool) → leb (at + 8) (length file) ≡ p → ltb (number (take 8 (drop at file))) (2 ^ n) ≡ q
           → cond p (cond q (got (number (take 8 (drop at file))) (at + 8)) (bad at)) (bad (length file)) ≡ got w next
           → (at ≤ next)
-          × (next ≤ k → cond (leb (at + 8) (length front)) (cond (ltb (number (take 8 (drop at front))) (2 ^ n)) (got (number (take 8 (drop at front))) (at + 8)) (bad at)) (bad (length front)) ≡ got w next)
-          × (at ≤ k → k < next → cond (leb (at + 8) (length front)) (cond (ltb (number (take 8 (drop at front))) (2 ^ n)) (got (number (take 8 (drop at front))) (at + 8)) (bad at)) (bad (length front)) ≡ bad k)
+          × (next ≤ k → cond (leb (at + 8) (length front)) (cond (ltb (number (take 8 (drop at front))) (2 ^ n)) (got (number (take 8 (drop at front))) (at + 8)) (bad at))
+          (bad (length front)) ≡ got w next)
+          × (at ≤ k → k < next → cond (leb (at + 8) (length front)) (cond (ltb (number (take 8 (drop at front))) (2 ^ n)) (got (number (take 8 (drop at front))) (at + 8)) (bad at))
+          (bad (length front)) ≡ bad k)
       go true true h t g =
           let m : at + 8 ≡ next = got-next g in (
             omega arith,

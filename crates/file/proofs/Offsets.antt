@@ -54,14 +54,16 @@ module _ (file : List ℕ) where
       go true false h g = let k : at ≡ o = cc in omega arith
       go false q h g = let k : length file ≡ o = cc in omega (arith, ltb-false at (length file) h)
 
-  row-upto : {A : Type 0} (item : List A → Reader A) (w : ℕ) → ((before : List A) (at : ℕ) → Upto (at + w) (item before file at)) → (n : ℕ) (before : List A) (at : ℕ) → Upto (at + n * w) (each item n before file at)
+  row-upto : {A : Type 0} (item : List A → Reader A) (w : ℕ) → ((before : List A) (at : ℕ) → Upto (at + w) (item before file at)) → (n : ℕ) (before : List A) (at : ℕ)
+      → Upto (at + n * w) (each item n before file at)
   unfolding each
   row-upto item w u zero before at = omega arith
   row-upto item w u (suc n) before at =
       next-upto (item before file at) (λ a next. each item n (before ++ (a ∷ [])) file next) (u before at) (omega (arith, suc-mul n w))
       (λ a next e h. higher (each item n (before ++ (a ∷ [])) file next) (row-upto item w u n (before ++ (a ∷ [])) next) (omega (arith, suc-mul n w)))
 
-  counted-upto : {A : Type 0} (lo hi : ℕ) (item : List A → Reader A) (w : ℕ) → ((before : List A) (at : ℕ) → Upto (at + w) (item before file at)) → (at : ℕ) → Upto (at + 1 + hi * w) (counted lo hi item file at)
+  counted-upto : {A : Type 0} (lo hi : ℕ) (item : List A → Reader A) (w : ℕ) → ((before : List A) (at : ℕ) → Upto (at + w) (item before file at)) → (at : ℕ)
+      → Upto (at + 1 + hi * w) (counted lo hi item file at)
   counted-upto lo hi item w u at =
       next-upto (byte (within lo hi) file at) (λ n next. each item n [] file next) (byte-upto (within lo hi) at) (omega arith)
       (λ n next e h.

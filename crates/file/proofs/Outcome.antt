@@ -127,12 +127,32 @@ module _ (file : List ℕ) where
             module _ (hu : u ≤ length unary) where
               pub room-binary : length binary < v → after (said Room) marks lengths words unary binary ≡ readOf file all
               room-binary h =
-                  no-room (rw (k .count, k .width, k .unaries, k .binaries, le-leb r (length marks) hm, le-leb r (length lengths) hl, le-leb (m * r) (length words) hw, le-leb u (length unary) hu, lt-leb v (length binary) h))
+                  no-room (rw (
+                    k .count,
+                    k .width,
+                    k .unaries,
+                    k .binaries,
+                    le-leb r (length marks) hm,
+                    le-leb r (length lengths) hl,
+                    le-leb (m * r) (length words) hw,
+                    le-leb u (length unary) hu,
+                    lt-leb v (length binary) h,
+                  ))
 
               module _ (hb : v ≤ length binary) where
                 enough : roomFor (k .parts) all ≡ true
                 enough =
-                    rw (k .count, k .width, k .unaries, k .binaries, le-leb r (length marks) hm, le-leb r (length lengths) hl, le-leb (m * r) (length words) hw, le-leb u (length unary) hu, le-leb v (length binary) hb)
+                    rw (
+                      k .count,
+                      k .width,
+                      k .unaries,
+                      k .binaries,
+                      le-leb r (length marks) hm,
+                      le-leb r (length lengths) hl,
+                      le-leb (m * r) (length words) hw,
+                      le-leb u (length unary) hu,
+                      le-leb v (length binary) hb,
+                    )
 
                 new-marks : sets marks 0 (strided (2 + 8 * m) r (drop (a + 1) file)) ≡ over (marksOf (k .parts)) marks
                 new-marks = ap (sets marks 0) (k .marks) ∙ filled (marksOf (k .parts)) marks (omega (arith, length-map (k .parts .sessions) (λ s. s .mark), k .count))

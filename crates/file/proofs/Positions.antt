@@ -60,7 +60,8 @@ module _ (m : ℕ) where
   marks-there [] before rest e = refl
   marks-there (s ∷ ss) before rest e = ap (λ (l : List ℕ). s .mark ∷ l) (ap (strided (2 + 8 * m) (length ss)) (later s ss rest (e .0)) ∙ marks-there ss (before ++ (s ∷ [])) rest (e .1))
 
-  pub lengths-there : (ss before : List Session) (rest : List ℕ) → Each (λ _ s. GoodSession m s) before ss → strided (2 + 8 * m) (length ss) (drop 1 (flatMap sessionBytes ss ++ rest)) ≡ map (λ s. s .length) ss
+  pub lengths-there : (ss before : List Session) (rest : List ℕ) → Each (λ _ s. GoodSession m s) before ss
+      → strided (2 + 8 * m) (length ss) (drop 1 (flatMap sessionBytes ss ++ rest)) ≡ map (λ s. s .length) ss
   unfolding strided flatMap Each
   lengths-there [] before rest e = refl
   lengths-there (s ∷ ss) before rest e =
@@ -69,7 +70,8 @@ module _ (m : ℕ) where
       let swap : drop (2 + 8 * m) (drop 1 all) ≡ drop 1 (drop (2 + 8 * m) all) = drop-drop (2 + 8 * m) 1 all ∙ ap (λ (n : ℕ). drop n all) n ∙ sym (drop-drop 1 (2 + 8 * m) all) in
       ap (λ (l : List ℕ). s .length ∷ l) (ap (strided (2 + 8 * m) (length ss)) (swap ∙ ap (drop 1) (later s ss rest (e .0))) ∙ lengths-there ss (before ++ (s ∷ [])) rest (e .1))
 
-  pub session-words-there : (ss before : List Session) (rest : List ℕ) → Each (λ _ s. GoodSession m s) before ss → sessionWords m (length ss) (flatMap sessionBytes ss ++ rest) ≡ flatMap (λ s. s .words) ss
+  pub session-words-there : (ss before : List Session) (rest : List ℕ) → Each (λ _ s. GoodSession m s) before ss
+      → sessionWords m (length ss) (flatMap sessionBytes ss ++ rest) ≡ flatMap (λ s. s .words) ss
   unfolding sessionWords flatMap Each
   session-words-there [] before rest e = refl
   session-words-there (s ∷ ss) before rest e =
@@ -152,7 +154,8 @@ module _ (p : Parts) (file : List ℕ) (g : Good p) (e : fileBytes p ≡ file) w
 
   to-binary : (rest : List ℕ) × (drop (length front + 1 + length (p .sessions) * (2 + 8 * m) + length (p .unary) + 2) file ≡ flatMap one (p .binary) ++ rest)
   to-binary =
-      let z : length front + 1 + length (p .sessions) * (2 + 8 * m) + length (p .unary) + 2 ≡ 0 + length front + 1 + length blocks + 1 + length (flatMap one (p .unary)) + 1 = omega (arith, sized, ap length (ones (p .unary))) in
+      let z : length front + 1 + length (p .sessions) * (2 + 8 * m) + length (p .unary) + 2 ≡ 0 + length front + 1 + length blocks + 1 + length (flatMap one (p .unary)) + 1 =
+      omega (arith, sized, ap length (ones (p .unary))) in
       (_, ap (λ (n : ℕ). drop n file) z ∙ from-binary .is ∙ append-assoc (flatMap one (p .binary)) settings (drop (length file) file))
 
   pub layout : Layout p file

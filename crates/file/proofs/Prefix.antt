@@ -40,7 +40,8 @@ module _ (front file : List ℕ) (k : ℕ) (short : k ≤ length front) (long : 
       let s : getD front at 0 ≡ getD file at 0 = sym (getD-take k front at 0 h) ∙ ap (λ (l : List ℕ). getD l at 0) agree ∙ getD-take k file at 0 h in
       rw (lt-ltb at (length front) i, lt-ltb at (length file) j, s)
 
-  module _ {A : Type 0} (item : List A → Reader A) (w : ℕ) (ends : (before : List A) (at : ℕ) → Upto (at + w) (item before file at)) (same : (before : List A) (at : ℕ) → at + w ≤ k → item before front at ≡ item before file at) where
+  module _ {A : Type 0} (item : List A → Reader A) (w : ℕ) (ends : (before : List A) (at : ℕ) → Upto (at + w) (item before file at))
+      (same : (before : List A) (at : ℕ) → at + w ≤ k → item before front at ≡ item before file at) where
     same-row : (n : ℕ) (before : List A) (at : ℕ) → at + n * w ≤ k → each item n before front at ≡ each item n before file at
     unfolding each
     same-row zero before at h = refl

@@ -61,7 +61,14 @@ module _ (file : List ℕ) where
           pub tail-whole : next ≡ length file → TailRead (getD file a 0) (getD file b 0) ≡ tailOf (tailAt file at)
           unfolding settings atEnd
           tail-whole n =
-              rw (byte-read r (byte (within 2 2) file at) e q, byte-read s (byte (within 0 1) file a) d p, byte-read t (byte (within 1 bound) file b) h g, eq-eqb next (length file) n, mark-there .2, bound-there .2)
+              rw (
+                byte-read r (byte (within 2 2) file at) e q,
+                byte-read s (byte (within 0 1) file a) d p,
+                byte-read t (byte (within 1 bound) file b) h g,
+                eq-eqb next (length file) n,
+                mark-there .2,
+                bound-there .2,
+              )
 
   -- ---- the whole file
 

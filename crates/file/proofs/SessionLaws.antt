@@ -40,7 +40,8 @@ module _ (file : List ℕ) where
   unfolding word
   word-sound bs n s at w next e = go (leb (at + 8) (length file)) (ltb (number (eight file at)) (2 ^ n)) refl refl e
     where
-      go : (p q : Bool) → leb (at + 8) (length file) ≡ p → ltb (number (eight file at)) (2 ^ n) ≡ q → cond p (cond q (got (number (eight file at)) (at + 8)) (bad at)) (bad (length file)) ≡ got w next → Wf n w × Spans file at (wordBytes w) next
+      go : (p q : Bool) → leb (at + 8) (length file) ≡ p → ltb (number (eight file at)) (2 ^ n) ≡ q
+          → cond p (cond q (got (number (eight file at)) (at + 8)) (bad at)) (bad (length file)) ≡ got w next → Wf n w × Spans file at (wordBytes w) next
       go true true h t g =
           let run = eight file at in
           let v : number run ≡ w = got-value g in
@@ -48,7 +49,8 @@ module _ (file : List ℕ) where
           let r : at + 8 ≤ length file = leb-true (at + 8) (length file) h in
           let k : length run ≡ 8 = omega (arith, length-take 8 (drop at file), length-drop at file) in
           let low : lowFirst 8 (number run) ≡ run = ap (λ (x : ℕ). lowFirst x (number run)) (sym k) ∙ low-number run (bytes-take 8 (drop at file) (bytes-drop at file bs)) in
-          let is : drop at file ≡ lowFirst 8 (number run) ++ drop (at + 8) file = sym (take-append-drop 8 (drop at file)) ∙ ap (λ (l : List ℕ). run ++ l) (drop-drop 8 at file) ∙ ap (λ (l : List ℕ). l ++ drop (at + 8) file) (sym low) in
+          let is : drop at file ≡ lowFirst 8 (number run) ++ drop (at + 8) file =
+          sym (take-append-drop 8 (drop at file)) ∙ ap (λ (l : List ℕ). run ++ l) (drop-drop 8 at file) ∙ ap (λ (l : List ℕ). l ++ drop (at + 8) file) (sym low) in
           let spans : Spans file at (wordBytes (number run)) (at + 8) = record { is = is; end = omega (arith, length-low 8 (number run)) } in
           (rw (← v) (lt-wf s (ltb-true (number run) (2 ^ n) t)), rw (← v, ← m) spans)
       go true false h t g = absurd (got-bad (sym g))
@@ -86,10 +88,13 @@ module _ (file : List ℕ) where
       let w : v .0 ≡ r .new = r .is in
       let is : record { mark = t .0; length = u .0; words = v .0 } ≡ s = got-value (v .3) in
       let n : v .1 ≡ next = got-next (v .3) in
-      let good : GoodSession m (record { mark = t .0; length = u .0; words = v .0 }) = record { mark = within-high 0 1 (t .0) (mark .0); short = short; count = rw w (r .count); words = rw w (r .fits) } in
+      let good : GoodSession m (record { mark = t .0; length = u .0; words = v .0 }) =
+      record { mark = within-high 0 1 (t .0) (mark .0); short = short; count = rw w (r .count); words = rw w (r .fits) } in
       let run : Spans file (u .1) (flatMap wordBytes (v .0)) (v .1) = rw w (r .spans) in
-      let spans = both file (one (t .0)) (one (u .0) ++ flatMap wordBytes (v .0)) (mark .1) (both file (one (u .0)) (flatMap wordBytes (v .0)) (length .1) run) in
-      (subst (GoodSession m) is good, subst (λ (x : Session). Spans file at (sessionBytes x) next) is (subst (λ (x : ℕ). Spans file at (sessionBytes (record { mark = t .0; length = u .0; words = v .0 })) x) n spans))
+      let spans = both file (one (t .0)) (one (u .0) ++ flatMap wordBytes (v .0)) (mark .1) (both file (one (u .0)) (flatMap wordBytes (v .0)) (length .1) run) in (
+        subst (GoodSession m) is good,
+        subst (λ (x : Session). Spans file at (sessionBytes x) next) is (subst (λ (x : ℕ). Spans file at (sessionBytes (record { mark = t .0; length = u .0; words = v .0 })) x) n spans),
+      )
 
   pub session-complete : (m at : ℕ) (s : Session) (next : ℕ) → GoodSession m s → Spans file at (sessionBytes s) next → session m file at ≡ got s next
   unfolding session

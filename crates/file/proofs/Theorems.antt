@@ -60,7 +60,8 @@ one-reading p q g h e = got-value (sym (good-passes (fileBytes q) p g e) ∙ rou
 pub front-is-names : (p : Parts) → Good p → wholeNames (take (length (section nameBytes (p .names))) (fileBytes p)) ≡ got (p .names) (length (section nameBytes (p .names)))
 front-is-names p g =
     let front = section nameBytes (p .names) in
-    let e : take (length front) (fileBytes p) ≡ front = take-append-seam front (section sessionBytes (p .sessions) ++ (section one (p .unary) ++ (section one (p .binary) ++ section one (p .constants ∷ p .bound ∷ [])))) in
+    let e : take (length front) (fileBytes p) ≡ front =
+    take-append-seam front (section sessionBytes (p .sessions) ++ (section one (p .unary) ++ (section one (p .binary) ++ section one (p .constants ∷ p .bound ∷ [])))) in
     rw e (names-accepts front (p .names) .1 ((g .someNames, g .fewNames, g .names), refl))
 
 -- ---- what is handed out

@@ -174,7 +174,8 @@ module _ (file : List ℕ) where
   at-token before text (mid o) g a c known = tt
   at-token before text (atom (name w)) g a c known =
       let m : (length before + length w) - length before ≡ length w = omega arith in
-      let q : take ((length before + length w) - length before) (drop (length before) (before ++ (w ++ text))) ≡ w = rw (m, drop-at before (w ++ text) (length before) refl) (take-at w text (length w) refl) in
+      let q : take ((length before + length w) - length before) (drop (length before) (before ++ (w ++ text))) ≡ w =
+      rw (m, drop-at before (w ++ text) (length before) refl) (take-at w text (length w) refl) in
       known-word known w (at-word before w text (letter-first w g) c (a refl)) q g
   at-token before text (atom (constant b)) g a c known = tt
   at-token before text opens g a c known = tt

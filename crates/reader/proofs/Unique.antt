@@ -142,7 +142,8 @@ module _ (file text : List ℕ) (old : Columns) where
 
   same-parse : (s r : Said) (m n : Columns) → Parses file text old m s → Parses file text old n r → (s ≡ r) × (m ≡ n)
   same-parse s r m n a b =
-      let e : s ≡ r = decides-one (parseRows file text old) rows-one (Taken file text old m) (Taken file text old n) s r (λ x y. same-said s r (x .number ∙ sym (y .number)) (x .values ∙ ap (λ (f : Formula). size f ∷ []) (taken-formula x y) ∙ sym (y .values))) (a .answer) (b .answer) in
+      let e : s ≡ r = decides-one (parseRows file text old) rows-one (Taken file text old m) (Taken file text old n) s r
+      (λ x y. same-said s r (x .number ∙ sym (y .number)) (x .values ∙ ap (λ (f : Formula). size f ∷ []) (taken-formula x y) ∙ sym (y .values))) (a .answer) (b .answer) in
       elim (ℕ-discrete (s .number) 0) [
         | yes z ↦
             let x = is-taken s z (a .answer) in

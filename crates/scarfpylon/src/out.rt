@@ -1,10 +1,10 @@
 // The number of an answer, and the words of `out` that it names.
 use file::ReadAnswer;
-use verdict::Verdict;
 use reader::Parsed;
 use search::SearchAnswer;
 use sequence::Answer;
 use text::Printed;
+use verdict::Verdict;
 ghost use mathlib.Core.Path.{_≡_};
 ghost use Prim.Native.Nat.{_^_, _≤_, _<_};
 ghost use lib.ListN.{length};

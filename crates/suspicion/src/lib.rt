@@ -3,8 +3,8 @@
 mod line;
 
 use file::ReadAnswer;
-use verdict::Verdict;
 use reader::Parsed;
+use verdict::Verdict;
 ghost use Rattle.session.specs.Recording.{recording};
 ghost use Rattle.formula.specs.Kinds.{nodes};
 ghost use Rattle.suspicion.specs.Suspicion.{LinesOf};

@@ -49,7 +49,14 @@ module _ (text : List ℕ) where
     none-taken = let z : i - i ≡ 0 = omega arith in rw z
 
     pub run-full : i ≤ start + 16 → 16 ≤ i - start → Ran text start i i
-    run-full f e = record { forward = omega arith; within = g; short = f; stops = λ l. absurd (omega arith); grows = λ v n. ([], rw append-nil n, (λ d. rw append-nil (passage.pass-none text g)), none-taken) }
+    run-full f e =
+        record {
+          forward = omega arith;
+          within = g;
+          short = f;
+          stops = λ l. absurd (omega arith);
+          grows = λ v n. ([], rw append-nil n, (λ d. rw append-nil (passage.pass-none text g)), none-taken);
+        }
 
     pub run-stops : i ≤ start + 16 → isNameByte (getD text i 0) ≡ false → Ran text start i i
     run-stops f e = record { forward = omega arith; within = g; short = f; stops = λ l. e; grows = λ v n. ([], rw append-nil n, (λ d. rw append-nil (passage.pass-none text g)), none-taken) }

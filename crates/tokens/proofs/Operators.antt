@@ -85,7 +85,8 @@ module _ (text : List ℕ) where
     op-equiv r e f s =
         let n : (at + 1) + 1 ≡ at + 2 = omega arith in
         let t : Said ((at + 1) + 1) (expect (62 ∷ []) equiv (drop ((at + 1) + 1) text)) r = rw n (s equiv refl refl refl) in
-        rw (head h e, head (inside (at + 1) 44 f) f) (said-further at (further (expect (62 ∷ []) equiv (drop ((at + 1) + 1) text))) r (said-further (at + 1) (expect (62 ∷ []) equiv (drop ((at + 1) + 1) text)) r t))
+        rw (head h e, head (inside (at + 1) 44 f) f) (said-further at (further (expect (62 ∷ []) equiv (drop ((at + 1) + 1) text))) r
+        (said-further (at + 1) (expect (62 ∷ []) equiv (drop ((at + 1) + 1) text)) r t))
 
     pub op-less-cut : getD text at 0 ≡ 60 → (getD text (at + 1) 0 ≡ 45 → ⊥) → Operator text at (Cut (at + 1))
     unfolding peek kind expect
@@ -115,7 +116,8 @@ module _ (text : List ℕ) where
     unfolding peek kind
     op-release r e w = rw (head h e) (said-word release r refl refl w)
 
-    pub op-none : (getD text at 0 ≡ 32 → ⊥) → (getD text at 0 ≡ 38 → ⊥) → (getD text at 0 ≡ 124 → ⊥) → (getD text at 0 ≡ 45 → ⊥) → (getD text at 0 ≡ 60 → ⊥) → (getD text at 0 ≡ 85 → ⊥) → (getD text at 0 ≡ 82 → ⊥) → Operator text at (Nothing at)
+    pub op-none : (getD text at 0 ≡ 32 → ⊥) → (getD text at 0 ≡ 38 → ⊥) → (getD text at 0 ≡ 124 → ⊥) → (getD text at 0 ≡ 45 → ⊥) → (getD text at 0 ≡ 60 → ⊥) → (getD text at 0 ≡ 85 → ⊥)
+        → (getD text at 0 ≡ 82 → ⊥) → Operator text at (Nothing at)
     unfolding peek
     op-none n1 n2 n3 n4 n5 n6 n7 = rw (head h refl) (by-kind (kind b) (kind-is b))
       where

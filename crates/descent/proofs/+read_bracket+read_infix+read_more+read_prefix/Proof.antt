@@ -259,7 +259,8 @@ read-more-put-two-requires t c κs =
     let x = op-next (s .args .names .now) (s .args .text .now) (s .args .place) (s .args .at) (s .pre .1 .0 .within)
     (c .before .before .before .before .before .before .before .before .before .before .o2 .given .1)
     (c .before .before .before .before .before .before .before .before .before .before .before .before .operator .ensures) in
-    let y = infix-val (s .args .names .now) (s .args .text .now) (s .args .place + s .args .size) (s .args .scratch .now) _ _ _ (c .before .before .t .given .1) (c .before .before .before .before .before .before .read-infix .ensures) in (
+    let y = infix-val (s .args .names .now) (s .args .text .now) (s .args .place + s .args .size) (s .args .scratch .now) _ _ _ (c .before .before .t .given .1)
+    (c .before .before .before .before .before .before .read-infix .ensures) in (
       omega (arith, s .pre .1 .1),
       omega (arith, r .before, r .room, x .0, y .0 .1, y .0 .2, y .1),
       omega (arith, r .before, r .short, x .0, y .0 .1, y .0 .2),
@@ -434,8 +435,13 @@ read-prefix-put-requires t c κs =
     let s = (c .before .before .before .before .before .before .before .before .before) in
     let r = s .pre .1 in
     let x = word-next (s .args .names .now) (s .args .text .now) (s .args .place) (s .args .scratch .now) (s .args .scratch .now) (s .args .at)
-    (c .before .before .before .f3 .given .1) (c .before .before .before .before .before .front .ensures .0 (s .pre .1 .within)) in
-    (omega (arith, r .before, r .room, x .0, x .2), leaf-small (s .args .names .now) (s .args .text .now) (s .args .place) (s .args .scratch .now) (s .args .scratch .now) (s .args .at) (r .names) (c .before .before .before .f3 .given .1) (c .before .before .before .before .before .front .ensures .0 (s .pre .1 .within)) (c .before .leaf-of .ensures), omega arith, omega arith)
+    (c .before .before .before .f3 .given .1) (c .before .before .before .before .before .front .ensures .0 (s .pre .1 .within)) in (
+      omega (arith, r .before, r .room, x .0, x .2),
+      leaf-small (s .args .names .now) (s .args .text .now) (s .args .place) (s .args .scratch .now) (s .args .scratch .now) (s .args .at)
+          (r .names) (c .before .before .before .f3 .given .1) (c .before .before .before .before .before .front .ensures .0 (s .pre .1 .within)) (c .before .leaf-of .ensures),
+      omega arith,
+      omega arith,
+    )
 
 read-prefix-enum-known-f-4 : (t : ℕ) → read-prefix-lts.Need-enum-known-f-4 (read-prefix-calls t) (read-prefix-at t) read-prefix.Post
 read-prefix-enum-known-f-4 t c = search needs

@@ -62,7 +62,9 @@ returns c =
     let at-sessions-section = at-sessions .before .before in
     let at-names = at-sessions-section .before .before in
     let at-section = at-names .before .before in
-    judge-whole _ _ (at-section .section .ensures) (at-names .names .given .1) _ (at-sessions-section .sessions-section .ensures) (at-sessions .sessions .given .1) _ (at-codes-section .codes-section .ensures) (at-unary .unary .given .1) _ (at-codes-section2 .codes-section2 .ensures) (at-binary .binary .given .1) _ (at-tail-at .tail-at .ensures) (at-tail .tail .given .1)
+    judge-whole _ _ (at-section .section .ensures) (at-names .names .given .1) _ (at-sessions-section .sessions-section .ensures) (at-sessions .sessions .given .1) _
+    (at-codes-section .codes-section .ensures) (at-unary .unary .given .1) _ (at-codes-section2 .codes-section2 .ensures) (at-binary .binary .given .1) _ (at-tail-at .tail-at .ensures)
+    (at-tail .tail .given .1)
 
 returns-2 : tie.Need-returns-2
 returns-2 c =
@@ -76,7 +78,9 @@ returns-2 c =
     let at-sessions-section = at-sessions .before .before in
     let at-names = at-sessions-section .before .before in
     let at-section = at-names .before .before in
-    judge-tail _ _ (at-section .section .ensures) (at-names .names .given .1) _ (at-sessions-section .sessions-section .ensures) (at-sessions .sessions .given .1) _ (at-codes-section .codes-section .ensures) (at-unary .unary .given .1) _ (at-codes-section2 .codes-section2 .ensures) (at-binary .binary .given .1) _ (at-tail-at .tail-at .ensures) (at-tail2 .tail2 .given .1)
+    judge-tail _ _ (at-section .section .ensures) (at-names .names .given .1) _ (at-sessions-section .sessions-section .ensures) (at-sessions .sessions .given .1) _
+    (at-codes-section .codes-section .ensures) (at-unary .unary .given .1) _ (at-codes-section2 .codes-section2 .ensures) (at-binary .binary .given .1) _ (at-tail-at .tail-at .ensures)
+    (at-tail2 .tail2 .given .1)
 
 returns-3 : tie.Need-returns-3
 returns-3 c =
@@ -88,7 +92,8 @@ returns-3 c =
     let at-sessions-section = at-sessions .before .before in
     let at-names = at-sessions-section .before .before in
     let at-section = at-names .before .before in
-    judge-binary _ _ (at-section .section .ensures) (at-names .names .given .1) _ (at-sessions-section .sessions-section .ensures) (at-sessions .sessions .given .1) _ (at-codes-section .codes-section .ensures) (at-unary .unary .given .1) _ (at-codes-section2 .codes-section2 .ensures) (at-binary2 .binary2 .given .1)
+    judge-binary _ _ (at-section .section .ensures) (at-names .names .given .1) _ (at-sessions-section .sessions-section .ensures) (at-sessions .sessions .given .1) _
+    (at-codes-section .codes-section .ensures) (at-unary .unary .given .1) _ (at-codes-section2 .codes-section2 .ensures) (at-binary2 .binary2 .given .1)
 
 returns-4 : tie.Need-returns-4
 returns-4 c =
@@ -98,7 +103,8 @@ returns-4 c =
     let at-sessions-section = at-sessions .before .before in
     let at-names = at-sessions-section .before .before in
     let at-section = at-names .before .before in
-    judge-unary _ _ (at-section .section .ensures) (at-names .names .given .1) _ (at-sessions-section .sessions-section .ensures) (at-sessions .sessions .given .1) _ (at-codes-section .codes-section .ensures) (at-unary2 .unary2 .given .1)
+    judge-unary _ _ (at-section .section .ensures) (at-names .names .given .1) _ (at-sessions-section .sessions-section .ensures) (at-sessions .sessions .given .1) _
+    (at-codes-section .codes-section .ensures) (at-unary2 .unary2 .given .1)
 
 returns-5 : tie.Need-returns-5
 returns-5 c =

@@ -8,8 +8,12 @@ use Rattle.file.proofs.read.Tie as tie
 
 -- what the judging pass told of the file
 told : (c : tie.After-known-told)
-    → Known (c .before .before .before .before .before .before .before .before .before .before .args .file .now) (c .before .answer .given .0 .0) (c .before .answer .given .0 .1 .0) (c .before .answer .given .0 .1 .1 .0) (c .before .answer .given .0 .1 .1 .1 .0) (c .before .answer .given .0 .1 .1 .1 .1 .0) (c .before .answer .given .0 .1 .1 .1 .1 .1 .0) (c .before .answer .given .0 .1 .1 .1 .1 .1 .1 .0)
-told c = known (c .before .before .before .before .before .before .before .before .before .before .args .file .now) (λ i. omega (arith, c .before .before .before .before .before .before .before .before .before .shared-slice-known .given i)) _ (c .before .before .before .judge .ensures) (c .before .answer .given .1)
+    → Known (c .before .before .before .before .before .before .before .before .before .before .args .file .now) (c .before .answer .given .0 .0) (c .before .answer .given .0 .1 .0)
+    (c .before .answer .given .0 .1 .1 .0) (c .before .answer .given .0 .1 .1 .1 .0) (c .before .answer .given .0 .1 .1 .1 .1 .0) (c .before .answer .given .0 .1 .1 .1 .1 .1 .0)
+    (c .before .answer .given .0 .1 .1 .1 .1 .1 .1 .0)
+told c =
+    known (c .before .before .before .before .before .before .before .before .before .before .args .file .now)
+    (λ i. omega (arith, c .before .before .before .before .before .before .before .before .before .shared-slice-known .given i)) _ (c .before .before .before .judge .ensures) (c .before .answer .given .1)
 
 judge-requires : tie.Need-judge-requires
 judge-requires c κs = search needs

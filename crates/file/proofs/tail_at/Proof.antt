@@ -31,7 +31,8 @@ shared-slice-read-t19 c =
     let at-byte-within2 = at-mark .before .before in
     let at-count = at-byte-within2 .before .before in
     let at-byte-within = at-count .before .before in
-    tail-mark-in _ _ _ (at-byte-within .byte-within .ensures) (at-count .count .given .1) _ (at-byte-within2 .byte-within2 .ensures) (at-mark .mark .given .1) _ (at-byte-within3 .byte-within3 .ensures) (at-bound .bound .given .1)
+    tail-mark-in _ _ _ (at-byte-within .byte-within .ensures) (at-count .count .given .1) _ (at-byte-within2 .byte-within2 .ensures) (at-mark .mark .given .1) _
+    (at-byte-within3 .byte-within3 .ensures) (at-bound .bound .given .1)
 
 shared-slice-read-t21 : tie.Need-shared-slice-read-t21
 shared-slice-read-t21 c =
@@ -41,7 +42,8 @@ shared-slice-read-t21 c =
     let at-byte-within2 = at-mark .before .before in
     let at-count = at-byte-within2 .before .before in
     let at-byte-within = at-count .before .before in
-    tail-bound-in _ _ _ (at-byte-within .byte-within .ensures) (at-count .count .given .1) _ (at-byte-within2 .byte-within2 .ensures) (at-mark .mark .given .1) _ (at-byte-within3 .byte-within3 .ensures) (at-bound .bound .given .1)
+    tail-bound-in _ _ _ (at-byte-within .byte-within .ensures) (at-count .count .given .1) _ (at-byte-within2 .byte-within2 .ensures) (at-mark .mark .given .1) _
+    (at-byte-within3 .byte-within3 .ensures) (at-bound .bound .given .1)
 
 enum-known-bound-2 : tie.Need-enum-known-bound-2
 enum-known-bound-2 c = search needs
@@ -61,7 +63,8 @@ returns c =
     let at-byte-within2 = at-mark .before .before in
     let at-count = at-byte-within2 .before .before in
     let at-byte-within = at-count .before .before in
-    tail-whole _ _ _ (at-byte-within .byte-within .ensures) (at-count .count .given .1) _ (at-byte-within2 .byte-within2 .ensures) (at-mark .mark .given .1) _ (at-byte-within3 .byte-within3 .ensures) (at-bound .bound .given .1) (at-if1 .if1 .taken)
+    tail-whole _ _ _ (at-byte-within .byte-within .ensures) (at-count .count .given .1) _ (at-byte-within2 .byte-within2 .ensures) (at-mark .mark .given .1) _
+    (at-byte-within3 .byte-within3 .ensures) (at-bound .bound .given .1) (at-if1 .if1 .taken)
 
 returns-2 : tie.Need-returns-2
 returns-2 c =
@@ -71,7 +74,8 @@ returns-2 c =
     let at-byte-within2 = at-mark .before .before in
     let at-count = at-byte-within2 .before .before in
     let at-byte-within = at-count .before .before in
-    tail-extra _ _ _ (at-byte-within .byte-within .ensures) (at-count .count .given .1) _ (at-byte-within2 .byte-within2 .ensures) (at-mark .mark .given .1) _ (at-byte-within3 .byte-within3 .ensures) (at-bound .bound .given .1) (c .if1 .left)
+    tail-extra _ _ _ (at-byte-within .byte-within .ensures) (at-count .count .given .1) _ (at-byte-within2 .byte-within2 .ensures) (at-mark .mark .given .1) _
+    (at-byte-within3 .byte-within3 .ensures) (at-bound .bound .given .1) (c .if1 .left)
 
 returns-3 : tie.Need-returns-3
 returns-3 c =
@@ -81,7 +85,8 @@ returns-3 c =
     let at-byte-within2 = at-mark .before .before in
     let at-count = at-byte-within2 .before .before in
     let at-byte-within = at-count .before .before in
-    tail-no-bound _ _ _ (at-byte-within .byte-within .ensures) (at-count .count .given .1) _ (at-byte-within2 .byte-within2 .ensures) (at-mark .mark .given .1) _ (at-byte-within3 .byte-within3 .ensures) (at-bound2 .bound2 .given .1)
+    tail-no-bound _ _ _ (at-byte-within .byte-within .ensures) (at-count .count .given .1) _ (at-byte-within2 .byte-within2 .ensures) (at-mark .mark .given .1) _
+    (at-byte-within3 .byte-within3 .ensures) (at-bound2 .bound2 .given .1)
 
 returns-4 : tie.Need-returns-4
 returns-4 c =

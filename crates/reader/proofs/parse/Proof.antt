@@ -41,7 +41,8 @@ returns : tie.Need-returns
 returns c =
     let a = c .before .before .before .before .before .before in
     let s = a .before .before .before .before .before .before .before .before in
-    answer-short (s .args .names .now) (s .args .text .now) (columns (s .args .codes .now) (s .args .lefts .now) (s .args .rights .now) (s .args .sizes .now)) _ _ (a .judge .ensures) (c .before .before .before .j4 .given .1)
+    answer-short (s .args .names .now) (s .args .text .now) (columns (s .args .codes .now) (s .args .lefts .now) (s .args .rights .now) (s .args .sizes .now)) _ _ (a .judge .ensures)
+    (c .before .before .before .j4 .given .1)
     (omega (arith, c .before .least .ensures, c .if1 .taken))
 
 slice-aggregate-write : tie.Need-slice-aggregate-write
@@ -52,44 +53,51 @@ write-requires c κs =
     let b = c .before .before .before .before .before in
     let a = b .before .before .before .before .before .before in
     let s = a .before .before .before .before .before .before .before .before in
-    enough (s .args .names .now) (s .args .text .now) (columns (s .args .codes .now) (s .args .lefts .now) (s .args .rights .now) (s .args .sizes .now)) _ _ (a .judge .ensures) (b .before .before .before .j4 .given .1) (omega arith)
+    enough (s .args .names .now) (s .args .text .now) (columns (s .args .codes .now) (s .args .lefts .now) (s .args .rights .now) (s .args .sizes .now)) _ _ (a .judge .ensures)
+    (b .before .before .before .j4 .given .1) (omega arith)
     (omega (arith, b .before .least .ensures, b .if1 .left))
 
 returns-2 : tie.Need-returns-2
 returns-2 c =
     let a = c .before .before .before .before in
     let s = a .before .before .before .before .before .before .before .before in
-    names-broken (s .args .names .now) (s .args .text .now) (columns (s .args .codes .now) (s .args .lefts .now) (s .args .rights .now) (s .args .sizes .now)) _ _ (a .judge .ensures) (c .before .j .given .1)
+    names-broken (s .args .names .now) (s .args .text .now) (columns (s .args .codes .now) (s .args .lefts .now) (s .args .rights .now) (s .args .sizes .now)) _ _ (a .judge .ensures)
+    (c .before .j .given .1)
 
 returns-3 : tie.Need-returns-3
 returns-3 c =
     let a = c .before .before .before in
     let s = a .before .before .before .before .before .before .before .before in
-    answer-long (s .args .names .now) (s .args .text .now) (columns (s .args .codes .now) (s .args .lefts .now) (s .args .rights .now) (s .args .sizes .now)) _ _ (a .judge .ensures) (c .enum-told .given .1)
+    answer-long (s .args .names .now) (s .args .text .now) (columns (s .args .codes .now) (s .args .lefts .now) (s .args .rights .now) (s .args .sizes .now)) _ _ (a .judge .ensures)
+    (c .enum-told .given .1)
 
 returns-4 : tie.Need-returns-4
 returns-4 c =
     let a = c .before .before .before in
     let s = a .before .before .before .before .before .before .before .before in
-    absurd (never-room (s .args .names .now) (s .args .text .now) (columns (s .args .codes .now) (s .args .lefts .now) (s .args .rights .now) (s .args .sizes .now)) _ _ (a .judge .ensures) (omega arith) (c .enum-told2 .given .1))
+    absurd (never-room (s .args .names .now) (s .args .text .now) (columns (s .args .codes .now) (s .args .lefts .now) (s .args .rights .now) (s .args .sizes .now)) _ _
+    (a .judge .ensures) (omega arith) (c .enum-told2 .given .1))
 
 returns-5 : tie.Need-returns-5
 returns-5 c =
     let a = c .before .before .before .before in
     let s = a .before .before .before .before .before .before .before .before in
-    answer-stops (s .args .names .now) (s .args .text .now) (columns (s .args .codes .now) (s .args .lefts .now) (s .args .rights .now) (s .args .sizes .now)) _ _ (a .judge .ensures) (c .before .j2 .given .1)
+    answer-stops (s .args .names .now) (s .args .text .now) (columns (s .args .codes .now) (s .args .lefts .now) (s .args .rights .now) (s .args .sizes .now)) _ _ (a .judge .ensures)
+    (c .before .j2 .given .1)
 
 returns-6 : tie.Need-returns-6
 returns-6 c =
     let a = c .before .before .before .before in
     let s = a .before .before .before .before .before .before .before .before in
-    answer-unknown (s .args .names .now) (s .args .text .now) (columns (s .args .codes .now) (s .args .lefts .now) (s .args .rights .now) (s .args .sizes .now)) _ _ (a .judge .ensures) (c .before .j3 .given .1)
+    answer-unknown (s .args .names .now) (s .args .text .now) (columns (s .args .codes .now) (s .args .lefts .now) (s .args .rights .now) (s .args .sizes .now)) _ _ (a .judge .ensures)
+    (c .before .j3 .given .1)
 
 returns-7 : tie.Need-returns-7
 returns-7 c =
     let a = c .before .before .before in
     let s = a .before .before .before .before .before .before .before .before in
-    answer-large (s .args .names .now) (s .args .text .now) (columns (s .args .codes .now) (s .args .lefts .now) (s .args .rights .now) (s .args .sizes .now)) _ _ (a .judge .ensures) (c .enum-told3 .given .1)
+    answer-large (s .args .names .now) (s .args .text .now) (columns (s .args .codes .now) (s .args .lefts .now) (s .args .rights .now) (s .args .sizes .now)) _ _ (a .judge .ensures)
+    (c .enum-told3 .given .1)
 
 same-length : tie.Need-same-length
 same-length c = search needs
@@ -109,7 +117,8 @@ returns-8 c =
     let b = w .before .before .before .before .before .before in
     let a = b .before .before .before .before .before .before in
     let s = a .before .before .before .before .before .before .before .before in
-    answer-taken (s .args .names .now) (s .args .text .now) (columns (s .args .codes .now) (s .args .lefts .now) (s .args .rights .now) (s .args .sizes .now)) _ _ (a .judge .ensures) (b .before .before .before .j4 .given .1) (omega arith)
+    answer-taken (s .args .names .now) (s .args .text .now) (columns (s .args .codes .now) (s .args .lefts .now) (s .args .rights .now) (s .args .sizes .now)) _ _ (a .judge .ensures)
+    (b .before .before .before .j4 .given .1) (omega arith)
     (omega (arith, b .before .least .ensures, b .if1 .left)) (w .write .ensures)
 
 pub parse-spec : {M : Type 1} → statement M

@@ -17,16 +17,25 @@ enum-told : tie.Need-enum-told
 enum-told c = search needs
 
 write-requires : tie.Need-write-requires
-write-requires c κs = let a = c .before .before .before .before .before .before .before .before .before .before .before .before .args in passed-accepted (recording (a .r) (a .m) (a .marks .now) (a .lengths .now) (a .words .now)) (nodes (a .codes .now) (a .lefts .now) (a .rights .now) (a .sizes .now)) (nodeOf (a .root)) (a .text .now) (c .before .before .before .check .result) (c .before .enum-told .given .1) (c .before .before .before .check .ensures)
+write-requires c κs =
+    let a = c .before .before .before .before .before .before .before .before .before .before .before .before .args in
+    passed-accepted (recording (a .r) (a .m) (a .marks .now) (a .lengths .now) (a .words .now)) (nodes (a .codes .now) (a .lefts .now) (a .rights .now) (a .sizes .now))
+    (nodeOf (a .root)) (a .text .now) (c .before .before .before .check .result) (c .before .enum-told .given .1) (c .before .before .before .check .ensures)
 
 enum-told-2 : tie.Need-enum-told-2
 enum-told-2 c = search needs
 
 write-requires-2 : tie.Need-write-requires-2
-write-requires-2 c κs = let a = c .before .before .before .before .before .before .before .before .before .before .before .before .args in passed-disagrees (recording (a .r) (a .m) (a .marks .now) (a .lengths .now) (a .words .now)) (nodes (a .codes .now) (a .lefts .now) (a .rights .now) (a .sizes .now)) (nodeOf (a .root)) (a .text .now) (c .before .before .before .check .result) (c .before .enum-told2 .given .1) (c .before .before .before .check .ensures)
+write-requires-2 c κs =
+    let a = c .before .before .before .before .before .before .before .before .before .before .before .before .args in
+    passed-disagrees (recording (a .r) (a .m) (a .marks .now) (a .lengths .now) (a .words .now)) (nodes (a .codes .now) (a .lefts .now) (a .rights .now) (a .sizes .now))
+    (nodeOf (a .root)) (a .text .now) (c .before .before .before .check .result) (c .before .enum-told2 .given .1) (c .before .before .before .check .ensures)
 
 returns : tie.Need-returns
-returns c = let a = c .before .before .before .before .before .before .before .before .before .before .before .before .args in refused-as-check (recording (a .r) (a .m) (a .marks .now) (a .lengths .now) (a .words .now)) (nodes (a .codes .now) (a .lefts .now) (a .rights .now) (a .sizes .now)) (nodeOf (a .root)) (a .text .now) (c .before .before .before .check .result) (c .before .verdict .given .1) (c .before .before .before .check .ensures)
+returns c =
+    let a = c .before .before .before .before .before .before .before .before .before .before .before .before .args in
+    refused-as-check (recording (a .r) (a .m) (a .marks .now) (a .lengths .now) (a .words .now)) (nodes (a .codes .now) (a .lefts .now) (a .rights .now) (a .sizes .now))
+    (nodeOf (a .root)) (a .text .now) (c .before .before .before .check .result) (c .before .verdict .given .1) (c .before .before .before .check .ensures)
 
 same-length : tie.Need-same-length
 same-length c = search needs

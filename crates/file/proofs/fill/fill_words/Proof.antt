@@ -24,16 +24,36 @@ fill-session-requires c κs =
     (omega (arith, blocks-space _ _ _ _ _ s (c .before .loop-test .taken), s .long), omega (arith, blocks-next _ _ _ _ _ s (c .before .loop-test .taken)))
 
 add-p : tie.Need-add-p Inv-loop μ-loop
-add-p c = omega (arith, blocks-next _ _ _ _ _ (c .before .before .before .before .before .loop .inv) (c .before .before .before .before .loop-test .taken), c .before .before .before .before .before .before .before .before .good)
+add-p c =
+    omega (
+      arith,
+      blocks-next _ _ _ _ _ (c .before .before .before .before .before .loop .inv) (c .before .before .before .before .loop-test .taken),
+      c .before .before .before .before .before .before .before .before .good,
+    )
 
 mul-p : tie.Need-mul-p Inv-loop μ-loop
-mul-p c = omega (arith, blocks-next _ _ _ _ _ (c .before .before .before .before .before .loop .inv) (c .before .before .before .before .loop-test .taken), c .before .before .before .before .before .before .before .before .good)
+mul-p c =
+    omega (
+      arith,
+      blocks-next _ _ _ _ _ (c .before .before .before .before .before .loop .inv) (c .before .before .before .before .loop-test .taken),
+      c .before .before .before .before .before .before .before .before .good,
+    )
 
 add-p-2 : tie.Need-add-p-2 Inv-loop μ-loop
-add-p-2 c = omega (arith, blocks-next _ _ _ _ _ (c .before .before .before .before .before .loop .inv) (c .before .before .before .before .loop-test .taken), c .before .before .before .before .before .before .before .before .good)
+add-p-2 c =
+    omega (
+      arith,
+      blocks-next _ _ _ _ _ (c .before .before .before .before .before .loop .inv) (c .before .before .before .before .loop-test .taken),
+      c .before .before .before .before .before .before .before .before .good,
+    )
 
 add-k : tie.Need-add-k Inv-loop μ-loop
-add-k c = omega (arith, blocks-space _ _ _ _ _ (c .before .before .before .before .before .loop .inv) (c .before .before .before .before .loop-test .taken), c .before .before .before .before .before .before .before .before .good)
+add-k c =
+    omega (
+      arith,
+      blocks-space _ _ _ _ _ (c .before .before .before .before .before .loop .inv) (c .before .before .before .before .loop-test .taken),
+      c .before .before .before .before .before .before .before .before .good,
+    )
 
 add-i : tie.Need-add-i Inv-loop μ-loop
 add-i c = omega (arith, c .before .before .before .before .loop-test .taken, c .before .before .before .before .before .before .before .before .fits .n)

@@ -36,13 +36,18 @@ add-if3-2 : tie.Need-add-if3-2
 add-if3-2 c = search needs
 
 returns-3 : tie.Need-returns-3
-returns-3 c = binarySize (c .before .before .before .before .before .before .before .before .before .before .before .before .pre .1) (λ e. c .if3 .taken (omega (arith, c .before .before .before .size-at .ensures .0, c .before .before .size-at2 .ensures .0)))
+returns-3 c =
+    binarySize (c .before .before .before .before .before .before .before .before .before .before .before .before .pre .1)
+    (λ e. c .if3 .taken (omega (arith, c .before .before .before .size-at .ensures .0, c .before .before .size-at2 .ensures .0)))
 
 returns-4 : tie.Need-returns-4
 returns-4 c = tooLarge (c .if4 .taken)
 
 returns-5 : tie.Need-returns-5
-returns-5 c = let op = c .before .before .before .before .before .before .before .before .before .before .before .before .before .pre .1 in binary (op .0) (sym (op .1)) (omega arith) (omega arith) (omega (arith, c .before .before .before .before .size-at .ensures .0, c .before .before .before .size-at2 .ensures .0)) (c .if4 .left)
+returns-5 c =
+    let op = c .before .before .before .before .before .before .before .before .before .before .before .before .before .pre .1 in
+    binary (op .0) (sym (op .1)) (omega arith) (omega arith) (omega (arith, c .before .before .before .before .size-at .ensures .0, c .before .before .before .size-at2 .ensures .0))
+    (c .if4 .left)
 
 pub binary-good-spec : {M : Type 1} → statement M
 binary-good-spec =

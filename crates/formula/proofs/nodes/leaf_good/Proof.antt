@@ -26,7 +26,9 @@ cast-if6 : tie.Need-cast-if6
 cast-if6 c = search needs
 
 returns-5 : tie.Need-returns-5
-returns-5 c = leaf (proposition (c .before .before .before .before .before .before .before .before .before .before .before .before .args .node .left .0)) (c .before .before .if5 .taken) refl (omega arith) (c .before .before .before .before .before .before .if3 .left) (c .before .before .before .before .if4 .left)
+returns-5 c =
+    leaf (proposition (c .before .before .before .before .before .before .before .before .before .before .before .before .args .node .left .0)) (c .before .before .if5 .taken) refl
+    (omega arith) (c .before .before .before .before .before .before .if3 .left) (c .before .before .before .before .if4 .left)
 
 returns-6 : tie.Need-returns-6
 returns-6 c = noProposition (c .before .before .if5 .taken) (omega arith)

@@ -34,7 +34,8 @@ shared-slice-read-size c = search needs
 
 returns-2 : tie.Need-returns-2
 returns-2 c = let a = c .before .before .before .before .before .before .before .before .before .before .args in
-    sym (node-at (a .codes .now) (a .lefts .now) (a .rights .now) (a .sizes .now) (a .at) (omega (arith, c .before .before .before .before .before .count .ensures, c .before .before .before .before .if1 .left)))
+    sym (node-at (a .codes .now) (a .lefts .now) (a .rights .now) (a .sizes .now) (a .at)
+    (omega (arith, c .before .before .before .before .before .count .ensures, c .before .before .before .before .if1 .left)))
 
 pub node-at-spec : {M : Type 1} → statement M
 node-at-spec =

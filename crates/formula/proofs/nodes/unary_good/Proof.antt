@@ -34,7 +34,9 @@ returns-4 : tie.Need-returns-4
 returns-4 c = tooLarge (c .if4 .taken)
 
 returns-5 : tie.Need-returns-5
-returns-5 c = let op = c .before .before .before .before .before .before .before .before .before .before .before .before .pre .1 in unary (op .0) (sym (op .1)) (omega arith) (c .before .before .before .before .if2 .left) (omega (arith, c .before .before .before .size-at .ensures .0)) (c .if4 .left)
+returns-5 c =
+    let op = c .before .before .before .before .before .before .before .before .before .before .before .before .pre .1 in
+    unary (op .0) (sym (op .1)) (omega arith) (c .before .before .before .before .if2 .left) (omega (arith, c .before .before .before .size-at .ensures .0)) (c .if4 .left)
 
 pub unary-good-spec : {M : Type 1} → statement M
 unary-good-spec =

@@ -13,28 +13,53 @@ use Rattle.report.proofs.sessions.put_sessions.Statement.{statement}
 use Rattle.report.proofs.sessions.put_sessions.Tie as tie
 
 abbrev Inv-loop : tie.InvT-loop
-Inv-loop r m marks lengths words codes lefts rights sizes root under text₀ n j₀ a₀ text j a = (j ≤ n) × WroteSessions (recording r m marks lengths words) (nodes codes lefts rights sizes) (nodeOf root) j text₀ 0 text a
+Inv-loop r m marks lengths words codes lefts rights sizes root under text₀ n j₀ a₀ text j a =
+    (j ≤ n) × WroteSessions (recording r m marks lengths words) (nodes codes lefts rights sizes) (nodeOf root) j text₀ 0 text a
 
 abbrev μ-loop : tie.MeasureT-loop
 μ-loop r m marks lengths words codes lefts rights sizes root under text₀ n j₀ a₀ text j a = n - j
 
 cast-n : tie.Need-cast-n Inv-loop μ-loop
-cast-n c = let a = c .before .before .before .before .before .before .before .before .before .args in omega (arith, passed-sessions (recording (a .r) (a .m) (a .marks .now) (a .lengths .now) (a .words .now)) (nodes (a .codes .now) (a .lefts .now) (a .rights .now) (a .sizes .now)) (nodeOf (a .root)) (c .before .before .before .before .before .before .before .before .before .pre .0))
+cast-n c =
+    let a = c .before .before .before .before .before .before .before .before .before .args in
+    omega (
+      arith,
+      passed-sessions (recording (a .r) (a .m) (a .marks .now) (a .lengths .now) (a .words .now)) (nodes (a .codes .now) (a .lefts .now) (a .rights .now) (a .sizes .now))
+          (nodeOf (a .root)) (c .before .before .before .before .before .before .before .before .before .pre .0),
+    )
 
 loop-holds : tie.Need-loop-holds Inv-loop μ-loop
-loop-holds c = let a = c .before .before .before .before .before .before .before .before .before .args in (omega arith, no-sessions (recording (a .r) (a .m) (a .marks .now) (a .lengths .now) (a .words .now)) (nodes (a .codes .now) (a .lefts .now) (a .rights .now) (a .sizes .now)) (nodeOf (a .root)) (a .text .now))
+loop-holds c =
+    let a = c .before .before .before .before .before .before .before .before .before .args in (
+      omega arith,
+      no-sessions (recording (a .r) (a .m) (a .marks .now) (a .lengths .now) (a .words .now)) (nodes (a .codes .now) (a .lefts .now) (a .rights .now) (a .sizes .now))
+          (nodeOf (a .root)) (a .text .now),
+    )
 
 put-session-requires : tie.Need-put-session-requires Inv-loop μ-loop
 put-session-requires c κs = let p = c .before .before .before .before .before .before .before .before .before .before .before .before .pre in (p .0, omega arith, p .1)
 
 add-j : tie.Need-add-j Inv-loop μ-loop
-add-j c = let a = c .before .before .before .before .before .before .before .before .before .before .before .before .before .before .before .args in omega (arith, passed-sessions (recording (a .r) (a .m) (a .marks .now) (a .lengths .now) (a .words .now)) (nodes (a .codes .now) (a .lefts .now) (a .rights .now) (a .sizes .now)) (nodeOf (a .root)) (c .before .before .before .before .before .before .before .before .before .before .before .before .before .before .before .pre .0), c .before .before .before .before .loop-test .taken)
+add-j c =
+    let a = c .before .before .before .before .before .before .before .before .before .before .before .before .before .before .before .args in
+    omega (
+      arith,
+      passed-sessions (recording (a .r) (a .m) (a .marks .now) (a .lengths .now) (a .words .now)) (nodes (a .codes .now) (a .lefts .now) (a .rights .now) (a .sizes .now))
+          (nodeOf (a .root)) (c .before .before .before .before .before .before .before .before .before .before .before .before .before .before .before .pre .0),
+      c .before .before .before .before .loop-test .taken,
+    )
 
 loop-less : tie.Need-loop-less Inv-loop μ-loop
 loop-less c = omega arith
 
 loop-again : tie.Need-loop-again Inv-loop μ-loop
-loop-again c = let a = c .before .before .before .before .before .before .before .before .before .before .before .before .before .before .before .args in let l = c .before .before .before .before .before .loop in (omega arith, session-more (recording (a .r) (a .m) (a .marks .now) (a .lengths .now) (a .words .now)) (nodes (a .codes .now) (a .lefts .now) (a .rights .now) (a .sizes .now)) (nodeOf (a .root)) (l .j) (l .inv .1) (c .before .before .put-session .ensures))
+loop-again c =
+    let a = c .before .before .before .before .before .before .before .before .before .before .before .before .before .before .before .args in
+    let l = c .before .before .before .before .before .loop in (
+      omega arith,
+      session-more (recording (a .r) (a .m) (a .marks .now) (a .lengths .now) (a .words .now)) (nodes (a .codes .now) (a .lefts .now) (a .rights .now) (a .sizes .now))
+          (nodeOf (a .root)) (l .j) (l .inv .1) (c .before .before .put-session .ensures),
+    )
 
 same-length : tie.Need-same-length Inv-loop μ-loop
 same-length c = let w = c .before .loop .inv .1 in wrote-length (w .0) (w .2)

@@ -35,13 +35,20 @@ same-length : tie.Need-same-length
 same-length c = search needs
 
 returns : tie.Need-returns
-returns c = let a = c .before .before .before .before .before .before .before .before .args in let f = c .before .before .before .before .before .before .operator-of in marks-left (a .marks .now) (nodeOf (a .node)) (in-unary _ (f .result) (f .ensures) (c .before .before .before .before .enum-told .given .1)) (c .before .before .mark .ensures)
+returns c =
+    let a = c .before .before .before .before .before .before .before .before .args in
+    let f = c .before .before .before .before .before .before .operator-of in
+    marks-left (a .marks .now) (nodeOf (a .node)) (in-unary _ (f .result) (f .ensures) (c .before .before .before .before .enum-told .given .1)) (c .before .before .mark .ensures)
 
 same-length-2 : tie.Need-same-length-2
 same-length-2 c = search needs
 
 returns-2 : tie.Need-returns-2
-returns-2 c = let a = c .before .before .before .before .before .before .before .before .before .before .before .before .args in let f = c .before .before .before .before .before .before .before .before .before .before .operator-of in marks-both (a .marks .now) (nodeOf (a .node)) (in-binary _ (f .result) (f .ensures) (c .before .before .before .before .before .before .before .before .enum-told2 .given .1)) (c .before .before .before .before .before .before .mark2 .ensures) (c .before .before .mark3 .ensures)
+returns-2 c =
+    let a = c .before .before .before .before .before .before .before .before .before .before .before .before .args in
+    let f = c .before .before .before .before .before .before .before .before .before .before .operator-of in
+    marks-both (a .marks .now) (nodeOf (a .node)) (in-binary _ (f .result) (f .ensures) (c .before .before .before .before .before .before .before .before .enum-told2 .given .1))
+    (c .before .before .before .before .before .before .mark2 .ensures) (c .before .before .mark3 .ensures)
 
 returns-3 : tie.Need-returns-3
 returns-3 c = let a = c .before .before .before .before .args in

@@ -33,7 +33,12 @@ returns-2 c =
     (y .before .before .if1 .left) (sym (y .in-group .ensures) ∙ c .before .before .if2 .taken) (sym (c .before .seen-code .ensures) ∙ c .if3 .taken)
 
 cast-t14 : tie.Need-cast-t14
-cast-t14 c = omega (arith, c .before .before .before .before .shared-slice-known2 .given (c .before .before .before .before .before .before .before .args .from + c .before .before .before .before .before .before .before .args .count))
+cast-t14 c =
+    omega (
+      arith,
+      c .before .before .before .before .shared-slice-known2 .given
+          (c .before .before .before .before .before .before .before .args .from + c .before .before .before .before .before .before .before .args .count),
+    )
 
 add-t15 : tie.Need-add-t15
 add-t15 c = search needs

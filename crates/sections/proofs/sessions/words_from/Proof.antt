@@ -27,7 +27,9 @@ enum-known-s-2 : tie.Need-enum-known-s-2 Inv-loop μ-loop
 enum-known-s-2 c = search needs
 
 returns : tie.Need-returns Inv-loop μ-loop
-returns c = broken _ _ (c .before .before .before .before .before .loop .inv) (c .before .before .before .before .loop-test .taken) (step-broken nothing _ _ (c .before .before .before .word-step .ensures) (c .before .s2 .given .1))
+returns c =
+    broken _ _ (c .before .before .before .before .before .loop .inv) (c .before .before .before .before .loop-test .taken)
+    (step-broken nothing _ _ (c .before .before .before .word-step .ensures) (c .before .s2 .given .1))
 
 add-i : tie.Need-add-i Inv-loop μ-loop
 add-i c = search needs
@@ -36,7 +38,9 @@ loop-less : tie.Need-loop-less Inv-loop μ-loop
 loop-less c = search needs
 
 loop-again : tie.Need-loop-again Inv-loop μ-loop
-loop-again c = turn _ _ (c .before .before .before .before .before .loop .inv) (c .before .before .before .before .loop-test .taken) (step-read nothing _ _ (c .before .before .before .word-step .ensures) (c .before .s .given .1) .1)
+loop-again c =
+    turn _ _ (c .before .before .before .before .before .loop .inv) (c .before .before .before .before .loop-test .taken)
+    (step-read nothing _ _ (c .before .before .before .word-step .ensures) (c .before .s .given .1) .1)
 
 returns-2 : tie.Need-returns-2 Inv-loop μ-loop
 returns-2 c = done _ _ (c .before .loop .inv) (c .loop-test .left)

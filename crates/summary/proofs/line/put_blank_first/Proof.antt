@@ -19,7 +19,9 @@ same-length : tie.Need-same-length
 same-length c = search needs
 
 returns : tie.Need-returns
-returns c = let a = c .before .before .before .before .before .before .before .before .before .before .args in wrote-both blank (firstText (a .first)) (c .before .before .before .before .before .before .put .ensures) (c .before .before .put-first .ensures)
+returns c =
+    let a = c .before .before .before .before .before .before .before .before .before .before .args in
+    wrote-both blank (firstText (a .first)) (c .before .before .before .before .before .before .put .ensures) (c .before .before .put-first .ensures)
 
 pub put-blank-first-spec : {M : Type 1} → statement M
 put-blank-first-spec =

@@ -30,13 +30,19 @@ same-length : tie.Need-same-length
 same-length c = search needs
 
 returns : tie.Need-returns
-returns c = let a = c .before .before .before .before .before .before .before .before .args in let w = c .before .before .put in subst (λ (f : First). Wrote (a .text .now) (a .at) (firstText f) (w .last .0) (w .result)) (sym (c .before .before .before .before .before .enum-told .given .1)) (w .ensures)
+returns c =
+    let a = c .before .before .before .before .before .before .before .before .args in
+    let w = c .before .before .put in
+    subst (λ (f : First). Wrote (a .text .now) (a .at) (firstText f) (w .last .0) (w .result)) (sym (c .before .before .before .before .before .enum-told .given .1)) (w .ensures)
 
 same-length-2 : tie.Need-same-length-2
 same-length-2 c = search needs
 
 returns-2 : tie.Need-returns-2
-returns-2 c = let a = c .before .before .before .before .before .before .before .before .args in let w = c .before .before .put-decimal in subst (λ (f : First). Wrote (a .text .now) (a .at) (firstText f) (w .last .0) (w .result)) (sym (c .before .before .before .before .before .first .given .1)) (w .ensures)
+returns-2 c =
+    let a = c .before .before .before .before .before .before .before .before .args in
+    let w = c .before .before .put-decimal in
+    subst (λ (f : First). Wrote (a .text .now) (a .at) (firstText f) (w .last .0) (w .result)) (sym (c .before .before .before .before .before .first .given .1)) (w .ensures)
 
 pub put-first-spec : {M : Type 1} → statement M
 put-first-spec =

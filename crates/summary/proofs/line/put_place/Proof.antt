@@ -34,7 +34,8 @@ same-length c = search needs
 
 returns : tie.Need-returns
 returns c = let a = c .before .before .before .before .before .before .before .before .before .before .before .before .before .before .before .before .before .before .before .before .args in
-    wrote-both (decimal (a .session .0)) (blank ++ (decimal (a .place .0) ++ summaryText (a .s))) (c .before .before .before .before .before .before .before .before .before .before .before .before .before .before .before .before .put-decimal .ensures)
+    wrote-both (decimal (a .session .0)) (blank ++ (decimal (a .place .0) ++ summaryText (a .s)))
+    (c .before .before .before .before .before .before .before .before .before .before .before .before .before .before .before .before .put-decimal .ensures)
     (wrote-both blank (decimal (a .place .0) ++ summaryText (a .s)) (c .before .before .before .before .before .before .before .before .before .before .before .put .ensures)
     (wrote-both (decimal (a .place .0)) (summaryText (a .s)) (c .before .before .before .before .before .before .put-decimal2 .ensures) (c .before .before .put-summary .ensures)))
 

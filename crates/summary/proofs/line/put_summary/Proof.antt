@@ -36,10 +36,14 @@ same-length : tie.Need-same-length
 same-length c = search needs
 
 returns : tie.Need-returns
-returns c = let s = c .before .before .before .before .before .before .before .before .before .before .before .before .before .before .before .before .before .before .before .before .before .before .before .before .args .s in
-    wrote-both (blank ++ firstText (s .holds)) ((blank ++ firstText (s .fails)) ++ (blank ++ (decimal (s .count) ++ newline))) (c .before .before .before .before .before .before .before .before .before .before .before .before .before .before .before .before .before .before .before .before .before .put-blank-first .ensures)
-    (wrote-both (blank ++ firstText (s .fails)) (blank ++ (decimal (s .count) ++ newline)) (c .before .before .before .before .before .before .before .before .before .before .before .before .before .before .before .before .before .put-blank-first2 .ensures)
-    (wrote-both blank (decimal (s .count) ++ newline) (c .before .before .before .before .before .before .before .before .before .before .before .before .put .ensures) (wrote-both (decimal (s .count)) newline (c .before .before .before .before .before .before .before .put-decimal .ensures) (c .before .before .put2 .ensures))))
+returns c =
+    let s = c .before .before .before .before .before .before .before .before .before .before .before .before .before .before .before .before .before .before .before .before .before .before .before .before .args .s in
+    wrote-both (blank ++ firstText (s .holds)) ((blank ++ firstText (s .fails)) ++ (blank ++ (decimal (s .count) ++ newline)))
+    (c .before .before .before .before .before .before .before .before .before .before .before .before .before .before .before .before .before .before .before .before .before .put-blank-first .ensures)
+    (wrote-both (blank ++ firstText (s .fails)) (blank ++ (decimal (s .count) ++ newline))
+    (c .before .before .before .before .before .before .before .before .before .before .before .before .before .before .before .before .before .put-blank-first2 .ensures)
+    (wrote-both blank (decimal (s .count) ++ newline) (c .before .before .before .before .before .before .before .before .before .before .before .before .put .ensures)
+    (wrote-both (decimal (s .count)) newline (c .before .before .before .before .before .before .before .put-decimal .ensures) (c .before .before .put2 .ensures))))
 
 pub put-summary-spec : {M : Type 1} → statement M
 put-summary-spec =

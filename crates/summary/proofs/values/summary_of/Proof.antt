@@ -19,7 +19,13 @@ lowest-requires-2 : tie.Need-lowest-requires-2
 lowest-requires-2 c κs = search needs
 
 cast-count : tie.Need-cast-count
-cast-count c = let a = c .before .before .before .args in omega (arith, ones-le width (bitAnd (a .seq .values) (c .before .before .mask .result)) (masked-low (a .seq .length) (a .seq .values) (c .before .before .mask .result) (omega arith) (c .before .before .mask .ensures)))
+cast-count c =
+    let a = c .before .before .before .args in
+    omega (
+      arith,
+      ones-le width (bitAnd (a .seq .values) (c .before .before .mask .result))
+          (masked-low (a .seq .length) (a .seq .values) (c .before .before .mask .result) (omega arith) (c .before .before .mask .ensures)),
+    )
 
 returns : tie.Need-returns
 returns c = let a = c .before .before .before .args in

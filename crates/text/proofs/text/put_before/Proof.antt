@@ -28,7 +28,9 @@ same-length : tie.Need-same-length
 same-length c = search needs
 
 returns : tie.Need-returns
-returns c = let o = c .before .before .before .before .before .before .before .before .before .before .before .before .args .operator in wrote-both (take (o .bytes) (o .token)) (32 ∷ 40 ∷ []) (c .before .before .before .before .before .before .before .put .ensures) (c .before .before .put2 .ensures)
+returns c =
+    let o = c .before .before .before .before .before .before .before .before .before .before .before .before .args .operator in
+    wrote-both (take (o .bytes) (o .token)) (32 ∷ 40 ∷ []) (c .before .before .before .before .before .before .before .put .ensures) (c .before .before .put2 .ensures)
 
 pub put-before-spec : {M : Type 1} → statement M
 put-before-spec =

@@ -20,7 +20,9 @@ same-length : tie.Need-same-length
 same-length c = search needs
 
 returns : tie.Need-returns
-returns c = wrote-both (41 ∷ 32 ∷ []) (beforeLast (c .before .before .before .before .before .before .before .before .before .before .args .operator)) (c .before .before .before .before .before .before .put .ensures) (c .before .before .put-before .ensures)
+returns c =
+    wrote-both (41 ∷ 32 ∷ []) (beforeLast (c .before .before .before .before .before .before .before .before .before .before .args .operator))
+    (c .before .before .before .before .before .before .put .ensures) (c .before .before .put-before .ensures)
 
 pub put-between-spec : {M : Type 1} → statement M
 put-between-spec =

@@ -62,7 +62,8 @@ run-returns-2 : (t : ℕ) → run-lts.Need-returns-2 (calls t) (run-at t) run.Po
 run-returns-2 t c =
     let k = c .before in
     let s = k .before .before .before .before .before in
-    run-on _ (s .args .start) (s .args .i) (s .pre .1 .0) (s .pre .1 .2) (k .before .before .before .if1 .left) (of-byte isNameByte (k .before .is-name-byte .ensures) (k .if2 .taken) (k .before .before .byte .ensures)) (c .run .ensures)
+    run-on _ (s .args .start) (s .args .i) (s .pre .1 .0) (s .pre .1 .2) (k .before .before .before .if1 .left)
+    (of-byte isNameByte (k .before .is-name-byte .ensures) (k .if2 .taken) (k .before .before .byte .ensures)) (c .run .ensures)
 
 run-returns-3 : (t : ℕ) → run-lts.Need-returns-3 (calls t) (run-at t) run.Post
 run-returns-3 t c =

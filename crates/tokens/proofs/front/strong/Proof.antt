@@ -24,7 +24,11 @@ add-t8 : tie.Need-add-t8
 add-t8 c =
     let y = c .before .before .before in
     let s = y .before .before in
-    omega (arith, inside (s .args .text .now) (s .args .at) 32 (sym (y .byte .ensures) ∙ c .before .before .if1 .taken), inside (s .args .text .now) (s .args .at + 1) 92 (sym (c .before .byte2 .ensures) ∙ c .if2 .taken))
+    omega (
+      arith,
+      inside (s .args .text .now) (s .args .at) 32 (sym (y .byte .ensures) ∙ c .before .before .if1 .taken),
+      inside (s .args .text .now) (s .args .at + 1) 92 (sym (c .before .byte2 .ensures) ∙ c .if2 .taken),
+    )
 
 returns : tie.Need-returns
 returns c =

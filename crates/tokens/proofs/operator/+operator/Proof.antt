@@ -104,7 +104,8 @@ operator-returns-6 : (t : ℕ) → operator-lts.Need-returns-6 (calls t) (operat
 operator-returns-6 t c =
     let y = c .before .before .before .before .before .before .before .before in
     let s = y .before .before .before in
-    op-equiv _ (y .before .if1 .left) (c .arrow2 .result) (sym (y .byte .ensures) ∙ c .before .before .before .if6 .taken) (sym (c .before .before .byte2 .ensures) ∙ c .before .if7 .taken) (c .arrow2 .ensures)
+    op-equiv _ (y .before .if1 .left) (c .arrow2 .result) (sym (y .byte .ensures) ∙ c .before .before .before .if6 .taken)
+    (sym (c .before .before .byte2 .ensures) ∙ c .before .if7 .taken) (c .arrow2 .ensures)
 
 operator-add-t11 : (t : ℕ) → operator-lts.Need-add-t11 (calls t) (operator-at t) operator.Post
 operator-add-t11 t c = search needs
@@ -143,7 +144,8 @@ operator-returns-10 : (t : ℕ) → operator-lts.Need-returns-10 (calls t) (oper
 operator-returns-10 t c =
     let y = c .before .before .before .before .before .before .before in
     let s = y .before .before .before in
-    op-none _ (y .before .if1 .left) (λ e. c .before .before .before .before .before .before .if2 .left (y .byte .ensures ∙ e)) (λ e. c .before .before .before .before .before .if3 .left (y .byte .ensures ∙ e)) (λ e. c .before .before .before .before .if4 .left (y .byte .ensures ∙ e)) (λ e. c .before .before .before .if5 .left (y .byte .ensures ∙ e)) (λ e. c .before .before .if6 .left (y .byte .ensures ∙ e)) (λ e. c .before .if8 .left (y .byte .ensures ∙ e)) (λ e. c .if9 .left (y .byte .ensures ∙ e))
+    op-none _ (y .before .if1 .left)
+    (λ e. c .before .before .before .before .before .before .if2 .left (y .byte .ensures ∙ e)) (λ e. c .before .before .before .before .before .if3 .left (y .byte .ensures ∙ e)) (λ e. c .before .before .before .before .if4 .left (y .byte .ensures ∙ e)) (λ e. c .before .before .before .if5 .left (y .byte .ensures ∙ e)) (λ e. c .before .before .if6 .left (y .byte .ensures ∙ e)) (λ e. c .before .if8 .left (y .byte .ensures ∙ e)) (λ e. c .if9 .left (y .byte .ensures ∙ e))
 
 pub +operator-spec : {M : Type 1} → statement M
 +operator-spec = close μ-operator λ t. operator-lts.spec (calls t)

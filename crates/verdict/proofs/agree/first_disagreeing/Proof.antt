@@ -14,7 +14,8 @@ use Rattle.verdict.proofs.agree.first_disagreeing.Statement.{statement}
 use Rattle.verdict.proofs.agree.first_disagreeing.Tie as tie
 
 abbrev Inv-loop : tie.InvT-loop
-Inv-loop r m marks lengths words codes lefts rights sizes root below j₀ from₀ j from = (j ≤ r) × (from ≡ j * m) × Before (recording r m marks lengths words) (nodes codes lefts rights sizes) (nodeOf root) j
+Inv-loop r m marks lengths words codes lefts rights sizes root below j₀ from₀ j from =
+    (j ≤ r) × (from ≡ j * m) × Before (recording r m marks lengths words) (nodes codes lefts rights sizes) (nodeOf root) j
 
 abbrev μ-loop : tie.MeasureT-loop
 μ-loop r m marks lengths words codes lefts rights sizes root below j₀ from₀ j from = r - j
@@ -32,7 +33,12 @@ cast-length : tie.Need-cast-length Inv-loop μ-loop
 cast-length c = omega (arith, c .shared-slice-known8 .given (c .before .before .loop .j))
 
 eval-requires : tie.Need-eval-requires Inv-loop μ-loop
-eval-requires c κs = let a = c .before .before .before .before .before .before .before .before .before .before .before .args in ready-for (recording (a .r) (a .m) (a .marks .now) (a .lengths .now) (a .words .now)) (nodes (a .codes .now) (a .lefts .now) (a .rights .now) (a .sizes .now)) (nodeOf (a .root)) (c .before .before .before .before .before .before .before .before .before .before .before .pre) (c .before .before .loop .j) (c .before .before .loop .from) (omega arith) (c .before .before .loop .inv .1) (c .before .before .before .count .result) (c .before .before .before .count .ensures ∙ sym (length-nodes (a .codes .now) (a .lefts .now) (a .rights .now) (a .sizes .now)))
+eval-requires c κs =
+    let a = c .before .before .before .before .before .before .before .before .before .before .before .args in
+    ready-for (recording (a .r) (a .m) (a .marks .now) (a .lengths .now) (a .words .now)) (nodes (a .codes .now) (a .lefts .now) (a .rights .now) (a .sizes .now)) (nodeOf (a .root))
+    (c .before .before .before .before .before .before .before .before .before .before .before .pre) (c .before .before .loop .j) (c .before .before .loop .from) (omega arith)
+    (c .before .before .loop .inv .1) (c .before .before .before .count .result)
+    (c .before .before .before .count .ensures ∙ sym (length-nodes (a .codes .now) (a .lefts .now) (a .rights .now) (a .sizes .now)))
 
 shared-slice-read-agrees : tie.Need-shared-slice-read-agrees Inv-loop μ-loop
 shared-slice-read-agrees c = omega (arith, c .before .before .before .before .before .before .before .before .before .before .before .before .before .pre .marks-there)
@@ -43,7 +49,10 @@ agrees-requires c κs = search needs
 add-from : tie.Need-add-from Inv-loop μ-loop
 add-from c = let s = c .before .before .before .before .before .before .before .before .before .before .before .before .before .before .before in
     let a = s .args in
-    let h : c .before .before .before .before .before .before .loop .from + a .m ≤ length (a .words .now) = words-room (recording (a .r) (a .m) (a .marks .now) (a .lengths .now) (a .words .now)) (nodes (a .codes .now) (a .lefts .now) (a .rights .now) (a .sizes .now)) (nodeOf (a .root)) (s .pre) (c .before .before .before .before .before .before .loop .j) (c .before .before .before .before .before .before .loop .from) (omega arith) (c .before .before .before .before .before .before .loop .inv .1) in
+    let h : c .before .before .before .before .before .before .loop .from + a .m ≤ length (a .words .now) =
+    words-room (recording (a .r) (a .m) (a .marks .now) (a .lengths .now) (a .words .now)) (nodes (a .codes .now) (a .lefts .now) (a .rights .now) (a .sizes .now)) (nodeOf (a .root))
+    (s .pre) (c .before .before .before .before .before .before .loop .j) (c .before .before .before .before .before .before .loop .from) (omega arith)
+    (c .before .before .before .before .before .before .loop .inv .1) in
     omega arith
 
 add-j : tie.Need-add-j Inv-loop μ-loop
@@ -57,7 +66,9 @@ loop-again c = let a = c .before .before .before .before .before .before .before
     let l = c .before .before .before .before .before .before in (
       omega arith,
       next-from (l .loop .j) (a .m) (l .loop .inv .1),
-      one-more (recording (a .r) (a .m) (a .marks .now) (a .lengths .now) (a .words .now)) (nodes (a .codes .now) (a .lefts .now) (a .rights .now) (a .sizes .now)) (nodeOf (a .root)) (l .loop .j) (l .loop .inv .2) (λ t s. agrees-seq (recording (a .r) (a .m) (a .marks .now) (a .lengths .now) (a .words .now)) (nodes (a .codes .now) (a .lefts .now) (a .rights .now) (a .sizes .now)) (nodeOf (a .root)) (l .loop .j) (l .loop .from) (c .before .before .before .eval .result) (c .before .agrees .result) (l .loop .inv .1) (c .before .before .before .eval .ensures) (c .before .agrees .ensures) t s .0 (c .if1 .taken)),
+      one-more (recording (a .r) (a .m) (a .marks .now) (a .lengths .now) (a .words .now)) (nodes (a .codes .now) (a .lefts .now) (a .rights .now) (a .sizes .now)) (nodeOf (a .root))
+          (l .loop .j) (l .loop .inv .2)
+          (λ t s. agrees-seq (recording (a .r) (a .m) (a .marks .now) (a .lengths .now) (a .words .now)) (nodes (a .codes .now) (a .lefts .now) (a .rights .now) (a .sizes .now)) (nodeOf (a .root)) (l .loop .j) (l .loop .from) (c .before .before .before .eval .result) (c .before .agrees .result) (l .loop .inv .1) (c .before .before .before .eval .ensures) (c .before .agrees .ensures) t s .0 (c .if1 .taken)),
     )
 
 returns : tie.Need-returns Inv-loop μ-loop
@@ -66,7 +77,8 @@ returns c = let a = c .before .before .before .before .before .before .before .b
     record {
       upto = l .loop .inv .0;
       before = l .loop .inv .2;
-      here = λ t s h g. true≢false (sym (agrees-seq (recording (a .r) (a .m) (a .marks .now) (a .lengths .now) (a .words .now)) (nodes (a .codes .now) (a .lefts .now) (a .rights .now) (a .sizes .now)) (nodeOf (a .root)) (l .loop .j) (l .loop .from) (c .before .before .before .eval .result) (c .before .agrees .result) (l .loop .inv .1) (c .before .before .before .eval .ensures) (c .before .agrees .ensures) t s .1 g) ∙ c .if1 .left);
+      here =
+          λ t s h g. true≢false (sym (agrees-seq (recording (a .r) (a .m) (a .marks .now) (a .lengths .now) (a .words .now)) (nodes (a .codes .now) (a .lefts .now) (a .rights .now) (a .sizes .now)) (nodeOf (a .root)) (l .loop .j) (l .loop .from) (c .before .before .before .eval .result) (c .before .agrees .result) (l .loop .inv .1) (c .before .before .before .eval .ensures) (c .before .agrees .ensures) t s .1 g) ∙ c .if1 .left);
     }
 
 returns-2 : tie.Need-returns-2 Inv-loop μ-loop

@@ -65,8 +65,11 @@ eval-eval-requires t c κs = let s = c .before .before .before .before .before .
     let a = s .args in
     let f = c .before .before .before .before .operator-of in
     let u = in-unary _ (f .result) (f .ensures) (c .before .before .enum-told .given .1) in
-    let h = left-under _ _ _ (nodeOf (a .node)) (s .pre .1 .fits) (inl u) in
-    (omega arith, ready-at (a .length) (a .words .now) (a .from) (nodes (a .codes .now) (a .lefts .now) (a .rights .now) (a .sizes .now)) (nodeOf (a .node)) (s .pre .1) (a .node .left .0) h (c .node-at .ensures))
+    let h = left-under _ _ _ (nodeOf (a .node)) (s .pre .1 .fits) (inl u) in (
+      omega arith,
+      ready-at (a .length) (a .words .now) (a .from) (nodes (a .codes .now) (a .lefts .now) (a .rights .now) (a .sizes .now)) (nodeOf (a .node)) (s .pre .1)
+          (a .node .left .0) h (c .node-at .ensures),
+    )
 
 eval-unary-requires : (t : ℕ) → eval-lts.Need-unary-requires (calls t) (eval-at t) eval.Post
 eval-unary-requires t c κs = search needs
@@ -85,8 +88,11 @@ eval-eval-requires-2 t c κs = let s = c .before .before .before .before .before
     let a = s .args in
     let f = c .before .before .before .before .operator-of in
     let u = in-binary _ (f .result) (f .ensures) (c .before .before .enum-told2 .given .1) in
-    let h = left-under _ _ _ (nodeOf (a .node)) (s .pre .1 .fits) (inr u) in
-    (omega arith, ready-at (a .length) (a .words .now) (a .from) (nodes (a .codes .now) (a .lefts .now) (a .rights .now) (a .sizes .now)) (nodeOf (a .node)) (s .pre .1) (a .node .left .0) h (c .node-at2 .ensures))
+    let h = left-under _ _ _ (nodeOf (a .node)) (s .pre .1 .fits) (inr u) in (
+      omega arith,
+      ready-at (a .length) (a .words .now) (a .from) (nodes (a .codes .now) (a .lefts .now) (a .rights .now) (a .sizes .now)) (nodeOf (a .node)) (s .pre .1)
+          (a .node .left .0) h (c .node-at2 .ensures),
+    )
 
 eval-cast-right : (t : ℕ) → eval-lts.Need-cast-right (calls t) (eval-at t) eval.Post
 eval-cast-right t c = search needs
@@ -99,8 +105,11 @@ eval-eval-requires-3 t c κs = let s = c .before .before .before .before .before
     let a = s .args in
     let f = c .before .before .before .before .before .before .before .operator-of in
     let u = in-binary _ (f .result) (f .ensures) (c .before .before .before .before .before .enum-told2 .given .1) in
-    let h = right-under _ _ _ (nodeOf (a .node)) (s .pre .1 .fits) u in
-    (omega arith, ready-at (a .length) (a .words .now) (a .from) (nodes (a .codes .now) (a .lefts .now) (a .rights .now) (a .sizes .now)) (nodeOf (a .node)) (s .pre .1) (a .node .right .0) h (c .node-at3 .ensures))
+    let h = right-under _ _ _ (nodeOf (a .node)) (s .pre .1 .fits) u in (
+      omega arith,
+      ready-at (a .length) (a .words .now) (a .from) (nodes (a .codes .now) (a .lefts .now) (a .rights .now) (a .sizes .now)) (nodeOf (a .node)) (s .pre .1)
+          (a .node .right .0) h (c .node-at3 .ensures),
+    )
 
 eval-binary-requires : (t : ℕ) → eval-lts.Need-binary-requires (calls t) (eval-at t) eval.Post
 eval-binary-requires t c κs = search needs
@@ -120,14 +129,17 @@ eval-returns t c = let s = c .before .before .before .before .before .before .be
     let a = s .args in
     let f = c .before .before .before .before .before .before .operator-of in
     let u = in-unary _ (f .result) (f .ensures) (c .before .before .before .before .enum-told .given .1) in
-    word-of-unary (a .length) (a .words .now) (a .from) (nodes (a .codes .now) (a .lefts .now) (a .rights .now) (a .sizes .now)) (nodeOf (a .node)) u (c .before .before .node-at .ensures) (c .before .eval .ensures) (c .unary .ensures)
+    word-of-unary (a .length) (a .words .now) (a .from) (nodes (a .codes .now) (a .lefts .now) (a .rights .now) (a .sizes .now)) (nodeOf (a .node)) u
+    (c .before .before .node-at .ensures) (c .before .eval .ensures) (c .unary .ensures)
 
 eval-returns-2 : (t : ℕ) → eval-lts.Need-returns-2 (calls t) (eval-at t) eval.Post
 eval-returns-2 t c = let s = c .before .before .before .before .before .before .before .before .before .before .before .before .before .before .before in
     let a = s .args in
     let f = c .before .before .before .before .before .before .before .before .before .operator-of in
     let u = in-binary _ (f .result) (f .ensures) (c .before .before .before .before .before .before .before .enum-told2 .given .1) in
-    word-of-binary (a .length) (a .words .now) (a .from) (nodes (a .codes .now) (a .lefts .now) (a .rights .now) (a .sizes .now)) (nodeOf (a .node)) u (c .before .before .before .before .before .node-at2 .ensures) (c .before .before .before .before .eval2 .ensures) (c .before .before .node-at3 .ensures) (c .before .eval3 .ensures) (c .binary .ensures)
+    word-of-binary (a .length) (a .words .now) (a .from) (nodes (a .codes .now) (a .lefts .now) (a .rights .now) (a .sizes .now)) (nodeOf (a .node)) u
+    (c .before .before .before .before .before .node-at2 .ensures) (c .before .before .before .before .eval2 .ensures) (c .before .before .node-at3 .ensures) (c .before .eval3 .ensures)
+    (c .binary .ensures)
 
 eval-returns-3 : (t : ℕ) → eval-lts.Need-returns-3 (calls t) (eval-at t) eval.Post
 eval-returns-3 t c = c .leaf .ensures

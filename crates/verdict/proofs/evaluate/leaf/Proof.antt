@@ -38,10 +38,14 @@ returns c = let s = c .before .before .before .before .before .before .before .b
     let h = proposition-under (r .propositions) _ (a .below) (nodeOf (a .node)) (r .fits) (c .before .before .before .if1 .taken) in
     let e : c .before .before .from-left .result .0 ≡ a .node .left .0 = omega (arith, r .few) in
     subst (λ (p : ℕ). Evaluated (a .length) (a .words .now) (a .from) (nodes (a .codes .now) (a .lefts .now) (a .rights .now) (a .sizes .now)) (nodeOf (a .node)) (seq (a .length) (getD (a .words .now) (a .from + p) 0))) (sym e)
-    (word-of-proposition (a .length) (a .words .now) (a .from) (nodes (a .codes .now) (a .lefts .now) (a .rights .now) (a .sizes .now)) (nodeOf (a .node)) (a .below) r (c .before .before .before .if1 .taken))
+    (word-of-proposition (a .length) (a .words .now) (a .from) (nodes (a .codes .now) (a .lefts .now) (a .rights .now) (a .sizes .now)) (nodeOf (a .node)) (a .below) r
+    (c .before .before .before .if1 .taken))
 
 returns-2 : tie.Need-returns-2
-returns-2 c = let a = c .before .before .before .before .before .before .before .before .before .args in word-of-false (a .length) (a .words .now) (a .from) (nodes (a .codes .now) (a .lefts .now) (a .rights .now) (a .sizes .now)) (nodeOf (a .node)) (c .before .before .before .before .before .before .before .before .before .pre .0 .short) (c .if2 .taken)
+returns-2 c =
+    let a = c .before .before .before .before .before .before .before .before .before .args in
+    word-of-false (a .length) (a .words .now) (a .from) (nodes (a .codes .now) (a .lefts .now) (a .rights .now) (a .sizes .now)) (nodeOf (a .node))
+    (c .before .before .before .before .before .before .before .before .before .pre .0 .short) (c .if2 .taken)
 
 mask-requires : tie.Need-mask-requires
 mask-requires c κs = search needs
@@ -52,7 +56,9 @@ places-requires c κs = search needs
 returns-3 : tie.Need-returns-3
 returns-3 c = let s = c .before .before .before .before .before .before .before .before .before .before .before in
     let a = s .args in
-    word-of-true (a .length) (a .words .now) (a .from) (nodes (a .codes .now) (a .lefts .now) (a .rights .now) (a .sizes .now)) (nodeOf (a .node)) (c .before .mask .result) (s .pre .0 .short) (true-code _ _ (a .below) (nodeOf (a .node)) (s .pre .0 .fits) (s .pre .1) (s .pre .2) (c .before .before .before .before .if1 .left) (c .before .before .if2 .left)) (c .before .mask .ensures) (c .places .ensures)
+    word-of-true (a .length) (a .words .now) (a .from) (nodes (a .codes .now) (a .lefts .now) (a .rights .now) (a .sizes .now)) (nodeOf (a .node)) (c .before .mask .result)
+    (s .pre .0 .short) (true-code _ _ (a .below) (nodeOf (a .node)) (s .pre .0 .fits) (s .pre .1) (s .pre .2) (c .before .before .before .before .if1 .left)
+    (c .before .before .if2 .left)) (c .before .mask .ensures) (c .places .ensures)
 
 pub leaf-spec : {M : Type 1} → statement M
 leaf-spec =
