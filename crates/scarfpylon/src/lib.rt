@@ -1,13 +1,6 @@
-// The C boundary: operators, search, check, print, the readers of formulas and files, and the report, on numbers and slices of numbers. Every
-// function returns 0 where it answered, else a refusal's number, and answers in the slice `out`.
-mod compare;
-mod out;
-mod reports;
-mod short;
-
-use formula::kinds::Node;
-use rules::kinds::Place;
-use sequence::CharSeq;
+// The C boundary: operators, search, check, print, the readers of formulas and files, the comparison and the report, on numbers and slices of numbers.
+// Every function returns 0 where it answered, else a refusal's number, and answers in the slice `out`. Each is one call of the function with the same contract
+// in a crate of its own (out_operators, out_search, ..).
 ghost use mathlib.Core.Path.{_≡_};
 ghost use Rattle.file.specs.Reading.{lent};
 ghost use Rattle.formula.specs.Kinds.{node, nodes};
@@ -15,26 +8,21 @@ ghost use Rattle.reader.specs.Parsing.{columns};
 ghost use Rattle.session.specs.Recording.{recording};
 ghost use Rattle.search.specs.Table.{cols};
 ghost use Rattle.walk.specs.Input.{inputOf};
-ghost use Rattle.scarfpylon.specs.Operators.{UnaryDone, BinaryDone};
-ghost use Rattle.scarfpylon.specs.Search.{SearchDone};
-ghost use Rattle.scarfpylon.specs.Check.{CheckDone};
-ghost use Rattle.scarfpylon.specs.Print.{PrintDone};
-ghost use Rattle.scarfpylon.specs.Parse.{ParseDone};
-ghost use Rattle.scarfpylon.specs.Read.{done, readDone};
-ghost use Rattle.scarfpylon.specs.Compare.{CompareDone};
-ghost use Rattle.scarfpylon.specs.Report.{ReportDone};
+ghost use Rattle.out_operators.specs.Operators.{UnaryDone, BinaryDone};
+ghost use Rattle.out_search.specs.Search.{SearchDone};
+ghost use Rattle.out_check.specs.Check.{CheckDone};
+ghost use Rattle.out_print.specs.Print.{PrintDone};
+ghost use Rattle.out_parse.specs.Parse.{ParseDone};
+ghost use Rattle.out_read.specs.Read.{done, readDone};
+ghost use Rattle.out_compare.specs.Compare.{CompareDone};
+ghost use Rattle.out_report.specs.Report.{ReportDone};
 
 // The unary operator of a code on a sequence.
 #[no_mangle]
 pub extern "C" fn scarfpylon_unary(code: u8, length: u64, word: u64, out: &mut [u64]) -> u64
     ensures { λ k. ⌜ UnaryDone code length word (now (out .entry)) k (now (out .exit)) ⌝ }
 {
-    let sequence = CharSeq {
-        length: length as usize,
-        values: word,
-    };
-    let answer = sequence::apply_unary(code, sequence);
-    out::put_sequence(answer, out)
+    out_operators::unary(code, length, word, out)
 }
 
 // The binary operator of a code on two sequences of one length.
@@ -49,16 +37,7 @@ pub extern "C" fn scarfpylon_binary(
 ) -> u64
     ensures { λ k. ⌜ BinaryDone code llen lword rlen rword (now (out .entry)) k (now (out .exit)) ⌝ }
 {
-    let left = CharSeq {
-        length: llen as usize,
-        values: lword,
-    };
-    let right = CharSeq {
-        length: rlen as usize,
-        values: rword,
-    };
-    let answer = sequence::apply_binary(code, left, right);
-    out::put_sequence(answer, out)
+    out_operators::binary(code, llen, lword, rlen, rword, out)
 }
 
 // FOUND, NONE or FULL, with the kept formulas in the lent slices.
@@ -89,10 +68,7 @@ pub extern "C" fn scarfpylon_search(
         (cols (now (codes .exit)) (now (lefts .exit)) (now (rights .exit)) (now (sizes .exit)) (now (matrices .exit)))
         (now (out .exit)) ⌝ }
 {
-    if out.len() < out::LONG_WORDS {
-        return short::search(r, m, bound, room, constants);
-    }
-    let answer = search::search(
+    out_search::search(
         r,
         m,
         bound,
@@ -108,9 +84,8 @@ pub extern "C" fn scarfpylon_search(
         rights,
         sizes,
         matrices,
-    );
-    out::put_search(answer, out);
-    out::search_number(answer)
+        out,
+    )
 }
 
 // Whether the root's formula separates the marked sessions, and if not, the first session that disagrees.
@@ -139,16 +114,7 @@ pub extern "C" fn scarfpylon_check(
         k
         (now (out .exit)) ⌝ }
 {
-    if out.len() < out::WORDS {
-        return short::check(r, m);
-    }
-    let root = Node {
-        code,
-        left: Place(left),
-        right: Place(right),
-        size,
-    };
-    let answer = formula::check(
+    out_check::check(
         r,
         m,
         marks,
@@ -158,10 +124,12 @@ pub extern "C" fn scarfpylon_check(
         lefts,
         rights,
         sizes,
-        root,
-    );
-    out::put_verdict(answer, out);
-    out::verdict_number(answer)
+        code,
+        left,
+        right,
+        size,
+        out,
+    )
 }
 
 // The text of the root's formula, at the start of the lent room.
@@ -189,18 +157,19 @@ pub extern "C" fn scarfpylon_print(
         (now (text .exit))
         (now (out .exit)) ⌝ }
 {
-    let root = Node {
+    out_print::print(
+        names,
+        codes,
+        lefts,
+        rights,
+        sizes,
         code,
-        left: Place(left),
-        right: Place(right),
+        left,
+        right,
         size,
-    };
-    if out.len() < out::WORDS {
-        return short::print(names, codes, lefts, rights, sizes, root);
-    }
-    let answer = text::print(names, codes, lefts, rights, sizes, root, text);
-    out::put_printed(answer, out);
-    out::printed_number(answer)
+        text,
+        out,
+    )
 }
 
 // The nodes of a formula that is typed, in the lent slices, the root last.
@@ -223,12 +192,7 @@ pub extern "C" fn scarfpylon_parse(
         (columns (now (codes .exit)) (now (lefts .exit)) (now (rights .exit)) (now (sizes .exit)))
         (now (out .exit)) ⌝ }
 {
-    if out.len() < out::WORDS {
-        return short::parse(names, text);
-    }
-    let answer = reader::parse(names, text, codes, lefts, rights, sizes);
-    out::put_parsed(answer, out);
-    out::parsed_number(answer)
+    out_parse::parse(names, text, codes, lefts, rights, sizes, out)
 }
 
 // A session file's parts, in the lent slices.
@@ -249,12 +213,7 @@ pub extern "C" fn scarfpylon_read(
         (lent (now (marks .entry)) (now (lengths .entry)) (now (words .entry)) (now (unary .entry)) (now (binary .entry)))
         (now (out .entry)) ⌝ }
 {
-    if out.len() < out::WORDS {
-        return short::read(file);
-    }
-    let answer = file::read(file, marks, lengths, words, unary, binary);
-    out::put_read(answer, out);
-    out::read_number(answer)
+    out_read::read(file, marks, lengths, words, unary, binary, out)
 }
 
 // A matrix, the first r of the words, against the one at a place of the matrices: equal, or the first session that differs.
@@ -268,13 +227,7 @@ pub extern "C" fn scarfpylon_compare(
 ) -> u64
     ensures { λ k. ⌜ CompareDone r place (now (matrices .entry)) (now (words .entry)) (now (out .entry)) k (now (out .exit)) ⌝ }
 {
-    let refused = compare::refusal(r, place, matrices.len(), words.len(), out.len());
-    if refused != 0 {
-        return refused;
-    }
-    let from = place * r;
-    let answer = table::compare(r, Place(0), &matrices[from..], words);
-    compare::put(answer, place, out)
+    out_compare::compare(r, place, matrices, words, out)
 }
 
 // Per session and node under the root: the first snapshot where it holds, the first where it doesn't, and at how many it holds.
@@ -306,27 +259,7 @@ pub extern "C" fn scarfpylon_report(
         (now (text .exit))
         (now (out .exit)) ⌝ }
 {
-    let root = Node {
-        code,
-        left: Place(left),
-        right: Place(right),
-        size,
-    };
-    if out.len() < out::WORDS {
-        return reports::unanswered(
-            r,
-            m,
-            marks,
-            lengths,
-            words,
-            codes,
-            lefts,
-            rights,
-            sizes,
-            root,
-        );
-    }
-    let answer = report::report(
+    out_report::report(
         r,
         m,
         marks,
@@ -336,9 +269,11 @@ pub extern "C" fn scarfpylon_report(
         lefts,
         rights,
         sizes,
-        root,
+        code,
+        left,
+        right,
+        size,
         text,
-    );
-    reports::put_length(answer, out);
-    reports::number(answer)
+        out,
+    )
 }
