@@ -17,7 +17,8 @@ use Rattle.search.specs.declared.SearchAnswer.{SearchAnswer}
 use Rattle.search.specs.Table.{Cols}
 use Rattle.search.specs.Search.{Searched}
 use Rattle.search.proofs.Promises.{search-unique}
-use Rattle.faces.specs.Lists.{plain, codesOf, leftsOf, rightsOf, sizesOf, columns}
+use Rattle.nodes_in.specs.Lists.{plain, codesOf, leftsOf, rightsOf, sizesOf}
+use Rattle.nodes_out.specs.Columns.{columns}
 
 pub check-face-unique : (i : Recording) (ns : List Node) (root : walk.Node) (v w : Verdict)
     → CheckAnswer i (plain ns) root (saidVerdict v) → CheckAnswer i (plain ns) root (saidVerdict w) → v ≡ w
