@@ -1,13 +1,17 @@
 -- The search in slices at the boundary: with no session lent the core refuses at 3 at the latest, and rows that are not given may stand in a list.
 -- Assumes nothing.
-use mathlib.Core.Path.{_≡_, refl}
+use mathlib.Core.Path.{_≡_, refl, sym, ap, _∙_, subst}
+use mathlib.Core.Bool.{Bool, cond}
 use mathlib.Core.Logic.{inl, inr}
-use mathlib.Core.List.{List, []}
+use mathlib.Core.List.{List, [], _∷_}
 use Prim.Native.Nat.{ℕ, _≤_, _<_}
 use native.Mathlib.Nat.{lt-of-not-le}
 use native.Mathlib.Omega.{arith}
-use lib.ListN.{length}
+use borrow.Author.Tests.{eq-eqb, ne-eqb}
+use lib.Dec.{eqb}
+use lib.ListN.{length, set, length-set}
 use Rattle.rules.specs.Refusals.{Decided}
+use Rattle.rules.proofs.Refusals.{decided-unique, decided-not}
 use Rattle.walk.specs.Input.{Input, inputOf}
 use Rattle.table.specs.Slices.{Cols}
 use Rattle.slices.specs.declared.Resumed.{Resumed}
@@ -15,9 +19,10 @@ use Rattle.slices.specs.declared.Resumed.the-variants.{Goes, Refused}
 use Rattle.slices.specs.declared.state.State.{State}
 use Rattle.slices.specs.Slices as core
 use Rattle.slices.specs.Resume.{numberOf, Called}
-use Rattle.out.specs.Out.{longWords}
+use Rattle.out.specs.Out.{longWords, Named, word, written}
 use Rattle.state_words.specs.Words.{stateWords, stateRead}
-use Rattle.out_resume.specs.Resume.{resumeRows, ResumeDone}
+use Rattle.state_words.specs.Written.{stateShort, StateDone}
+use Rattle.out_resume.specs.Resume.{foundWords, endWords, toldWords, resumeRows, ResumeDone}
 use Rattle.out_resume.specs.Inner.{ResumeUnanswered, ResumePut}
 
 -- ---- `out` or the state is too short
@@ -83,9 +88,59 @@ module _ (i : Input) (t : Cols) (budget : ℕ) (state old : List ℕ) (h : longW
   answered-rows k (inr (p, inr (q, inl b))) = inr (p, inr (q, inl b))
   answered-rows k (inr (p, inr (q, inr (b, d)))) = inr (p, inr (q, inr (b, inr (λ g. omega arith, inr (λ g. omega arith, d)))))
 
-  pub resume-long : (a : Resumed) (u : Cols) → Called i t budget (stateRead state) a u → (k : ℕ) (state′ new : List ℕ) → ResumePut a state old k state′ new
+  by-answer : (a : Resumed) (u : Cols) → Called i t budget (stateRead state) a u → (k : ℕ) (state′ new : List ℕ) → ResumePut a state old k state′ new
       → ResumeDone i t budget state old k u state′ new
-  resume-long (Goes after) u c k state′ new (e, n, s, w) =
+  by-answer (Goes after) u c k state′ new (e, n, s, w) =
       rw e (record { number = answered-rows 0 (c .decided); refused = λ f. absurd (f refl); passed = λ _. (after, c, n, s, w) })
-  resume-long (Refused m) u c k state′ new (e, s, w) =
+  by-answer (Refused m) u c k state′ new (e, s, w) =
       rw e (record { number = answered-rows m (c .decided); refused = λ _. (c .outcome .1, s, w); passed = λ z. absurd (omega (arith, c .outcome .0)) })
+
+  pub resume-long : (from : State) → from ≡ stateRead state → (a : Resumed) (u : Cols) → Called i t budget from a u → (k : ℕ) (state′ new : List ℕ)
+      → ResumePut a state old k state′ new → ResumeDone i t budget state old k u state′ new
+  resume-long from e a u c k state′ new p = by-answer a u (subst (λ (s : State). Called i t budget s a u) e c) k state′ new p
+
+-- the state is put, and long enough
+pub put-goes : (after : State) (state old : List ℕ) (k : ℕ) (state′ new : List ℕ) → stateWords ≤ length state → StateDone after state k state′
+    → new ≡ written (toldWords after) old → ResumePut (Goes after) state old k state′ new
+put-goes after state old k state′ new h d e =
+    let z : k ≡ 0 = decided-unique _ k 0 (d .number) (decided-not (stateShort state) (λ g. omega arith)) in
+    let p = d .passed z in
+    (z, p .0, p .1, e)
+
+-- ---- what a state tells, by its end
+
+module _ (s : State) (old : List ℕ) where
+  -- with the three counts
+  abbrev counted : List ℕ
+  counted = set (set (set old 2 (s .counts .tried)) 3 (s .counts .kept)) 8 (s .counts .dropped)
+
+  pub counted-long : length counted ≡ length old
+  counted-long =
+      length-set (set (set old 2 (s .counts .tried)) 3 (s .counts .kept)) 8 (s .counts .dropped)
+      ∙ length-set (set old 2 (s .counts .tried)) 3 (s .counts .kept)
+      ∙ length-set old 2 (s .counts .tried)
+
+  told : (ws : List Named) → endWords s ≡ ws → written ws counted ≡ written (toldWords s) old
+  told ws e = ap (λ (x : List Named). written x counted) (sym e)
+
+  module _ (not-found : s .end ≡ 1 → ⊥) where
+    after-found : endWords s ≡ cond (eqb (s .end) 2) (word 0 2 ∷ []) (cond (eqb (s .end) 3) (word 0 3 ∷ word 1 (s .size) ∷ []) (word 0 4 ∷ []))
+    after-found = ap (λ (b : Bool). cond b (foundWords (s .root)) (cond (eqb (s .end) 2) (word 0 2 ∷ []) (cond (eqb (s .end) 3) (word 0 3 ∷ word 1 (s .size) ∷ []) (word 0 4 ∷ [])))) (ne-eqb (s .end) 1 not-found)
+
+    pub told-none : s .end ≡ 2 → set counted 0 2 ≡ written (toldWords s) old
+    told-none e = told (word 0 2 ∷ []) (after-found ∙ ap (λ (b : Bool). cond b (word 0 2 ∷ []) (cond (eqb (s .end) 3) (word 0 3 ∷ word 1 (s .size) ∷ []) (word 0 4 ∷ []))) (eq-eqb (s .end) 2 e))
+
+    module _ (not-none : s .end ≡ 2 → ⊥) where
+      after-none : endWords s ≡ cond (eqb (s .end) 3) (word 0 3 ∷ word 1 (s .size) ∷ []) (word 0 4 ∷ [])
+      after-none = after-found ∙ ap (λ (b : Bool). cond b (word 0 2 ∷ []) (cond (eqb (s .end) 3) (word 0 3 ∷ word 1 (s .size) ∷ []) (word 0 4 ∷ []))) (ne-eqb (s .end) 2 not-none)
+
+      pub told-full : s .end ≡ 3 → set (set counted 0 3) 1 (s .size) ≡ written (toldWords s) old
+      told-full e = told (word 0 3 ∷ word 1 (s .size) ∷ []) (after-none ∙ ap (λ (b : Bool). cond b (word 0 3 ∷ word 1 (s .size) ∷ []) (word 0 4 ∷ [])) (eq-eqb (s .end) 3 e))
+
+      pub told-more : (s .end ≡ 3 → ⊥) → set counted 0 4 ≡ written (toldWords s) old
+      told-more f = told (word 0 4 ∷ []) (after-none ∙ ap (λ (b : Bool). cond b (word 0 3 ∷ word 1 (s .size) ∷ []) (word 0 4 ∷ [])) (ne-eqb (s .end) 3 f))
+
+  pub told-found : s .end ≡ 1 → written (foundWords (s .root)) counted ≡ written (toldWords s) old
+  told-found e =
+      told (foundWords (s .root))
+      (ap (λ (b : Bool). cond b (foundWords (s .root)) (cond (eqb (s .end) 2) (word 0 2 ∷ []) (cond (eqb (s .end) 3) (word 0 3 ∷ word 1 (s .size) ∷ []) (word 0 4 ∷ [])))) (eq-eqb (s .end) 1 e))

@@ -6,6 +6,7 @@ use mathlib.Core.List.{List, [], _∷_, _++_}
 use Prim.Native.Nat.{ℕ}
 use lib.Dec.{eqb}
 use Rattle.rules.specs.Refusals.{Row, Decided}
+use Rattle.formula.specs.declared.kinds.Node.{Node}
 use Rattle.walk.specs.Input.{Input}
 use Rattle.table.specs.Slices.{Cols}
 use Rattle.slices.specs.declared.Resumed.the-variants.{Goes}
@@ -16,17 +17,15 @@ use Rattle.out.specs.Out.{Named, word, written, longShort}
 use Rattle.state_words.specs.Words.{stateRead, Narrow}
 use Rattle.state_words.specs.Written.{stateShort, stateOver}
 
--- "out as search's, with case 4 MORE (tried, kept, dropped)": word 0 the case, word 1 the size at FOUND and FULL, words 4 to 7 FOUND's root
+-- "out as search's": at FOUND the case, the size, and the root's code, left, right, size
+abbrev pub foundWords : Node → List Named
+foundWords root =
+    word 0 1 ∷ word 1 (root .size) ∷ word 4 (root .code) ∷ word 5 (root .left .0) ∷ word 6 (root .right .0) ∷ word 7 (root .size) ∷ []
+
+-- ".. with case 4 MORE": 2 is NONE, and 3 is FULL with its size
 abbrev pub endWords : State → List Named
 endWords s =
-    cond (eqb (s .end) 1)
-    (word 0 1
-    ∷ word 1 (s .root .size)
-    ∷ word 4 (s .root .code)
-    ∷ word 5 (s .root .left .0)
-    ∷ word 6 (s .root .right .0)
-    ∷ word 7 (s .root .size)
-    ∷ [])
+    cond (eqb (s .end) 1) (foundWords (s .root))
     (cond (eqb (s .end) 2) (word 0 2 ∷ []) (cond (eqb (s .end) 3) (word 0 3 ∷ word 1 (s .size) ∷ []) (word 0 4 ∷ [])))
 
 -- words 2, 3 and 8: tried, kept, dropped

@@ -1,4 +1,5 @@
 // The search in slices at the C boundary: the state is read from the words that a C program keeps and written back to them; MORE or the end goes to `out`.
+use formula::kinds::Node;
 use slices::Resumed;
 use slices::state::State;
 ghost use mathlib.Core.Path.{_≡_};
@@ -9,7 +10,7 @@ ghost use Rattle.table.specs.Slices.{cols};
 ghost use Rattle.slices.specs.Resume.{numberOf};
 ghost use Rattle.out.specs.Out.{longWords, written};
 ghost use Rattle.state_words.specs.Words.{stateWords};
-ghost use Rattle.out_resume.specs.Resume.{toldWords, ResumeDone};
+ghost use Rattle.out_resume.specs.Resume.{foundWords, toldWords, ResumeDone};
 ghost use Rattle.out_resume.specs.Inner.{ResumeUnanswered, ResumePut};
 
 // The search from the state in the words on, for at most `budget` candidates.
@@ -110,6 +111,18 @@ fn number(answer: Resumed) -> u64
     }
 }
 
+fn tell_found(root: Node, out: &mut [u64])
+    requires { ⌜ longWords ≤ length (now out) ⌝ }
+    ensures { λ u. ⌜ now (out .exit) ≡ written (foundWords root) (now (out .entry)) ⌝ }
+{
+    out[0] = 1;
+    out[1] = root.size as u64;
+    out[4] = root.code as u64;
+    out[5] = root.left.0 as u64;
+    out[6] = root.right.0 as u64;
+    out[7] = root.size as u64;
+}
+
 // What the state tells: MORE, or the walk's end.
 fn tell(after: State, out: &mut [u64])
     requires { ⌜ longWords ≤ length (now out) ⌝ }
@@ -119,12 +132,7 @@ fn tell(after: State, out: &mut [u64])
     out[3] = after.counts.kept as u64;
     out[8] = after.counts.dropped;
     if after.end == 1 {
-        out[0] = 1;
-        out[1] = after.root.size as u64;
-        out[4] = after.root.code as u64;
-        out[5] = after.root.left.0 as u64;
-        out[6] = after.root.right.0 as u64;
-        out[7] = after.root.size as u64;
+        tell_found(after.root, out);
         return;
     }
     if after.end == 2 {
