@@ -14,7 +14,7 @@ use Rattle.text.specs.Print.{saidPrinted, Prints}
 use Rattle.formula.proofs.Unique.{check-unique}
 use Rattle.text.proofs.Unique.{print-unique}
 use Rattle.search.specs.declared.SearchAnswer.{SearchAnswer}
-use Rattle.search.specs.Table.{Cols}
+use Rattle.table.specs.Slices.{Cols}
 use Rattle.search.specs.Search.{Searched}
 use Rattle.search.proofs.Promises.{search-unique}
 use Rattle.nodes_in.specs.Lists.{plain, codesOf, leftsOf, rightsOf, sizesOf}

@@ -16,7 +16,7 @@ use Rattle.walk.specs.Input.{Input, search}
 use Rattle.formula.specs.declared.kinds.Node.{Node}
 use Rattle.search.specs.declared.SearchAnswer.{SearchAnswer}
 use Rattle.search.specs.declared.SearchAnswer.the-variants.{Found, None, Full, Refused}
-use Rattle.search.specs.Table.{Cols, tableOver}
+use Rattle.table.specs.Slices.{Cols, tableOver}
 use Rattle.checks.specs.Refusals.{settingWrong, noRoom, searchRows}
 use Rattle.search.specs.Search.{said, walkSaid, Outcome, Searched}
 use Rattle.nodes_out.specs.declared.Done.{Done}

@@ -3,7 +3,7 @@
 use mathlib.Core.List.{List}
 use Prim.Native.Nat.{ℕ}
 use Rattle.formula.specs.declared.kinds.Node.{Node}
-use Rattle.search.specs.Table.{Cols, cols}
+use Rattle.table.specs.Slices.{Cols, cols}
 use Rattle.reader.specs.Parsing as reader
 use Rattle.reader.specs.Parsing.{Columns}
 use Rattle.nodes_in.specs.Lists.{codesOf, leftsOf, rightsOf, sizesOf}

@@ -2,4 +2,5 @@
 -- calls handed out). The sentences in quotes are those of docs/DECISIONS.md, "The C boundary", and of document 02.
 -- `Inner` is only for private functions: no public contract cites it.
 pub mod Resume
+pub mod Promises
 pub mod Inner

@@ -14,7 +14,7 @@ use Rattle.rules.proofs.Refusals.{decided-unique}
 use Rattle.walk.specs.Input.{Input}
 use Rattle.search.specs.declared.SearchAnswer.{SearchAnswer}
 use Rattle.search.specs.declared.SearchAnswer.the-variants.{Found, None, Full, Refused}
-use Rattle.search.specs.Table.{Cols}
+use Rattle.table.specs.Slices.{Cols}
 use Rattle.search.specs.Search.{Searched}
 use Rattle.checks.specs.Refusals as core
 use Rattle.search.proofs.Promises.{found-smallest, none-means-none, full-needs-room, tried-is-position, tried-adds-up}

@@ -11,7 +11,7 @@ use Rattle.rules.specs.Refusals.{Decided}
 use Rattle.walk.specs.Input.{Input, inputOf}
 use Rattle.search.specs.declared.SearchAnswer.{SearchAnswer}
 use Rattle.search.specs.declared.SearchAnswer.the-variants.{Found, None, Full, Refused}
-use Rattle.search.specs.Table.{Cols}
+use Rattle.table.specs.Slices.{Cols}
 use Rattle.checks.specs.Refusals as core
 use Rattle.search.specs.Search.{said, Searched}
 use Rattle.out.specs.Out.{longWords, written}

@@ -7,7 +7,7 @@ use native.Mathlib.Decide.{ℕ-discrete}
 use Rattle.rules.proofs.Refusals.{decided-unique}
 use Rattle.walk.specs.Input.{Input}
 use Rattle.search.specs.declared.SearchAnswer.{SearchAnswer}
-use Rattle.search.specs.Table.{Cols}
+use Rattle.table.specs.Slices.{Cols}
 use Rattle.search.proofs.Promises.{search-unique}
 use Rattle.out.specs.Out.{written}
 use Rattle.out_search.specs.Search.{searchWords, SearchDone}

@@ -7,7 +7,7 @@ use Rattle.rules.specs.Refusals.{Row, Decided}
 use Rattle.walk.specs.Input.{Input}
 use Rattle.search.specs.declared.SearchAnswer.{SearchAnswer}
 use Rattle.search.specs.declared.SearchAnswer.the-variants.{Found, None, Full, Refused}
-use Rattle.search.specs.Table.{Cols}
+use Rattle.table.specs.Slices.{Cols}
 use Rattle.checks.specs.Refusals.{searchRowsWith}
 use Rattle.search.specs.Search.{Searched}
 use Rattle.out.specs.Out.{Named, word, written, longShort}

@@ -4,7 +4,7 @@ ghost use mathlib.Core.Path.{_≡_};
 ghost use Prim.Native.Nat.{_≤_};
 ghost use lib.ListN.{length};
 ghost use Rattle.walk.specs.Input.{inputOf};
-ghost use Rattle.search.specs.Table.{cols};
+ghost use Rattle.table.specs.Slices.{cols};
 ghost use Rattle.search.specs.Search.{said};
 ghost use Rattle.out.specs.Out.{longWords, written};
 ghost use Rattle.out_search.specs.Search.{searchWords, SearchDone};

@@ -1,4 +1,4 @@
-// The C boundary: operators, search, check, print, the readers of formulas and files, the comparison and the report, on numbers and slices of numbers.
+// The C boundary: operators, search (whole and in slices), check, print, the readers of formulas and files, the comparison and the report, on numbers and slices of numbers.
 // Every function returns 0 where it answered, else a refusal's number, and answers in the slice `out`. Each is one call of the function with the same contract
 // in a crate of its own (out_operators, out_search, ..).
 ghost use mathlib.Core.Path.{_≡_};
@@ -6,7 +6,8 @@ ghost use Rattle.file.specs.Reading.{lent};
 ghost use Rattle.formula.specs.Kinds.{node, nodes};
 ghost use Rattle.reader.specs.Parsing.{columns};
 ghost use Rattle.session.specs.Recording.{recording};
-ghost use Rattle.search.specs.Table.{cols};
+ghost use Rattle.slices.specs.Slices.{freshState};
+ghost use Rattle.table.specs.Slices.{cols};
 ghost use Rattle.walk.specs.Input.{inputOf};
 ghost use Rattle.out_operators.specs.Operators.{UnaryDone, BinaryDone};
 ghost use Rattle.out_search.specs.Search.{SearchDone};
@@ -16,6 +17,8 @@ ghost use Rattle.out_parse.specs.Parse.{ParseDone};
 ghost use Rattle.out_read.specs.Read.{done, readDone};
 ghost use Rattle.out_compare.specs.Compare.{CompareDone};
 ghost use Rattle.out_report.specs.Report.{ReportDone};
+ghost use Rattle.state_words.specs.Written.{StateDone};
+ghost use Rattle.out_resume.specs.Resume.{ResumeDone};
 
 // The unary operator of a code on a sequence.
 #[no_mangle]
@@ -84,6 +87,69 @@ pub extern "C" fn scarfpylon_search(
         rights,
         sizes,
         matrices,
+        out,
+    )
+}
+
+// A state of which nothing is tried, in the first 16 words.
+#[no_mangle]
+pub extern "C" fn scarfpylon_fresh(state: &mut [u64]) -> u64
+    ensures { λ k. ⌜ StateDone freshState (now (state .entry)) k (now (state .exit)) ⌝ }
+{
+    state_words::fresh(state)
+}
+
+// The search from a state on, for at most `budget` candidates: MORE, or the end, with the state after it in the words.
+#[no_mangle]
+pub extern "C" fn scarfpylon_resume(
+    r: usize,
+    m: usize,
+    bound: usize,
+    room: usize,
+    constants: u8,
+    marks: &[u8],
+    lengths: &[u8],
+    words: &[u64],
+    unary: &[u8],
+    binary: &[u8],
+    codes: &mut [u8],
+    lefts: &mut [u16],
+    rights: &mut [u16],
+    sizes: &mut [u8],
+    matrices: &mut [u64],
+    budget: u64,
+    state: &mut [u64],
+    out: &mut [u64],
+) -> u64
+    ensures { λ k. ⌜ ResumeDone
+        (inputOf r m bound room constants (now (marks .entry)) (now (lengths .entry)) (now (words .entry)) (now (unary .entry)) (now (binary .entry)))
+        (cols (now (codes .entry)) (now (lefts .entry)) (now (rights .entry)) (now (sizes .entry)) (now (matrices .entry)))
+        budget
+        (now (state .entry))
+        (now (out .entry))
+        k
+        (cols (now (codes .exit)) (now (lefts .exit)) (now (rights .exit)) (now (sizes .exit)) (now (matrices .exit)))
+        (now (state .exit))
+        (now (out .exit)) ⌝ }
+{
+    out_resume::resume(
+        r,
+        m,
+        bound,
+        room,
+        constants,
+        marks,
+        lengths,
+        words,
+        unary,
+        binary,
+        codes,
+        lefts,
+        rights,
+        sizes,
+        matrices,
+        budget,
+        state,
         out,
     )
 }

@@ -11,7 +11,7 @@ use lib.ListN.{length, getD, set, length-set}
 use lib.Seq.{getD-set-same, getD-set-other}
 use Rattle.slices.specs.declared.state.State.{State}
 use Rattle.out.specs.Out.{written, inOrder}
-use Rattle.state_words.specs.Words.{stateWords, mark, marked, endRead, wordsOf, stateRead}
+use Rattle.state_words.specs.Words.{stateWords, mark, marked, endRead, wordsOf, stateRead, Narrow}
 use Rattle.state_words.specs.Written.{stateOver}
 use Rattle.state_words.specs.Promises.{StateComesBack}
 
@@ -54,8 +54,10 @@ module _ (s : State) (words : List ℕ) (h : stateWords ≤ length words) where
   at : (j : ℕ) → j < 16 → getD (stateOver s words) (0 + j) 0 ≡ getD (wordsOf s) j 0
   at j l = stands-there (wordsOf s) 0 words j h l
 
-pub state-comes-back : StateComesBack
-state-comes-back s words h e n =
+-- any state comes back but for an end above 3
+pub comes-back : (s : State) (words : List ℕ) → stateWords ≤ length words → Narrow (s .root) → stateRead (stateOver s words)
+    ≡ record { size = s .size; at = s .at; counts = s .counts; end = endRead (s .end); root = s .root }
+comes-back s words h n =
     rw (
       at s words h 0 (lit< tt),
       at s words h 1 (lit< tt),
@@ -72,9 +74,11 @@ state-comes-back s words h e n =
       at s words h 12 (lit< tt),
       at s words h 13 (lit< tt),
       marked-back (s .at .second),
-      end-back (s .end) e,
       low-8 (s .root .code) (n .code),
       low-16 (s .root .left .0) (n .left),
       low-16 (s .root .right .0) (n .right),
       low-8 (s .root .size) (n .size),
     )
+
+pub state-comes-back : StateComesBack
+state-comes-back s words h e n = rw (comes-back s words h n, end-back (s .end) e)
