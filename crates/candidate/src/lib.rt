@@ -1,4 +1,7 @@
 // One candidate of the walk over a table in lent slices (aux.rs, cache.rs): its rows, then FOUND, the comparison with what is kept, FULL, kept.
+pub mod counting;
+pub mod counts;
+
 use formula::kinds::Node;
 use rules::kinds::Place;
 use table::Known;

@@ -272,7 +272,7 @@ module _ (i : Input) (ok : Passes i) where
   fresh-left = refl
 
   -- it passes
-  fresh-in : StateIn i freshState
+  pub fresh-in : StateIn i freshState
   fresh-in = record {
     kept-in = omega arith;
     kept-tried = omega arith;

@@ -1,6 +1,6 @@
 -- A point of the walk: what a candidate leaves where the walk goes on, and the candidates that are left as the walk has them.
 -- Assumes nothing.
-use mathlib.Core.Path.{_≡_, refl, sym, ap, ap₂, _∙_, subst}
+use mathlib.Core.Path.{_≡_, refl, sym, ap, _∙_}
 use mathlib.Core.Bool.{true, false, true≢false}
 use mathlib.Core.List.{List, [], _∷_, _++_, map}
 use Prim.Native.Nat.{ℕ, zero, suc, _+_, _^_, _≤_, _<_}
@@ -9,7 +9,7 @@ use native.Mathlib.Decide.{decLe}
 use lib.ListN.{length, take, drop, length-append, length-drop, List·getD-append}
 use lib.Seq.{getD-append-seam}
 use Rattle.rules.specs.declared.kinds.Place.{Place}
-use Rattle.walk.specs.Walk.{Candidate, Tally, tally, going, kept, layer}
+use Rattle.walk.specs.Walk.{Candidate, going, kept, layer}
 use Rattle.walk.specs.Input.{Input, Passes, offer}
 use Rattle.walk.specs.Promises.{Table}
 use Rattle.walk.proofs.Places.{sizeAt, split-push}
@@ -27,27 +27,24 @@ use Rattle.table.specs.Formulas.{Holds}
 use Rattle.candidate.specs.declared.Verdict.{Verdict}
 use Rattle.candidate.specs.declared.Verdict.the-variants.{Found, Dropped, Full, Kept}
 use Rattle.candidate.specs.Judge.{comes, Posed, Does}
-use Rattle.slices.specs.declared.counts.Counts.{Counts}
+use Rattle.candidate.specs.declared.counts.Counts.{Counts}
 use Rattle.slices.specs.Costs.{inAll}
 use Rattle.slices.specs.Said.{tallyOf}
 use Rattle.slices.specs.Slices.{layerAt, todo}
-use Rattle.slices.specs.Inner.{oneMore, countedBy, endsWalk, make, Standing, PointAt}
+use Rattle.slices.specs.Inner.{endsWalk, make, Standing, PointAt}
+use Rattle.candidate.specs.Counting.{countedBy}
+use Rattle.candidate.proofs.Tallies.{counts-are-walks}
 use Rattle.slices.proofs.Making.{made-written, safe-makes, offered}
 
 -- ---- what a candidate leaves, where the walk goes on: the table as it was, or with this formula
 
 -- the counts are the walk's, where they don't reach the largest number
-pub comes-going : (v : Verdict) → endsWalk v ≡ false → (x : Candidate (List ℕ)) (k : Table) (n : Counts) → n .tried + 1 < 2 ^ 64 → n .dropped ≤ n .tried
-    → comes v x k (tallyOf n) ≡ going (kept (comes v x k (tallyOf n))) (tallyOf (countedBy v n))
-comes-going Found e x k n f d = absurd (true≢false e)
-comes-going Dropped e x k n f d =
-    let a : suc (n .tried) ≡ oneMore (n .tried) = omega arith in
-    let b : suc (n .dropped) ≡ oneMore (n .dropped) = omega arith in
-    ap₂ (λ (p q : ℕ). going k (tally p q)) a b
-comes-going Full e x k n f d = absurd (true≢false e)
-comes-going Kept e x k n f d =
-    let a : suc (n .tried) ≡ oneMore (n .tried) = omega arith in
-    ap (λ (p : ℕ). going (k ++ (x ∷ [])) (tally p (n .dropped))) a
+pub comes-going : (v : Verdict) → endsWalk v ≡ false → (x : Candidate (List ℕ)) (k : Table) (n : Counts) → n .kept ≡ length k → n .tried + 1 < 2 ^ 64 → n .kept ≤ n .tried
+    → n .dropped ≤ n .tried → comes v x k (tallyOf n) ≡ going (kept (comes v x k (tallyOf n))) (tallyOf (countedBy v n))
+comes-going Found e x k n c f l d = absurd (true≢false e)
+comes-going Dropped e x k n c f l d = ap (going k) (sym (counts-are-walks Dropped n x k c f l d .0))
+comes-going Full e x k n c f l d = absurd (true≢false e)
+comes-going Kept e x k n c f l d = ap (going (k ++ (x ∷ []))) (sym (counts-are-walks Kept n x k c f l d .0))
 
 module _ {i : Input} {t₀ t t′ : Cols} {k : Table} {starts : List ℕ} {s kept₀ : ℕ} (w : Standing i t₀ t k starts s kept₀) (x : Candidate (List ℕ))
     (size : x .node .size ≡ s) where
@@ -81,12 +78,12 @@ module _ {i : Input} {t₀ t t′ : Cols} {k : Table} {starts : List ℕ} {s kep
       begins = λ u l. split-push nothing k u (start starts u) x (w .begins u l) (omega (arith, size));
     }
 
-  pub standing-after : (v : Verdict) → endsWalk v ≡ false → (n : Counts) → n .kept ≡ kept₀ → Holds i (kept (comes v x k (tallyOf n))) t₀ t′
+  pub standing-after : (v : Verdict) → endsWalk v ≡ false → (n : Counts) → n .kept ≡ kept₀ → n .kept + 1 < 2 ^ 64 → Holds i (kept (comes v x k (tallyOf n))) t₀ t′
       → Standing i t₀ t′ (kept (comes v x k (tallyOf n))) starts s (countedBy v n .kept)
-  standing-after Found e n c h = absurd (true≢false e)
-  standing-after Dropped e n c h = record { counted = c ∙ w .counted; holds = h; rising = w .rising; small = w .small; begins = w .begins }
-  standing-after Full e n c h = absurd (true≢false e)
-  standing-after Kept e n c h = standing-more h (omega (arith, c, w .counted, length-append k (x ∷ [])))
+  standing-after Found e n c f h = absurd (true≢false e)
+  standing-after Dropped e n c f h = record { counted = c ∙ w .counted; holds = h; rising = w .rising; small = w .small; begins = w .begins }
+  standing-after Full e n c f h = absurd (true≢false e)
+  standing-after Kept e n c f h = standing-more h (omega (arith, c, w .counted, length-append k (x ∷ [])))
 
 -- ---- the candidates that are left, as the walk has them
 
@@ -133,7 +130,7 @@ module _ {i : Input} (ok : Passes i) {t₀ t : Cols} {k : Table} {starts : List 
     pub posed : Posed i k (record { code = code; left = a; right = b; size = s }) (make i k s (cand code (a .0) (b .0)))
     posed = record { node-is = refl; makes = makes; matrix-is = made-written i k makes }
 
-    module _ {t′ : Cols} (v : Verdict) (goes : endsWalk v ≡ false)
+    module _ {t′ : Cols} (v : Verdict) (goes : endsWalk v ≡ false) (kept-fits : n .kept + 1 < 2 ^ 64)
         (y : Does i (record { code = code; left = a; right = b; size = s }) t₀ t′ k (make i k s (cand code (a .0) (b .0))) v) where
       shorter : length (rest (layerAt i s starts) at) ≡ 1 + length (rest (layerAt i s starts) next)
       shorter = ap length (step-left step) ∙ omega arith
@@ -154,7 +151,7 @@ module _ {i : Input} (ok : Passes i) {t₀ t : Cols} {k : Table} {starts : List 
       turn-stands =
           let z = after-step (layerAt i s starts) at j step (w .left) in
           record {
-            stands = standing-after (w .stands) (make i k s told) refl v goes n refl (y .holds (tallyOf n));
+            stands = standing-after (w .stands) (make i k s told) refl v goes n refl kept-fits (y .holds (tallyOf n));
             cursor = z .0;
             left = z .1;
             tried = omega (arith, w .tried, shorter, more-tried v);

@@ -44,12 +44,13 @@ use Rattle.checks.specs.Promises.{RoomThere}
 use Rattle.candidate.specs.declared.Verdict.{Verdict}
 use Rattle.candidate.specs.declared.Verdict.the-variants.{Found, Dropped, Full, Kept}
 use Rattle.candidate.specs.Judge.{comes, Placed, Does, Judged}
-use Rattle.slices.specs.declared.counts.Counts.{Counts}
+use Rattle.candidate.specs.Counting.{oneMore, countedBy}
+use Rattle.candidate.specs.declared.counts.Counts.{Counts}
 use Rattle.slices.specs.declared.state.State as value
 use Rattle.slices.specs.Costs.{operators, perSize, inAll}
 use Rattle.slices.specs.Said.{counts, tallyOf}
 use Rattle.slices.specs.Slices.{startsIn, layerAt, todo, StandsIn, StateIn}
-use Rattle.slices.specs.Inner.{oneMore, countedBy, endsWalk, moreState, noneState, overState, make, Standing, PointAt, settled, GoAsks, GoDoes}
+use Rattle.slices.specs.Inner.{endsWalk, moreState, noneState, overState, make, Standing, PointAt, settled, GoAsks, GoDoes}
 use Rattle.slices.proofs.Settling.{settled-over, settled-more, settled-next, settled-none, one-step, turn-one, turn-none, turn-over}
 use Rattle.slices.proofs.Points.{comes-going, none-left, some-left, next-is, posed, turn-stands}
 
@@ -429,10 +430,10 @@ module _ {r m bound room constants : ℕ} {marks lengths words unary binary : Li
                   record {
                     table = kept (comes d x (z .table) (tallyOf n));
                     position = suc (z .position);
-                    point = turn-stands ok (z .point) (v .low) reached (v .begun .rises) step d e b;
+                    point = turn-stands ok (z .point) (v .low) reached (v .begun .rises) step d e (omega (arith, v .kept-in, a .room-in)) b;
                     is = z .is ∙ tries (z .position) (z .table) ok (z .point)
                         ∙ ap (λ (st : State (List ℕ)). goOn i (left - 1) (settled i s (suc (z .position)) st))
-                        (b .is (tallyOf n) ∙ comes-going d e x (z .table) n (fits (z .point)) (z .point .dropped));
+                        (b .is (tallyOf n) ∙ comes-going d e x (z .table) n (z .point .stands .counted) (fits (z .point)) (v .kept-tried) (z .point .dropped));
                   };
             }
 

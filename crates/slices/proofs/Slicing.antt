@@ -2,20 +2,23 @@
 -- Assumes nothing.
 use mathlib.Core.Path.{_≡_, refl, sym, ap, _∙_, subst}
 use mathlib.Core.Logic.{_⊎_, inl, inr}
-use mathlib.Core.List.{List}
+use mathlib.Core.List.{List, [], _∷_}
 use Prim.Native.Nat.{ℕ, _+_, _≤_, _<_}
 use native.Mathlib.Omega.{arith}
-use Rattle.walk.specs.Walk.{found, none, full, State, ended, tried}
+use lib.ListN.{length}
+use Rattle.walk.specs.Walk.{found, none, full, State, ended, kept, tried}
 use Rattle.walk.specs.Input.{Input, search}
 use Rattle.walk.specs.Cut.{Cut, more, over}
 use Rattle.walk.specs.Promises.{begun, goOn, CutOf}
 use Rattle.walk.proofs.Resume.{cut-resume, turns-add}
 use Rattle.slices.specs.declared.state.State as value
-use Rattle.table.specs.Slices.{Cols}
+use Rattle.table.specs.Slices.{Cols, tableOver}
+use Rattle.checks.specs.Promises.{RoomThere}
 use Rattle.slices.specs.Said.{walkSaid}
-use Rattle.slices.specs.Slices.{stateAt, stateSaid, cutSaid, moreSaid, StandsIn, StandsAt}
+use Rattle.slices.specs.Slices.{stateAt, freshState, stateSaid, cutSaid, moreSaid, StandsIn, StandsAt}
 use Rattle.slices.specs.Slicing.{FreshStands, CallStands, StandsUnique, TellsCut, GrownByBudget, BudgetNone, EndsInTime, EndRepeats}
-use Rattle.slices.proofs.Calls.{fresh-stands-here}
+use Rattle.slices.specs.Slicing.{Turns, stop, turn, total, Each1, WholeByTurns, EnoughTurns, FreshPasses, LeftPasses, WithinBudget}
+use Rattle.slices.proofs.Calls.{fresh-in, fresh-stands-here, not-wrong}
 use Rattle.slices.proofs.Settling.{turn-over}
 
 pub fresh-stands : FreshStands
@@ -69,3 +72,42 @@ end-repeats i t₀ t budget n state after t′ r w h c =
     stands-unique i t₀ n after state t′ t
     (subst (λ (x : Cut (List ℕ)). StandsIn i t₀ x after t′) (stays-there i n budget h (goOn i n (begun i)) refl (cut-resume i n))
     (call-stands i t₀ t budget n state after t′ r w c)) w
+
+-- ---- turn by turn
+
+turns-stand : (i : Input) (t₀ : Cols) → RoomThere i t₀ → (state last : value.State) (t u : Cols) (budgets : List ℕ) (n : ℕ) → Turns i state t budgets last u
+    → StandsAt i t₀ n state t → StandsAt i t₀ (n + total budgets) last u
+turns-stand i t₀ r state last t u budgets n (stop s v) w = subst (λ (m : ℕ). StandsAt i t₀ m state t) (let e : n ≡ n + 0 = omega arith in e) w
+turns-stand i t₀ r state last t u budgets n (turn budget rest s next l v t′ x c z) w =
+    subst (λ (m : ℕ). StandsAt i t₀ m last u) (let e : n + budget + total rest ≡ n + (budget + total rest) = omega arith in e)
+    (turns-stand i t₀ r next last t′ u rest (n + budget) z (call-stands i t₀ t budget n state next t′ r w c))
+
+-- at the end the slices hold what the whole walk kept
+whole-table : (i : Input) (t₀ : Cols) (n : ℕ) (state : value.State) (u : Cols) (c : Cut (List ℕ)) → CutOf i n c → tried (search i) ≤ n → StandsIn i t₀ c state u
+    → u ≡ tableOver (kept (search i)) t₀
+whole-table i t₀ n state u (more s j k m) (e, l, f) h w = absurd (omega arith)
+whole-table i t₀ n state u (over e k m) (f, l) h w = w .holds ∙ ap (λ (st : State (List ℕ)). tableOver (kept st) t₀) (sym f)
+
+pub whole-by-turns : WholeByTurns
+whole-by-turns i ok t u r budgets last v h =
+    let w = turns-stand i t r freshState last t u budgets 0 v (fresh-stands i ok t) in
+    let l : tried (search i) ≤ 0 + total budgets = omega arith in
+    (ends-in-time i t (0 + total budgets) last u w l, whole-table i t (0 + total budgets) last u (goOn i (0 + total budgets) (begun i)) (cut-resume i (0 + total budgets)) l w)
+
+many : (budgets : List ℕ) → Each1 budgets → length budgets ≤ total budgets
+many [] e = omega arith
+many (budget ∷ rest) e = omega (arith, e .0, many rest (e .1))
+
+pub enough-turns : EnoughTurns
+enough-turns i ok t u r budgets last v e h = whole-by-turns i ok t u r budgets last v (omega (arith, many budgets e))
+
+-- ---- any state
+
+pub fresh-passes : FreshPasses
+fresh-passes i ok w = not-wrong i freshState (fresh-in i ok) w
+
+pub left-passes : LeftPasses
+left-passes i t budget state after t′ c w = not-wrong i after (c .outcome .passes) w
+
+pub within-budget : WithinBudget
+within-budget i t budget state after t′ c = c .outcome .spends

@@ -3,7 +3,7 @@
 use mathlib.Core.Path.{_≡_}
 use mathlib.Core.Bool.{Bool, not, cond, true, false}
 use mathlib.Core.List.{List, [], _∷_}
-use Prim.Native.Nat.{ℕ, suc, _+_, _-_, _^_, _≤_, _<_, min}
+use Prim.Native.Nat.{ℕ, suc, _+_, _-_, _≤_, _<_}
 use lib.ListN.{length, drop}
 use lib.Dec.{eqb}
 use Rattle.rules.specs.Limits.{mostPropositions, mostSize, mostRoom}
@@ -27,24 +27,14 @@ use Rattle.table.specs.Formulas.{Holds}
 use Rattle.checks.specs.Promises.{RoomThere}
 use Rattle.candidate.specs.declared.Verdict.{Verdict}
 use Rattle.candidate.specs.declared.Verdict.the-variants.{Found, Dropped, Full, Kept}
-use Rattle.slices.specs.declared.counts.Counts.{Counts}
+use Rattle.candidate.specs.declared.counts.Counts.{Counts}
 use Rattle.slices.specs.declared.turns.Start.{Start}
 use Rattle.slices.specs.declared.state.State as value
 use Rattle.slices.specs.Costs.{operators, inAll}
 use Rattle.slices.specs.Said.{tallyOf}
 use Rattle.slices.specs.Slices.{noNode, layerAt, todo, StateIn, StandsIn}
 
--- ---- the counts and the states
-
--- a count that has reached the largest number of its word stays
-abbrev pub oneMore : ℕ → ℕ
-oneMore n = min (n + 1) (2 ^ 64 - 1)
-
-abbrev pub countedBy : Verdict → Counts → Counts
-countedBy Found n = record { tried = oneMore (n .tried); kept = n .kept; dropped = n .dropped }
-countedBy Dropped n = record { tried = oneMore (n .tried); kept = n .kept; dropped = oneMore (n .dropped) }
-countedBy Full n = record { tried = oneMore (n .tried); kept = n .kept; dropped = n .dropped }
-countedBy Kept n = record { tried = oneMore (n .tried); kept = n .kept + 1; dropped = n .dropped }
+-- ---- the states
 
 abbrev pub endsWalk : Verdict → Bool
 endsWalk Found = true

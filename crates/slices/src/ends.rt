@@ -1,55 +1,12 @@
-// What a candidate's verdict comes to: the counts, whether the walk has ended, and the states before a candidate and at the end.
-use crate::counts::Counts;
+// What a candidate's verdict comes to: whether the walk has ended, and the states before a candidate and at the end.
 use crate::state::State;
 use candidate::Verdict;
+use candidate::counts::Counts;
 use formula::kinds::Node;
 use order::Cursor;
 use rules::kinds::Place;
 ghost use mathlib.Core.Path.{_≡_};
-ghost use Prim.Native.Nat.{_^_, _<_};
-ghost use Rattle.slices.specs.Inner.{oneMore, countedBy, endsWalk, moreState, noneState, overState};
-
-// One more; a count that has reached the largest number of its word stays.
-fn one_more(n: u64) -> u64
-    ensures { λ r. ⌜ r ≡ oneMore n ⌝ }
-{
-    if n == 18446744073709551615 {
-        return n;
-    }
-    n + 1
-}
-
-// The counts after a candidate.
-pub(crate) fn counted(verdict: Verdict, before: Counts) -> Counts
-    requires { ⌜ before .kept < 2 ^ 16 ⌝ }
-    ensures { λ r. ⌜ r ≡ countedBy verdict before ⌝ }
-{
-    let tried = one_more(before.tried);
-    let kept = before.kept;
-    let dropped = before.dropped;
-    match verdict {
-        Verdict::Found => Counts {
-            tried,
-            kept,
-            dropped,
-        },
-        Verdict::Dropped => Counts {
-            tried,
-            kept,
-            dropped: one_more(dropped),
-        },
-        Verdict::Full => Counts {
-            tried,
-            kept,
-            dropped,
-        },
-        Verdict::Kept => Counts {
-            tried,
-            kept: kept + 1,
-            dropped,
-        },
-    }
-}
+ghost use Rattle.slices.specs.Inner.{endsWalk, moreState, noneState, overState};
 
 // Whether the walk ends by it: FOUND or FULL.
 pub(crate) fn ends_walk(verdict: Verdict) -> bool

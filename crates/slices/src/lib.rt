@@ -1,12 +1,11 @@
 // The search in slices (request E7): a call goes on from the state of the call before for at most so many candidates.
-pub mod counts;
 mod ends;
 mod good;
 pub mod state;
 mod turns;
 
-use crate::counts::Counts;
 use crate::state::State;
+use candidate::counts::Counts;
 use formula::kinds::Node;
 use order::Cursor;
 use rules::kinds::Place;

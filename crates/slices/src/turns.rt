@@ -1,5 +1,4 @@
 // The search as one loop (enum_aux in aux.rs): the next candidate, what becomes of it, the counts; a size's end and the next size's start.
-use crate::counts::Counts;
 use crate::ends;
 use crate::state::State;
 use formula::kinds::Node;
@@ -109,7 +108,7 @@ pub(crate) fn go_on(
             sizes,
             matrices,
         );
-        counts = ends::counted(verdict, counts);
+        counts = candidate::counting::count(verdict, counts);
         if ends::ends_walk(verdict) {
             return ends::over(s, verdict, node, counts);
         }

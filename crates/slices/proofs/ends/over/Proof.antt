@@ -10,7 +10,7 @@ use Rattle.formula.specs.declared.kinds.Node.{Node}
 use Rattle.candidate.specs.declared.Verdict.{Verdict}
 use Rattle.candidate.specs.declared.Verdict.the-variants.{Found, Dropped, Full, Kept}
 use Rattle.candidate.proofs.Verdict.{the-type as verdict-type}
-use Rattle.slices.specs.declared.counts.Counts.{Counts}
+use Rattle.candidate.specs.declared.counts.Counts.{Counts}
 use Rattle.slices.specs.Slices.{noNode}
 use Rattle.slices.specs.Inner.{endState, overState}
 use Rattle.slices.proofs.ends.over.Statement.{statement}

@@ -188,11 +188,8 @@ slice-aggregate-judge-2 c =
 judge-requires : tie.Need-judge-requires Inv-loop μ-loop
 judge-requires c κs = search needs
 
-counted-requires : tie.Need-counted-requires Inv-loop μ-loop
-counted-requires c κs =
-    let c₂₅ = c .before .before .before .before .before .before .before .before .before .before .before .before .before .before .before .before .before .before .before .before .before .before .before .before .before in
-    let c₄₄ = c₂₅ .before .before .before .before .before .before .before .before .before .before .before .before .before .before .before .before .before .before .before in
-    omega (arith, c₂₅ .loop .inv .1 .kept-in, c₄₄ .pre .room-in)
+count-requires : tie.Need-count-requires Inv-loop μ-loop
+count-requires c κs = search needs
 
 ends-walk-requires : tie.Need-ends-walk-requires Inv-loop μ-loop
 ends-walk-requires c κs = search needs
@@ -242,7 +239,7 @@ returns-3 c =
     let c₂₉ = c₂₇ .before .before in
     let c₃₆ = c₂₉ .before .before .before .before .before .before .before in
     let c₄₈ = c₃₆ .before .before .before .before .before .before .before .before .before .before .before .before in
-    rw (c .over .ensures, c₃ .counted .ensures) (stops (c₄₈ .pre) (c₂₉ .loop .inv .1) (rw (c₂₅ .step .given .1) at (c₂₇ .next .ensures)) (pos-of-ne _ (c₂₃ .if2 .left))
+    rw (c .over .ensures, c₃ .count .ensures) (stops (c₄₈ .pre) (c₂₉ .loop .inv .1) (rw (c₂₅ .step .given .1) at (c₂₇ .next .ensures)) (pos-of-ne _ (c₂₃ .if2 .left))
     (masked _ _ (c₃₆ .masks-of .result) (c₃₆ .masks-of .ensures)) (omega (arith, c₂₉ .loop .inv .0)) (c₁₅ .judge .ensures) (sym (c₂ .ends-walk .ensures) ∙ c₁ .if3 .taken))
 
 loop-less-2 : tie.Need-loop-less-2 Inv-loop μ-loop
@@ -266,7 +263,7 @@ loop-again-2 c =
     let c₄₇ = c₃₅ .before .before .before .before .before .before .before .before .before .before .before .before in
     let j = c₁₄ .judge .kept .1 .1 .1 .1 .1 .1 .1 .1 in (
       (j .0 ∙ c₂₈ .loop .inv .0),
-      rw (c₂ .counted .ensures) (turn-goes-on (c₄₇ .pre) (c₂₈ .loop .inv .1) (rw (c₂₄ .step .given .1) at (c₂₆ .next .ensures)) (pos-of-ne _ (c₂₂ .if2 .left))
+      rw (c₂ .count .ensures) (turn-goes-on (c₄₇ .pre) (c₂₈ .loop .inv .1) (rw (c₂₄ .step .given .1) at (c₂₆ .next .ensures)) (pos-of-ne _ (c₂₂ .if2 .left))
           (masked _ _ (c₃₅ .masks-of .result) (c₃₅ .masks-of .ensures)) (omega (arith, c₂₈ .loop .inv .0)) (c₁₄ .judge .ensures)
           (record {
             codes = j .1 .0 ∙ c₂₈ .loop .inv .1 .long .codes;
@@ -317,7 +314,7 @@ go-on-spec =
     slice-aggregate-judge
     slice-aggregate-judge-2
     judge-requires
-    counted-requires
+    count-requires
     ends-walk-requires
     over-requires
     same-length-11

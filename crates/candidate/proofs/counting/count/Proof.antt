@@ -1,17 +1,16 @@
--- `counted` meets its contract: one more is tried, and dropped or kept by the verdict.
+-- `count` meets its contract: one more is tried, and dropped or kept by the verdict.
 -- Assumes nothing.
 use mathlib.Core.Path.{_≡_, refl}
-use Prim.Native.Nat.{_+_}
 use native.Mathlib.Omega.{arith}
 use borrow.Author.Needs.{needs}
 use denote.Enum.Declared.{tagOf}
 use Rattle.candidate.specs.declared.Verdict.{Verdict}
 use Rattle.candidate.specs.declared.Verdict.the-variants.{Found, Dropped, Full, Kept}
 use Rattle.candidate.proofs.Verdict.{the-type as verdict-type}
-use Rattle.slices.specs.declared.counts.Counts.{Counts}
-use Rattle.slices.specs.Inner.{oneMore, countedBy}
-use Rattle.slices.proofs.ends.counted.Statement.{statement}
-use Rattle.slices.proofs.ends.counted.Tie as tie
+use Rattle.candidate.specs.declared.counts.Counts.{Counts}
+use Rattle.candidate.specs.Counting.{oneMore, countedBy}
+use Rattle.candidate.proofs.counting.count.Statement.{statement}
+use Rattle.candidate.proofs.counting.count.Tie as tie
 
 module _ (n : Counts) where
   found : (v : Verdict) → tagOf verdict-type v ≡ 0 → record { tried = oneMore (n .tried); kept = n .kept; dropped = n .dropped } ≡ countedBy v n
@@ -32,7 +31,7 @@ module _ (n : Counts) where
   full Full e = refl
   full Kept e = absurd (omega (arith, e))
 
-  kept : (v : Verdict) → tagOf verdict-type v ≡ 3 → record { tried = oneMore (n .tried); kept = n .kept + 1; dropped = n .dropped } ≡ countedBy v n
+  kept : (v : Verdict) → tagOf verdict-type v ≡ 3 → record { tried = oneMore (n .tried); kept = oneMore (n .kept); dropped = n .dropped } ≡ countedBy v n
   kept Found e = absurd (omega (arith, e))
   kept Dropped e = absurd (omega (arith, e))
   kept Full e = absurd (omega (arith, e))
@@ -56,8 +55,8 @@ enum-told-3 c = search needs
 enum-told-4 : tie.Need-enum-told-4
 enum-told-4 c = search needs
 
-add-t8 : tie.Need-add-t8
-add-t8 c = search needs
+one-kept-requires : tie.Need-one-kept-requires
+one-kept-requires c κs = search needs
 
 returns : tie.Need-returns
 returns c =
@@ -82,12 +81,12 @@ returns-3 c =
 
 returns-4 : tie.Need-returns-4
 returns-4 c =
-    let c₁ = c .before in
-    let c₂ = c₁ .before in
-    let a = c₂ .before .args in
-    rw (c₂ .one-more .ensures) (kept (a .before) (a .verdict) (c₁ .match .keys4))
+    let c₂ = c .before .before in
+    let c₃ = c₂ .before in
+    let a = c₃ .before .args in
+    rw (c .one-kept .ensures, c₃ .one-more .ensures) (kept (a .before) (a .verdict) (c₂ .match .keys4))
 
-pub counted-spec : {M : Type 1} → statement M
-counted-spec =
+pub count-spec : {M : Type 1} → statement M
+count-spec =
     tie.close
-    (tie.spec one-more-requires enum-told enum-told-2 one-more-requires-2 enum-told-3 enum-told-4 add-t8 returns returns-2 returns-3 returns-4)
+    (tie.spec one-more-requires enum-told enum-told-2 one-more-requires-2 enum-told-3 enum-told-4 one-kept-requires returns returns-2 returns-3 returns-4)
