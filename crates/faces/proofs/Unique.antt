@@ -14,10 +14,11 @@ use Rattle.text.specs.Print.{saidPrinted, Prints}
 use Rattle.verdict.proofs.Unique.{check-unique}
 use Rattle.text.proofs.Unique.{print-unique}
 use Rattle.search.specs.declared.SearchAnswer.{SearchAnswer}
-use Rattle.search.specs.Table.{Cols}
+use Rattle.table.specs.Slices.{Cols}
 use Rattle.search.specs.Search.{Searched}
 use Rattle.search.proofs.Promises.{search-unique}
-use Rattle.faces.specs.Lists.{plain, codesOf, leftsOf, rightsOf, sizesOf, columns}
+use Rattle.nodes_in.specs.Lists.{plain, codesOf, leftsOf, rightsOf, sizesOf}
+use Rattle.nodes_out.specs.Columns.{columns}
 
 pub check-face-unique : (i : Recording) (ns : List Node) (root : walk.Node) (v w : Verdict)
     → CheckAnswer i (plain ns) root (saidVerdict v) → CheckAnswer i (plain ns) root (saidVerdict w) → v ≡ w

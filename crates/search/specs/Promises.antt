@@ -11,7 +11,7 @@ use Rattle.walk.specs.Walk.{Ending, found, none, full, trail}
 use Rattle.walk.specs.Input.{Input, separating, offer}
 use Rattle.walk.specs.Promises.{Table, NoneBelow, Kept, DecidedAt, AgreeWhereRead, Wider}
 use Rattle.walk.specs.Promises as walk
-use Rattle.search.specs.declared.counts.Counts.{Counts}
+use Rattle.candidate.specs.declared.counts.Counts.{Counts}
 use Rattle.search.specs.declared.SearchAnswer.{SearchAnswer}
 use Rattle.search.specs.declared.SearchAnswer.the-variants.{Found, None, Full, Refused}
 use Rattle.search.specs.Table.{Cols, tableOver}

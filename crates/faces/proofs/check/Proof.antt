@@ -47,16 +47,16 @@ use Rattle.verdict.proofs.Verdict as Said-type
 use Rattle.verdict.proofs.Verdict.Laws as Said-laws
 use Rattle.formula.proofs.kinds.Node as T
 use Rattle.formula.proofs.kinds.Node.Laws as T′
-use Rattle.faces.specs.Lists.{plain}
-use Rattle.faces.specs.Inner.{seen, Copied, Checks}
+use Rattle.nodes_in.specs.Lists.{plain}
+use Rattle.nodes_in.specs.Arrays.{seen, Copied, Checks}
 use Rattle.faces.proofs.lists.copied as copied
 use Rattle.faces.proofs.lists.copied.Symbol as copied-def
 use Rattle.faces.proofs.lists.copied.Symbol.{name as #copied}
 use Rattle.faces.proofs.lists.copied.Met as copied-thm
-use Rattle.faces.proofs.columns.check as work
-use Rattle.faces.proofs.columns.check.Symbol as work-def
-use Rattle.faces.proofs.columns.check.Symbol.{name as #work}
-use Rattle.faces.proofs.columns.check.Met as work-thm
+use Rattle.nodes_in.proofs.check as work
+use Rattle.nodes_in.proofs.check.Symbol as work-def
+use Rattle.nodes_in.proofs.check.Symbol.{name as #work}
+use Rattle.nodes_in.proofs.check.Met as work-thm
 use Rattle.faces.proofs.check.Key.{name as #this}
 use Rattle.faces.proofs.check as this
 use Rattle.faces.proofs.check.Statement as stated
@@ -232,4 +232,4 @@ check-spec 𝓤 H 𝓜 𝓖 𝓡 =
     (tables 𝓤 H 𝓜 𝓡 code.env .C) (tables 𝓤 H 𝓜 𝓡 code.env .Λ) #this code.function (code.unfolded 𝓤 H 𝓜 𝓡)
     (this-meets 𝓤 H (𝓖 .A) (givenOf 𝓤 H 𝓜 𝓖) (𝓜 .mem) (𝓡 .run) (tablesOf 𝓤 H 𝓜 (tables 𝓤 H 𝓜 𝓡 code.env))
     (cited 𝓤 H (Copies 𝓤 H (𝓖 .A) (𝓜 .mem) (𝓡 .run)) 𝓜 𝓡 code.env #copied copied-def.routine code.calls-faces·lists·copied (copied-thm.met 𝓤 H 𝓜 𝓖 𝓡))
-    (cited 𝓤 H (Works 𝓤 H (𝓖 .A) (𝓜 .mem) (𝓡 .run)) 𝓜 𝓡 code.env #work work-def.routine code.calls-faces·columns·check (work-thm.met 𝓤 H 𝓜 𝓖 𝓡)))
+    (cited 𝓤 H (Works 𝓤 H (𝓖 .A) (𝓜 .mem) (𝓡 .run)) 𝓜 𝓡 code.env #work work-def.routine code.calls-nodes-in·check (work-thm.met 𝓤 H 𝓜 𝓖 𝓡)))

@@ -47,16 +47,16 @@ use Rattle.reader.specs.declared.Parsed.{Parsed}
 use Rattle.reader.specs.Parsing.{saidParsed, Parses}
 use Rattle.reader.proofs.Parsed as Said-type
 use Rattle.reader.proofs.Parsed.Laws as Said-laws
-use Rattle.faces.specs.declared.parsing.Read.{Read}
-use Rattle.faces.specs.Typed.{fields}
-use Rattle.faces.specs.Placing.{placedOver, ReadIn}
-use Rattle.faces.proofs.parsing.Read as D
-use Rattle.faces.proofs.parsing.Read.Laws as D′
-use Rattle.faces.proofs.Placed.{as-read}
-use Rattle.faces.proofs.parsing.read_text as work
-use Rattle.faces.proofs.parsing.read_text.Symbol as work-def
-use Rattle.faces.proofs.parsing.read_text.Symbol.{name as #work}
-use Rattle.faces.proofs.parsing.read_text.Met as work-thm
+use Rattle.nodes_out.specs.declared.Read.{Read}
+use Rattle.nodes_out.specs.Columns.{fields}
+use Rattle.nodes_out.specs.Arrays.{placedOver, ReadIn}
+use Rattle.nodes_out.proofs.Read as D
+use Rattle.nodes_out.proofs.Read.Laws as D′
+use Rattle.nodes_out.proofs.Placed.{as-read}
+use Rattle.nodes_out.proofs.parse as work
+use Rattle.nodes_out.proofs.parse.Symbol as work-def
+use Rattle.nodes_out.proofs.parse.Symbol.{name as #work}
+use Rattle.nodes_out.proofs.parse.Met as work-thm
 use Rattle.faces.proofs.parsing.put as put
 use Rattle.faces.proofs.parsing.put.Symbol as put-def
 use Rattle.faces.proofs.parsing.put.Symbol.{name as #put}
@@ -284,5 +284,5 @@ parse-spec 𝓤 H 𝓜 𝓖 𝓡 =
     entered 𝓤 H (tripleOf 𝓤 H (𝓖 .A) this.signature (this.spec 𝓤 H (𝓖 .A) (𝓜 .mem) (𝓡 .run)))
     (tables 𝓤 H 𝓜 𝓡 code.env .C) (tables 𝓤 H 𝓜 𝓡 code.env .Λ) #this code.function (code.unfolded 𝓤 H 𝓜 𝓡)
     (this-meets 𝓤 H (𝓖 .A) (givenOf 𝓤 H 𝓜 𝓖) (𝓜 .mem) (𝓡 .run) (tablesOf 𝓤 H 𝓜 (tables 𝓤 H 𝓜 𝓡 code.env))
-    (cited 𝓤 H (Read-in 𝓤 H (𝓖 .A) (𝓜 .mem) (𝓡 .run)) 𝓜 𝓡 code.env #work work-def.routine code.calls-faces·parsing·read-text (work-thm.met 𝓤 H 𝓜 𝓖 𝓡))
+    (cited 𝓤 H (Read-in 𝓤 H (𝓖 .A) (𝓜 .mem) (𝓡 .run)) 𝓜 𝓡 code.env #work work-def.routine code.calls-nodes-out·parse (work-thm.met 𝓤 H 𝓜 𝓖 𝓡))
     (cited 𝓤 H (Put 𝓤 H (𝓖 .A) (𝓜 .mem) (𝓡 .run)) 𝓜 𝓡 code.env #put put-def.routine code.calls-faces·parsing·put (put-thm.met 𝓤 H 𝓜 𝓖 𝓡)))

@@ -46,16 +46,16 @@ use Rattle.text.proofs.Printed as Said-type
 use Rattle.text.proofs.Printed.Laws as Said-laws
 use Rattle.formula.proofs.kinds.Node as T
 use Rattle.formula.proofs.kinds.Node.Laws as T′
-use Rattle.faces.specs.Lists.{plain}
-use Rattle.faces.specs.Inner.{seen, Copied, Printing}
+use Rattle.nodes_in.specs.Lists.{plain}
+use Rattle.nodes_in.specs.Arrays.{seen, Copied, Printing}
 use Rattle.faces.proofs.lists.copied as copied
 use Rattle.faces.proofs.lists.copied.Symbol as copied-def
 use Rattle.faces.proofs.lists.copied.Symbol.{name as #copied}
 use Rattle.faces.proofs.lists.copied.Met as copied-thm
-use Rattle.faces.proofs.columns.print as work
-use Rattle.faces.proofs.columns.print.Symbol as work-def
-use Rattle.faces.proofs.columns.print.Symbol.{name as #work}
-use Rattle.faces.proofs.columns.print.Met as work-thm
+use Rattle.nodes_in.proofs.print as work
+use Rattle.nodes_in.proofs.print.Symbol as work-def
+use Rattle.nodes_in.proofs.print.Symbol.{name as #work}
+use Rattle.nodes_in.proofs.print.Met as work-thm
 use Rattle.faces.proofs.print.Key.{name as #this}
 use Rattle.faces.proofs.print as this
 use Rattle.faces.proofs.print.Statement as stated
@@ -218,4 +218,4 @@ print-spec 𝓤 H 𝓜 𝓖 𝓡 =
     (tables 𝓤 H 𝓜 𝓡 code.env .C) (tables 𝓤 H 𝓜 𝓡 code.env .Λ) #this code.function (code.unfolded 𝓤 H 𝓜 𝓡)
     (this-meets 𝓤 H (𝓖 .A) (givenOf 𝓤 H 𝓜 𝓖) (𝓜 .mem) (𝓡 .run) (tablesOf 𝓤 H 𝓜 (tables 𝓤 H 𝓜 𝓡 code.env))
     (cited 𝓤 H (Copies 𝓤 H (𝓖 .A) (𝓜 .mem) (𝓡 .run)) 𝓜 𝓡 code.env #copied copied-def.routine code.calls-faces·lists·copied (copied-thm.met 𝓤 H 𝓜 𝓖 𝓡))
-    (cited 𝓤 H (Works 𝓤 H (𝓖 .A) (𝓜 .mem) (𝓡 .run)) 𝓜 𝓡 code.env #work work-def.routine code.calls-faces·columns·print (work-thm.met 𝓤 H 𝓜 𝓖 𝓡)))
+    (cited 𝓤 H (Works 𝓤 H (𝓖 .A) (𝓜 .mem) (𝓡 .run)) 𝓜 𝓡 code.env #work work-def.routine code.calls-nodes-in·print (work-thm.met 𝓤 H 𝓜 𝓖 𝓡)))

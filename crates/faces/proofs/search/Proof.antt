@@ -48,16 +48,16 @@ use Rattle.search.specs.Search.{Searched}
 use Rattle.walk.specs.Input.{inputOf}
 use Rattle.search.proofs.SearchAnswer as Said-type
 use Rattle.search.proofs.SearchAnswer.Laws as Said-laws
-use Rattle.faces.specs.declared.lists.Done.{Done}
-use Rattle.faces.specs.Lists.{columns}
-use Rattle.faces.specs.Inner.{putOver, Works}
-use Rattle.faces.proofs.lists.Done as D
-use Rattle.faces.proofs.lists.Done.Laws as D′
-use Rattle.faces.proofs.Kept.{as-left}
-use Rattle.faces.proofs.columns.search as work
-use Rattle.faces.proofs.columns.search.Symbol as work-def
-use Rattle.faces.proofs.columns.search.Symbol.{name as #work}
-use Rattle.faces.proofs.columns.search.Met as work-thm
+use Rattle.nodes_out.specs.declared.Done.{Done}
+use Rattle.nodes_out.specs.Columns.{columns}
+use Rattle.nodes_out.specs.Arrays.{putOver, Works}
+use Rattle.nodes_out.proofs.Done as D
+use Rattle.nodes_out.proofs.Done.Laws as D′
+use Rattle.nodes_out.proofs.Kept.{as-left}
+use Rattle.nodes_out.proofs.search as work
+use Rattle.nodes_out.proofs.search.Symbol as work-def
+use Rattle.nodes_out.proofs.search.Symbol.{name as #work}
+use Rattle.nodes_out.proofs.search.Met as work-thm
 use Rattle.faces.proofs.lists.put_back as put
 use Rattle.faces.proofs.lists.put_back.Symbol as put-def
 use Rattle.faces.proofs.lists.put_back.Symbol.{name as #put}
@@ -342,5 +342,5 @@ search-spec 𝓤 H 𝓜 𝓖 𝓡 =
     entered 𝓤 H (tripleOf 𝓤 H (𝓖 .A) this.signature (this.spec 𝓤 H (𝓖 .A) (𝓜 .mem) (𝓡 .run)))
     (tables 𝓤 H 𝓜 𝓡 code.env .C) (tables 𝓤 H 𝓜 𝓡 code.env .Λ) #this code.function (code.unfolded 𝓤 H 𝓜 𝓡)
     (this-meets 𝓤 H (𝓖 .A) (givenOf 𝓤 H 𝓜 𝓖) (𝓜 .mem) (𝓡 .run) (tablesOf 𝓤 H 𝓜 (tables 𝓤 H 𝓜 𝓡 code.env))
-    (cited 𝓤 H (Search-in 𝓤 H (𝓖 .A) (𝓜 .mem) (𝓡 .run)) 𝓜 𝓡 code.env #work work-def.routine code.calls-faces·columns·search (work-thm.met 𝓤 H 𝓜 𝓖 𝓡))
+    (cited 𝓤 H (Search-in 𝓤 H (𝓖 .A) (𝓜 .mem) (𝓡 .run)) 𝓜 𝓡 code.env #work work-def.routine code.calls-nodes-out·search (work-thm.met 𝓤 H 𝓜 𝓖 𝓡))
     (cited 𝓤 H (Put-back 𝓤 H (𝓖 .A) (𝓜 .mem) (𝓡 .run)) 𝓜 𝓡 code.env #put put-def.routine code.calls-faces·lists·put-back (put-thm.met 𝓤 H 𝓜 𝓖 𝓡)))

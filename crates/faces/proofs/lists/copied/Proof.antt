@@ -50,17 +50,17 @@ use denote.Triple.Walked.{says, Stays, stay-none-slice, walkOf, Walks, ends-at, 
 use Rattle.formula.specs.declared.kinds.Node.{Node}
 use Rattle.formula.proofs.kinds.Node as T
 use Rattle.formula.proofs.kinds.Node.Laws as T′
-use Rattle.faces.specs.Inner.{seen, noNode, Copied}
-use Rattle.faces.proofs.Filling.{holds, fails, one-more, as-many}
+use Rattle.nodes_in.specs.Arrays.{seen, noNode, Copied}
+use Rattle.nodes_in.proofs.Filling.{holds, fails, one-more, as-many}
 use Rattle.faces.proofs.LocalArray.{by-elements, whole-again}
 use Rattle.faces.proofs.lists.blank as blank
 use Rattle.faces.proofs.lists.blank.Symbol as blank-def
 use Rattle.faces.proofs.lists.blank.Symbol.{name as #blank}
 use Rattle.faces.proofs.lists.blank.Met as blank-thm
-use Rattle.faces.proofs.lists.count_of as count
-use Rattle.faces.proofs.lists.count_of.Symbol as count-def
-use Rattle.faces.proofs.lists.count_of.Symbol.{name as #count}
-use Rattle.faces.proofs.lists.count_of.Met as count-thm
+use Rattle.nodes_in.proofs.count_of as count
+use Rattle.nodes_in.proofs.count_of.Symbol as count-def
+use Rattle.nodes_in.proofs.count_of.Symbol.{name as #count}
+use Rattle.nodes_in.proofs.count_of.Met as count-thm
 use Rattle.faces.proofs.lists.copied.Key.{name as #copied}
 use Rattle.faces.proofs.lists.copied as this
 use Rattle.faces.proofs.lists.copied.Statement as stated
@@ -290,4 +290,4 @@ copied-spec 𝓤 H 𝓜 𝓖 𝓡 =
     (tables 𝓤 H 𝓜 𝓡 code.env .C) (tables 𝓤 H 𝓜 𝓡 code.env .Λ) #copied code.function (code.unfolded 𝓤 H 𝓜 𝓡)
     (this-meets 𝓤 H (𝓖 .A) (givenOf 𝓤 H 𝓜 𝓖) (𝓜 .mem) (𝓡 .run) (tablesOf 𝓤 H 𝓜 (tables 𝓤 H 𝓜 𝓡 code.env))
     (cited 𝓤 H (Blank 𝓤 H (𝓖 .A) (𝓜 .mem) (𝓡 .run)) 𝓜 𝓡 code.env #blank blank-def.routine code.calls-faces·lists·blank (blank-thm.met 𝓤 H 𝓜 𝓖 𝓡))
-    (cited 𝓤 H (Count 𝓤 H (𝓖 .A) (𝓜 .mem) (𝓡 .run)) 𝓜 𝓡 code.env #count count-def.routine code.calls-faces·lists·count-of (count-thm.met 𝓤 H 𝓜 𝓖 𝓡)))
+    (cited 𝓤 H (Count 𝓤 H (𝓖 .A) (𝓜 .mem) (𝓡 .run)) 𝓜 𝓡 code.env #count count-def.routine code.calls-nodes-in·count-of (count-thm.met 𝓤 H 𝓜 𝓖 𝓡)))

@@ -56,11 +56,12 @@ use Rattle.formula.proofs.kinds.Node.Laws as T′
 use Rattle.search.specs.declared.SearchAnswer.{SearchAnswer}
 use Rattle.search.proofs.SearchAnswer as Said-type
 use Rattle.search.proofs.SearchAnswer.Laws as Said-laws
-use Rattle.faces.specs.declared.lists.Done.{Done}
-use Rattle.faces.specs.Inner.{room, noNode, putOver}
-use Rattle.faces.proofs.lists.Done as D
-use Rattle.faces.proofs.lists.Done.Laws as D′
-use Rattle.faces.proofs.Filling.{holds, fails, one-more, rest-stays, put-all}
+use Rattle.nodes_out.specs.declared.Done.{Done}
+use Rattle.nodes_out.specs.Arrays.{room, putOver}
+use Rattle.nodes_in.specs.Arrays.{noNode}
+use Rattle.nodes_out.proofs.Done as D
+use Rattle.nodes_out.proofs.Done.Laws as D′
+use Rattle.nodes_in.proofs.Filling.{holds, fails, one-more, rest-stays, put-all}
 use Rattle.faces.proofs.LocalArray.{by-elements, whole-again}
 use Rattle.faces.proofs.lists.nodes_of as nodes
 use Rattle.faces.proofs.lists.nodes_of.Symbol as nodes-def

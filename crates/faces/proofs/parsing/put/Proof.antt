@@ -56,12 +56,12 @@ use Rattle.formula.proofs.kinds.Node.Laws as T′
 use Rattle.reader.specs.declared.Parsed.{Parsed}
 use Rattle.reader.proofs.Parsed as Said-type
 use Rattle.reader.proofs.Parsed.Laws as Said-laws
-use Rattle.faces.specs.declared.parsing.Read.{Read}
-use Rattle.faces.specs.Inner.{noNode}
-use Rattle.faces.specs.Placing.{most, placedOver}
-use Rattle.faces.proofs.parsing.Read as D
-use Rattle.faces.proofs.parsing.Read.Laws as D′
-use Rattle.faces.proofs.Filling.{holds, fails, one-more, rest-stays, put-all}
+use Rattle.nodes_out.specs.declared.Read.{Read}
+use Rattle.nodes_in.specs.Arrays.{noNode}
+use Rattle.nodes_out.specs.Arrays.{room, placedOver}
+use Rattle.nodes_out.proofs.Read as D
+use Rattle.nodes_out.proofs.Read.Laws as D′
+use Rattle.nodes_in.proofs.Filling.{holds, fails, one-more, rest-stays, put-all}
 use Rattle.faces.proofs.LocalArray.{by-elements, whole-again}
 use Rattle.faces.proofs.parsing.nodes_of as nodes
 use Rattle.faces.proofs.parsing.nodes_of.Symbol as nodes-def
@@ -86,7 +86,7 @@ stayed = (stay-none (λ _. D.the-row) yes, (stay-slice (0 ∷ []) tt (plain (λ 
 
 -- the array's type
 abbrev Nodes : RattleType
-Nodes = Array T.the-row most
+Nodes = Array T.the-row room
 
 -- the contracts that the proof cites
 abbrev Nodes-of : {M : Type 1} (𝓤 : URA M) (H : Heap 𝓤) (A : Atoms 𝓤) (mem : Memory → SProp 𝓤) (run : Routine → Fun 𝓤) → Contract 𝓤
@@ -122,7 +122,7 @@ module _ {M : Type 1} (𝓤 : URA M) (H : Heap 𝓤) (A : Atoms 𝓤) (W : Given
   s₁ = sliceTy (tyRef (named 0) mut (pointee (T.the-row .written)))
 
   abbrev sₐ : Ty
-  sₐ = tyArray T′.mir most
+  sₐ = tyArray T′.mir room
 
   abbrev Own₀ : Item 𝓤
   Own₀ = ‵ (D.the-row .own d (v₀ ∷ []))
@@ -181,7 +181,7 @@ module _ {M : Type 1} (𝓤 : URA M) (H : Heap 𝓤) (A : Atoms 𝓤) (W : Given
     abbrev En : Env 𝓤 H
     En = (Said-laws.mir, l₀) ∷ (D′.mir, l₁) ∷ (s₁, l₂) ∷ (sₐ, l₃) ∷ ((tyInt w64), l₄) ∷ ((tyInt w64), l₅) ∷ (sₐ, l₆) ∷ (tyBool, l₇) ∷ ((tyInt w64), l₈) ∷ (tyPtr, l₉) ∷ (tyPtr, l₁₀) ∷ (T′.mir, l₁₁) ∷ ((tyInt w64), l₁₂) ∷ (tyPtr, l₁₃) ∷ []
 
-    module _ (n : ℕ) (ls : List Node) (e : n ≡ d .count) (l : ls ≡ d .nodes) (full : length ls ≡ most) where
+    module _ (n : ℕ) (ls : List Node) (e : n ≡ d .count) (l : ls ≡ d .nodes) (full : length ls ≡ room) where
       abbrev Frame : List (Item 𝓤)
       Frame = ‵ (froom tyBool l₇ 0) ∷ ‵ (froom (tyInt w64) l₈ 0) ∷ ‵ (froom tyPtr l₉ 0) ∷ ‵ (froom tyPtr l₁₀ 0) ∷ ‵ (froom T′.mir l₁₁ 0) ∷ ‵ (froom (tyInt w64) l₁₂ 0) ∷ ‵ (froom tyPtr l₁₃ 0) ∷ ‵ (froom sₐ l₆ 0) ∷ ‵ (froom Said-laws.mir l₀ 0) ∷ ‵ (fat fullShare D′.mir l₁ 0 v₀) ∷ ‵ (fat fullShare s₁ l₂ 0 v₁) ∷ ‵ (fat fullShare (tyInt w64) l₄ 0 (vint w64 n)) ∷ Own₀ ∷ ‵ (fobor κ₀ q₀ (Held T.the-row (length xs) b o γ)) ∷ ‵ (fobs γ (codedHoleys T.the-row .code (heres T.the-row xs))) ∷ ‵ (fauth γ (codedHoleys T.the-row .code (heres T.the-row xs))) ∷ ‵ (fdies Said-laws.mir l₀) ∷ ‵ (fdies D′.mir l₁) ∷ ‵ (fdies s₁ l₂) ∷ ‵ (fdies sₐ l₃) ∷ ‵ (fdies (tyInt w64) l₄) ∷ ‵ (fdies (tyInt w64) l₅) ∷ ‵ (fdies sₐ l₆) ∷ ‵ (fdies tyBool l₇) ∷ ‵ (fdies (tyInt w64) l₈) ∷ ‵ (fdies tyPtr l₉) ∷ ‵ (fdies tyPtr l₁₀) ∷ ‵ (fdies T′.mir l₁₁) ∷ ‵ (fdies (tyInt w64) l₁₂) ∷ ‵ (fdies tyPtr l₁₃) ∷ []
 
@@ -249,7 +249,7 @@ module _ {M : Type 1} (𝓤 : URA M) (H : Heap 𝓤) (A : Atoms 𝓤) (W : Given
           assigns ! (bin ! (load ! (from ! (stop !)) (look ! 2 refl)) (load ! (from ! (stop !)) (look ! 14 refl)) tt) (from ! (stop !)) (init ! 3 refl (tt, tt)) $
           rewrite ! 3 (λ (t : Bool). ‵ (fat fullShare tyBool l₇ 0 (vbool t))) (fails (ltb i n) (λ a. over (ltb→lt i n a))) refl $
           leaves-loop ! (load ! (from ! (stop !)) (look ! 3 refl)) $ exec ! C Λ En mir′.t-6 (atRet En Post) $
-          move ! (1 ∷ []) $ feqI ! ℕ (length ls) most full $ fjoin ! $ use1 W (some (λ (u : Val). ‵ (fat fullShare sₐ l₃ 0 u) ⊛ ‵ (Nodes .own ls (u ∷ [])))) (whole-again 𝓤 H A W T.the-row tt most l₃ ls) $ pick ! (λ u. split ! $
+          move ! (1 ∷ []) $ feqI ! ℕ (length ls) room full $ fjoin ! $ use1 W (some (λ (u : Val). ‵ (fat fullShare sₐ l₃ 0 u) ⊛ ‵ (Nodes .own ls (u ∷ [])))) (whole-again 𝓤 H A W T.the-row tt room l₃ ls) $ pick ! (λ u. split ! $
           move ! (1 ∷ []) $ toss ! $ move ! (1 ∷ 16 ∷ 17 ∷ 18 ∷ []) $ closes-slice ! tt T.the-row xs ys m b o $
           move ! (17 ∷ []) $ use1 W (Own₀ ⊛ Own₀) (LL.copy D.the-type D′.the-copy 𝓤 H A W .twice d (v₀ ∷ [])) $ split ! $
           use1 W (raw (Answer-of 𝓤 H A mem run .pre to-answer)) goes-answer $
@@ -284,7 +284,7 @@ module _ {M : Type 1} (𝓤 : URA M) (H : Heap 𝓤) (A : Atoms 𝓤) (W : Given
     abbrev Count-next : List Node → List (Item 𝓤)
     Count-next ls = ‵ (row T.the-row fullShare ls l₃ 0) ∷ ‵ (froom Said-laws.mir l₀ 0) ∷ ‵ (fat fullShare D′.mir l₁ 0 v₀) ∷ ‵ (fat fullShare s₁ l₂ 0 v₁) ∷ ‵ (froom (tyInt w64) l₄ 0) ∷ ‵ (froom (tyInt w64) l₅ 0) ∷ ‵ (froom sₐ l₆ 0) ∷ ‵ (froom tyBool l₇ 0) ∷ ‵ (froom (tyInt w64) l₈ 0) ∷ ‵ (froom tyPtr l₉ 0) ∷ ‵ (froom tyPtr l₁₀ 0) ∷ ‵ (froom T′.mir l₁₁ 0) ∷ ‵ (froom (tyInt w64) l₁₂ 0) ∷ ‵ (froom tyPtr l₁₃ 0) ∷ (‵ (flft κ₀ q₀) ⊛ ‵ ftrue) ∷ ‵ (owns (D.the-row ∷ MutSlice (named 0) κ₀ T.the-row ∷ []) a at) ∷ ‵ (fdies Said-laws.mir l₀) ∷ ‵ (fdies D′.mir l₁) ∷ ‵ (fdies s₁ l₂) ∷ ‵ (fdies sₐ l₃) ∷ ‵ (fdies (tyInt w64) l₄) ∷ ‵ (fdies (tyInt w64) l₅) ∷ ‵ (fdies sₐ l₆) ∷ ‵ (fdies tyBool l₇) ∷ ‵ (fdies (tyInt w64) l₈) ∷ ‵ (fdies tyPtr l₉) ∷ ‵ (fdies tyPtr l₁₀) ∷ ‵ (fdies T′.mir l₁₁) ∷ ‵ (fdies (tyInt w64) l₁₂) ∷ ‵ (fdies tyPtr l₁₃) ∷ []
 
-    then-loop : Triple 𝓤 (C #count) (Count-of 𝓤 H A mem run) → (ls : List Node) → ls ≡ d .nodes → length ls ≡ most → ent 𝓤 (⋆ 𝓤 H A (Count-next ls)) (Wp 𝓤 H C Λ En mir′.t-3 (atReturn 𝓤 H En Post))
+    then-loop : Triple 𝓤 (C #count) (Count-of 𝓤 H A mem run) → (ls : List Node) → ls ≡ d .nodes → length ls ≡ room → ent 𝓤 (⋆ 𝓤 H A (Count-next ls)) (Wp 𝓤 H C Λ En mir′.t-3 (atReturn 𝓤 H En Post))
     then-loop known-k ls l full =
         qed W (Count-next ls) ∵ exec ! C Λ En mir′.t-3 (atRet En Post) $
         move ! (15 ∷ []) $ fsplit ! $ move ! (1 ∷ []) $ fsplit ! $ move ! (1 ∷ []) $ toss ! $ fsplit ! $ move ! (1 ∷ []) $ fsplit ! $ move ! (18 ∷ []) $ split ! $ move ! (1 ∷ []) $ toss ! $
@@ -313,9 +313,9 @@ module _ {M : Type 1} (𝓤 : URA M) (H : Heap 𝓤) (A : Atoms 𝓤) (W : Given
         calls-at ! fm (Nodes-of 𝓤 H A mem run) known-n to-nodes (and-then ! (load ! (from ! (stop !)) (look ! 4 refl)) (no-more !)) (λ u.
         use1 W (later (some (λ (ls : List Node). (‵ ftrue ⊛ ‵ (Nodes .own ls (u ∷ []))) ⊛ raw (ensured 𝓤 H A nodes.ended (nodes.clauses 𝓤 H A mem run) tt args-d tt ls)))) (id⊢ 𝓤 _) $ await ! tt $ pick ! (λ ls.
         split ! $ move ! (1 ∷ []) $ use1 W (raw (fact 𝓤 (ls ≡ d .nodes))) (nodes-said ls) $ heard ! (ls ≡ d .nodes) (λ l.
-        split ! $ toss ! $ peeks ! Nodes (Is Nodes) (shows 𝓤 H A Nodes) ls (u ∷ []) (λ is. land ! (from ! (stop !)) (init ! 9 refl (array-lawful 𝓤 H A W T.the-row (LL.lawful T.the-type T′.the-laws 𝓤 H A W) most .typed ls _ is .0)) $
-        assigns ! (of-opd ! (load ! (from ! (stop !)) (look ! 9 refl))) (from ! (stop !)) (init ! 6 refl (array-lawful 𝓤 H A W T.the-row (LL.lawful T.the-type T′.the-laws 𝓤 H A W) most .typed ls _ is .0)) $
-        move ! (6 ∷ 0 ∷ []) $ use2 W (‵ (arr-parts (shares T.the-row) most .part fullShare ls l₃ 0)) (by-elements 𝓤 H A W T.the-row tt most l₃ ls u) $ fsplit ! $ feqL ! (λ full. forget ! 8 refl $
+        split ! $ toss ! $ peeks ! Nodes (Is Nodes) (shows 𝓤 H A Nodes) ls (u ∷ []) (λ is. land ! (from ! (stop !)) (init ! 9 refl (array-lawful 𝓤 H A W T.the-row (LL.lawful T.the-type T′.the-laws 𝓤 H A W) room .typed ls _ is .0)) $
+        assigns ! (of-opd ! (load ! (from ! (stop !)) (look ! 9 refl))) (from ! (stop !)) (init ! 6 refl (array-lawful 𝓤 H A W T.the-row (LL.lawful T.the-type T′.the-laws 𝓤 H A W) room .typed ls _ is .0)) $
+        move ! (6 ∷ 0 ∷ []) $ use2 W (‵ (arr-parts (shares T.the-row) room .part fullShare ls l₃ 0)) (by-elements 𝓤 H A W T.the-row tt room l₃ ls u) $ fsplit ! $ feqL ! (λ full. forget ! 8 refl $
         move ! (1 ∷ 2 ∷ []) $ fjoin ! $ keep ! (1 ∷ 2 ∷ 3 ∷ 4 ∷ 5 ∷ 6 ∷ 7 ∷ 8 ∷ 9 ∷ 10 ∷ 11 ∷ 12 ∷ 13 ∷ 14 ∷ 15 ∷ 0 ∷ 16 ∷ 17 ∷ 18 ∷ 19 ∷ 20 ∷ 21 ∷ 22 ∷ 23 ∷ 24 ∷ 25 ∷ 26 ∷ 27 ∷ 28 ∷ 29 ∷ []) $ by ! (then-loop known-k ls l full))))))
 
   -- ---- from the start, over any types of the answer and of what was read: so these stay shut

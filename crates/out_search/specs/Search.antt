@@ -1,0 +1,41 @@
+-- scarfpylon_search: what it returns and leaves in the lent slices and in `out`, for every input.
+-- Assumes nothing.
+use mathlib.Core.Path.{_≡_}
+use mathlib.Core.List.{List, [], _∷_}
+use Prim.Native.Nat.{ℕ}
+use Rattle.rules.specs.Refusals.{Row, Decided}
+use Rattle.walk.specs.Input.{Input}
+use Rattle.search.specs.declared.SearchAnswer.{SearchAnswer}
+use Rattle.search.specs.declared.SearchAnswer.the-variants.{Found, None, Full, Refused}
+use Rattle.table.specs.Slices.{Cols}
+use Rattle.checks.specs.Refusals.{searchRowsWith}
+use Rattle.search.specs.Search.{Searched}
+use Rattle.out.specs.Out.{Named, word, written, longShort}
+
+-- "out = case (1 found, 2 none, 3 full), size (found, full), tried, kept, and at found the root's code, left, right, size; out[8] = dropped"
+abbrev pub searchWords : SearchAnswer → List Named
+searchWords (Found root n) =
+    word 0 1
+    ∷ word 1 (root .size)
+    ∷ word 2 (n .tried)
+    ∷ word 3 (n .kept)
+    ∷ word 4 (root .code)
+    ∷ word 5 (root .left .0)
+    ∷ word 6 (root .right .0)
+    ∷ word 7 (root .size)
+    ∷ word 8 (n .dropped)
+    ∷ []
+searchWords (None n) = word 0 2 ∷ word 2 (n .tried) ∷ word 3 (n .kept) ∷ word 8 (n .dropped) ∷ []
+searchWords (Full size n) = word 0 3 ∷ word 1 size ∷ word 2 (n .tried) ∷ word 3 (n .kept) ∷ word 8 (n .dropped) ∷ []
+searchWords (Refused k) = []
+
+module _ (i : Input) (t : Cols) (old : List ℕ) where
+  -- the search's rows, with that of `out` "at the place that 3 has"
+  abbrev pub searchRows : List Row
+  searchRows = searchRowsWith i (longShort old ∷ []) t
+
+  -- "Every function returns a u64: 0 where it answered, else the refusal number ..; a refusal writes nothing"; an answer is the search's
+  pub record SearchDone (returned : ℕ) (t′ : Cols) (new : List ℕ) : Type 0 where
+    pub number : Decided searchRows returned
+    pub refused : (returned ≡ 0 → ⊥) → (t′ ≡ t) × (new ≡ old)
+    pub passed : returned ≡ 0 → (answer : SearchAnswer) × Searched i t answer t′ × (new ≡ written (searchWords answer) old)
