@@ -33,7 +33,7 @@ pub extern "C" fn scarfpylon_unary(code: u8, length: u64, word: u64, out: &mut [
         length: length as usize,
         values: word,
     };
-    let answer = sequence::apply_unary(code, sequence);
+    let answer = operators::apply_unary(code, sequence);
     out::put_sequence(answer, out)
 }
 
@@ -57,7 +57,7 @@ pub extern "C" fn scarfpylon_binary(
         length: rlen as usize,
         values: rword,
     };
-    let answer = sequence::apply_binary(code, left, right);
+    let answer = operators::apply_binary(code, left, right);
     out::put_sequence(answer, out)
 }
 
