@@ -89,4 +89,5 @@ columns k =
     let e = length-map k (λ c. c .node) in
     let n = length-nodes (map (λ c. c .node .code) k) (map (λ c. c .node .left) k) (map (λ c. c .node .right) k) (map (λ c. c .node .size) k) in
     ext-getD (node 0 0 0 0) _ _ (omega arith)
-    (λ p h. node-at (map (λ c. c .node .code) k) (map (λ c. c .node .left) k) (map (λ c. c .node .right) k) (map (λ c. c .node .size) k) p (omega arith) ∙ at-place k p (omega arith))
+    (λ p h. node-at (map (λ c. c .node .code) k) (map (λ c. c .node .left) k) (map (λ c. c .node .right) k) (map (λ c. c .node .size) k) p (omega arith) ∙ at-place k p
+    (omega arith))

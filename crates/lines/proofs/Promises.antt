@@ -20,7 +20,7 @@ use Rattle.walk.proofs.Dropped.{tried-adds-up}
 use Rattle.text.specs.Text.{text}
 use Rattle.search.specs.Table.{Cols, cols}
 use Rattle.checks.proofs.Passing.{passes-whole}
-use Rattle.lines.specs.Line.{newline, foundLine, brokenLine, refusedLine}
+use Rattle.line.specs.Line.{newline, foundLine, brokenLine, refusedLine}
 use Rattle.lines.specs.Bench.{inputOf, EndSays, GoodSays, Says, LinesOf}
 use Rattle.lines.specs.Promises.{Counts, Meant, ShownFor, LinesMean}
 use Rattle.lines.specs.Promises.Meant.{is-found, is-none, is-full}

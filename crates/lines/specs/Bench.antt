@@ -17,7 +17,7 @@ use Rattle.walk.specs.Input.{Input, search}
 use Rattle.walk.specs.Promises.{Table, nodes}
 use Rattle.text.specs.Text.{text}
 use Rattle.walk.specs.Input as walking
-use Rattle.lines.specs.Line.{newline, foundLine, noneLine, fullLine, brokenLine, refusedLine}
+use Rattle.line.specs.Line.{newline, foundLine, noneLine, fullLine, brokenLine, refusedLine}
 
 -- a file's parts, and a room, as the input of a search
 abbrev pub inputOf : Parts → ℕ → Input

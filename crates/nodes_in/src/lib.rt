@@ -1,7 +1,7 @@
 // The check and printing of nodes in an array, by value: four arrays of numbers are made of it, which the core takes as slices.
-use verdict::Verdict;
 use formula::kinds::Node;
 use text::Printed;
+use verdict::Verdict;
 ghost use mathlib.Core.Path.{_≡_};
 ghost use Prim.Native.Nat.{_≤_, min};
 ghost use lib.ListN.{length};

@@ -1,7 +1,7 @@
 // The analyst's check at the C boundary: whether the formula separates, or the first session that disagrees, in the words of `out`.
-use verdict::Verdict;
 use formula::kinds::Node;
 use rules::kinds::Place;
+use verdict::Verdict;
 ghost use mathlib.Core.Path.{_≡_};
 ghost use Prim.Native.Nat.{_≤_};
 ghost use lib.ListN.{length};

@@ -12,7 +12,7 @@ pub fn unary(code: u8, length: u64, word: u64, out: &mut [u64]) -> u64
         length: length as usize,
         values: word,
     };
-    let answer = sequence::apply_unary(code, sequence);
+    let answer = operators::apply_unary(code, sequence);
     put(answer, out)
 }
 
@@ -28,7 +28,7 @@ pub fn binary(code: u8, llen: u64, lword: u64, rlen: u64, rword: u64, out: &mut 
         length: rlen as usize,
         values: rword,
     };
-    let answer = sequence::apply_binary(code, left, right);
+    let answer = operators::apply_binary(code, left, right);
     put(answer, out)
 }
 

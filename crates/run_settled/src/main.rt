@@ -1,9 +1,9 @@
 // Runs P1 to P10 of document 01 and every operator on every word of up to 4 snapshots, and prints what came out.
 // The stored output is written from the Rust (differential/README.md).
 use libc::STDOUT_FILENO;
+use operators::operator_of;
 use sequence::Answer;
 use sequence::CharSeq;
-use sequence::operators::operator_of;
 
 fn say(text: &[u8]) {
     io::write_all(STDOUT_FILENO, text);
@@ -44,7 +44,7 @@ fn unary_example(name: &[u8], code: u8, length: usize, x: u64) {
     say(b" ");
     say_number(x);
     say(b" = ");
-    say_answer(sequence::apply_unary(code, CharSeq { length, values: x }));
+    say_answer(operators::apply_unary(code, CharSeq { length, values: x }));
     say(b"\n");
 }
 
@@ -58,7 +58,7 @@ fn binary_example(name: &[u8], code: u8, length: usize, x: u64, y: u64) {
     say(b" ");
     say_number(y);
     say(b" = ");
-    say_answer(sequence::apply_binary(
+    say_answer(operators::apply_binary(
         code,
         CharSeq { length, values: x },
         CharSeq { length, values: y },
@@ -99,7 +99,7 @@ fn words_of(length: usize) -> u64 {
 
 fn unary_cell(code: u8, length: usize, x: u64) {
     say(b" ");
-    say_answer(sequence::apply_unary(code, CharSeq { length, values: x }));
+    say_answer(operators::apply_unary(code, CharSeq { length, values: x }));
 }
 
 fn unary_cells(code: u8, length: usize) {
@@ -124,7 +124,7 @@ fn unary_lines(length: usize) {
 
 fn binary_cell(code: u8, length: usize, x: u64, y: u64) {
     say(b" ");
-    say_answer(sequence::apply_binary(
+    say_answer(operators::apply_binary(
         code,
         CharSeq { length, values: x },
         CharSeq { length, values: y },

@@ -1,8 +1,7 @@
 // A section of operator codes: each in its group, none twice.
+use operators::Group;
 use reading::Step;
 use reading::byte_within;
-use sequence::operators;
-use sequence::operators::Group;
 ghost use mathlib.Core.Path.{_≡_};
 ghost use mathlib.Core.List.{[]};
 ghost use Prim.Native.Nat.{_+_, _-_, _≤_, _<_};

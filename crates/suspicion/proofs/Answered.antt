@@ -21,7 +21,7 @@ use Rattle.reader.specs.declared.Parsed.the-variants.{Nodes}
 use Rattle.reader.specs.Parsing.{Columns, saidParsed, Parses}
 use Rattle.writing.specs.Writing.{Wrote}
 use Rattle.lines.proofs.Handed.{Wide, Handed, broken-at}
-use Rattle.suspicion.specs.Line.{refusedAtLine}
+use Rattle.line.specs.Line.{refusedAtLine}
 use Rattle.suspicion.specs.Suspicion.{roomy, firstNodes, verdictLine, Shows, TypedSays, Says, LinesOf, recordingOf}
 use Rattle.suspicion.specs.Inner.{Checked, JudgedBy}
 
@@ -47,7 +47,8 @@ module _ (file : List ℕ) (bytes : Bytes file) (l : Lent) (wide : Wide l) (a : 
   pub good-said : {r m n u b constants bound : ℕ} → Handed file bytes l wide a marks lengths words unary binary e r m n u b constants bound
       → JudgedBy typed (take n file) (recording r m (take r marks) (take r lengths) (take (m * r) words)) old new k → LinesOf typed file old new k
   good-said {r} {m} {n} h (lines, says, wrote) =
-      let front : section nameBytes (h .parts .names) ≡ take n file = names-accepts (take n file) (h .parts .names) .0 (h .front-is ∙ ap (got (h .parts .names)) (h .names-long)) .1 in
+      let front : section nameBytes (h .parts .names) ≡ take n file = names-accepts (take n file) (h .parts .names) .0 (h .front-is ∙ ap (got (h .parts .names))
+      (h .names-long)) .1 in
       let p = h .parts in
       let same : recording r m (take r marks) (take r lengths) (take (m * r) words) ≡ recordingOf p =
       ap (λ (z : ℕ). recording z m (take r marks) (take r lengths) (take (m * r) words)) (h .count)

@@ -36,9 +36,9 @@ use Rattle.reader.specs.Parsing.{Columns, saidParsed, Decides, parseRows, Taken
 use Rattle.reader.proofs.Unique as reader
 use Rattle.round_trip.proofs.Contracts.{Passed, parse-passed}
 use Rattle.round_trip.proofs.Promises.{read-spells, read-good}
-use Rattle.lines.specs.Line.{refusedLine}
+use Rattle.line.specs.Line.{refusedLine, refusedAtLine}
 use Rattle.writing.proofs.Digits.{written-front}
-use Rattle.suspicion.specs.Line.{refusedAtLine, pointedLines}
+use Rattle.suspicion.specs.Caret.{pointedLines}
 use Rattle.suspicion.specs.Suspicion.{recordingOf, roomy, firstNodes, verdictLine, Shows, Says}
 use Rattle.suspicion.specs.Promises.{IsTyped, Answer, Meant, ShownFor, SuspicionMeans}
 use Rattle.suspicion.specs.Promises.Answer.{is-separates, is-disagrees, is-stops, is-unknown, is-large}
@@ -212,7 +212,8 @@ module _ (file : List ℕ) (bytes : (i : ℕ) → getD file i 0 < 256) (text out
 
   shown-for : ShownFor file text out
   shown-for = record {
-    good = λ p g e. let s = subst (λ (w : Got Parts). Says w text out) (good-passes file p g e) says in meant p g text out (answer p g text out (s .left) (s .answer) (s .parses) (s .shows));
+    good = λ p g e. let s = subst (λ (w : Got Parts). Says w text out) (good-passes file p g e) says in meant p g text out (answer p g text out (s .left) (s .answer)
+        (s .parses) (s .shows));
     broken = λ f. broken-says f (wholeFile file) refl says;
   }
 

@@ -19,8 +19,8 @@ use Rattle.grammar.specs.Grammar.{Reads, IsFormula, Refused11}
 use Rattle.grammar.specs.Naming.{typed}
 use Rattle.reader.specs.Words.{mostBytes, FirstUnknown, Deep}
 use Rattle.writing.specs.Writing.{mostDigits}
-use Rattle.lines.specs.Line.{refusedLine}
-use Rattle.suspicion.specs.Line.{separatesLine, disagreesLine, refusedAtLine, pointedLines}
+use Rattle.line.specs.Line.{refusedLine, separatesLine, disagreesLine, refusedAtLine}
+use Rattle.suspicion.specs.Caret.{pointedLines}
 use Rattle.suspicion.specs.Suspicion.{recordingOf, LinesOf}
 
 -- what is typed is this formula: the text has one tree by the grammar, which is the formula with the file's names, and no other formula has it

@@ -21,8 +21,8 @@ use Rattle.reader.specs.declared.Parsed.the-variants.{Nodes, Broken, Stops, Unk
 use Rattle.reader.specs.declared.Parsed.the-variants as parsed
 use Rattle.reader.specs.Parsing.{Columns, columns, saidParsed, Parses}
 use Rattle.writing.specs.Writing.{Wrote}
-use Rattle.lines.specs.Line.{refusedLine}
-use Rattle.suspicion.specs.Line.{separatesLine, disagreesLine, refusedAtLine, pointedLines}
+use Rattle.line.specs.Line.{refusedLine, separatesLine, disagreesLine, refusedAtLine}
+use Rattle.suspicion.specs.Caret.{pointedLines}
 
 -- a file's sessions
 abbrev pub recordingOf : Parts → Recording

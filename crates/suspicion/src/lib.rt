@@ -1,6 +1,6 @@
 // What is said of a formula that an analyst types: reads a session file, reads the formula with the file's names, checks it against the sessions, and
 // writes the answer's lines.
-mod line;
+mod caret;
 
 use file::ReadAnswer;
 use reader::Parsed;
@@ -88,8 +88,8 @@ fn judged(
             text,
         ),
         Parsed::Broken(at) => line::refused_at(text, 0, 8, at),
-        Parsed::Stops(at) => line::pointed(text, typed, at, 11),
-        Parsed::Unknown(at) => line::pointed(text, typed, at, 13),
+        Parsed::Stops(at) => caret::pointed(text, typed, at, 11),
+        Parsed::Unknown(at) => caret::pointed(text, typed, at, 13),
         Parsed::Refused(number) => line::refused(text, number),
     }
 }

@@ -6,9 +6,9 @@ use mathlib.Core.List.{List, [], _∷_, _++_, append-assoc}
 use Prim.Native.Nat.{ℕ, _+_, _≤_, _<_}
 use native.Mathlib.Omega.{arith}
 use lib.ListN.{length, getD}
-use Rattle.sequence.specs.declared.operators.Operator.{Operator}
+use Rattle.operators.specs.declared.Operator.{Operator}
 use Rattle.sequence.specs.Operators.{Unary, Binary, unaryToken, binaryToken}
-use Rattle.sequence.specs.Table.{Listed}
+use Rattle.operators.specs.Table.{Listed}
 use Rattle.sequence.proofs.Unique.{unary-one, binary-one}
 use Rattle.formula.specs.Formula.{leaf, unary, binary, proposition, constant, Formula}
 use Rattle.formula.specs.Nodes.{Node, nodeAt, Spells, codes}

@@ -7,10 +7,10 @@ use Prim.Native.Nat.{ℕ, _+_, _*_, _≤_}
 use native.Mathlib.Omega.{arith}
 use lib.Dec.{lit≤}
 use lib.ListN.{length, getD, take, length-append}
-use Rattle.sequence.specs.declared.operators.Operator.{Operator}
+use Rattle.operators.specs.declared.Operator.{Operator}
 use Rattle.sequence.specs.Operators.{Unary, Binary, not, weakNext, strongNext, finally, globally, or, and, until, release, implies, equiv, unaryToken, binaryToken}
-use Rattle.sequence.specs.Table.{Listed, unaryRow, binaryRow}
-use Rattle.sequence.specs.Table.Listed.{unary as unary-row, binary as binary-row, neither as no-row}
+use Rattle.operators.specs.Table.{Listed, unaryRow, binaryRow}
+use Rattle.operators.specs.Table.Listed.{unary as unary-row, binary as binary-row, neither as no-row}
 use Rattle.sequence.proofs.Groups.{unary-below, binary-between}
 use Rattle.sequence.proofs.Unique.{unary-one, binary-one}
 use Rattle.names.specs.Names.{nameLength}

@@ -1,5 +1,4 @@
--- The settled examples S2, S3, S4 of document 01 and larger runs, computed by the definition.
--- The larger runs' figures are those that differential/walk_counts.py prints, which is written from the prose of document 01 alone.
+-- The settled examples S2, S3, S4 of document 01, and what tells the walk's orders apart, computed by the definition. Larger runs: crate walk_runs.
 -- Assumes nothing.
 use mathlib.Core.Path.{_≡_, refl, sym, subst}
 use mathlib.Core.Logic.{_⊎_, inl, inr}
@@ -208,33 +207,3 @@ narrow = inputOf 1 2 1 1 0 (1 ∷ []) (1 ∷ []) (0 ∷ 1 ∷ []) [] []
 narrow-found : search narrow ≡ ended (found (node 16 1 0 1)) (at 16 0 0 1 (0 ∷ []) ∷ []) (tally 2 0)
 unfolding each count ofSize leftSizes finish orders unaryCandidates pairs layer known judge consider through after walk word someOf allOf unaryRow binaryRow constantRow sameRows every separating bit decode
 narrow-found = refl
-
--- ---- larger runs
-
--- one proposition, constants, all operators: no formula tells two equal sessions apart
-abbrev equals : Input
-equals = inputOf 2 1 5 200 1 (1 ∷ 0 ∷ []) (2 ∷ 2 ∷ []) (1 ∷ 1 ∷ []) (0 ∷ 1 ∷ 2 ∷ 3 ∷ 4 ∷ []) (5 ∷ 6 ∷ 7 ∷ 8 ∷ 9 ∷ 10 ∷ [])
-
-equals-none : brief (search equals) ≡ 2 ∷ 140 ∷ 4 ∷ 136 ∷ []
-unfolding each count ofSize leftSizes finish orders unaryCandidates pairs layer known judge consider through after walk word someOf allOf unaryRow binaryRow constantRow sameRows every separating bit decode
-equals-none = refl
-
--- two propositions, four sessions, all operators
-abbrev four : ℕ → Input
-four room = inputOf 4 2 5 room 0 (1 ∷ 1 ∷ 0 ∷ 0 ∷ []) (3 ∷ 3 ∷ 3 ∷ 3 ∷ []) (5 ∷ 2 ∷ 1 ∷ 6 ∷ 5 ∷ 6 ∷ 0 ∷ 2 ∷ []) (0 ∷ 1 ∷ 2 ∷ 3 ∷ 4 ∷ []) (5 ∷ 6 ∷ 7 ∷ 8 ∷ 9 ∷ 10 ∷ [])
-
-four-found : brief (search (four 200)) ≡ 1 ∷ 4 ∷ 82 ∷ 0 ∷ 5 ∷ 633 ∷ 164 ∷ 468 ∷ []
-unfolding each count ofSize leftSizes finish orders unaryCandidates pairs layer known judge consider through after walk word someOf allOf unaryRow binaryRow constantRow sameRows every separating bit decode
-four-found = refl
-
-four-full : brief (search (four 20)) ≡ 3 ∷ 3 ∷ 25 ∷ 20 ∷ 4 ∷ []
-unfolding each count ofSize leftSizes finish orders unaryCandidates pairs layer known judge consider through after walk word someOf allOf unaryRow binaryRow constantRow sameRows every separating bit decode
-four-full = refl
-
--- constants, two unary and two binary operators, sessions of different lengths
-abbrev three : Input
-three = inputOf 3 1 5 200 1 (1 ∷ 0 ∷ 0 ∷ []) (4 ∷ 4 ∷ 2 ∷ []) (9 ∷ 1 ∷ 1 ∷ []) (1 ∷ 4 ∷ []) (8 ∷ 7 ∷ [])
-
-three-found : brief (search three) ≡ 1 ∷ 1 ∷ 8 ∷ 0 ∷ 4 ∷ 56 ∷ 11 ∷ 44 ∷ []
-unfolding each count ofSize leftSizes finish orders unaryCandidates pairs layer known judge consider through after walk word someOf allOf unaryRow binaryRow constantRow sameRows every separating bit decode
-three-found = refl

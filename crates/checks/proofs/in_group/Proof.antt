@@ -4,7 +4,7 @@ use mathlib.Core.Path.{_≡_}
 use Prim.Native.Nat.{ℕ}
 use native.Mathlib.Omega.{arith}
 use borrow.Author.Needs.{needs}
-use Rattle.sequence.proofs.Groups.{in-unary, in-binary, off-unary, off-binary}
+use Rattle.operators.proofs.Groups.{in-unary, in-binary, off-unary, off-binary}
 use Rattle.checks.proofs.Codes.{group-unary, group-binary, group-neither}
 use Rattle.checks.proofs.in_group.Statement.{statement}
 use Rattle.checks.proofs.in_group.Tie as tie

@@ -41,33 +41,93 @@ enum-known-answer : tie.Need-enum-known-answer
 enum-known-answer c = search needs
 
 array-share-prefix-codes : tie.Need-array-share-prefix-codes
-array-share-prefix-codes c = codes-in (this (c .before .before .before .before .before .before .before .before .before .before .before .before .before .before .before .before .before .before .before .before .before .args .names .now) _ (c .before .before .before .before .before .before .before .before .before .before .before .before .before .before .before .before .before .before .before .before .before .pre .0 .0) (c .before .before .before .before .before .before .before .before .before .before .before .before .before .before .before .before .before .before .before .before .before .pre .0 .1) _ roomy _ (c .before .before .before .before .before .before .before .before .search .result) (c .before .before .before .before .before .before .before .before .search .ensures) (c .before .answer .given .1))
+array-share-prefix-codes c = codes-in (this (c .before .before .before .before .before .before .before .before .before .before .before .before .before .before .before
+    .before .before .before .before .before .before .args .names .now) _ (c .before .before .before .before .before .before .before .before .before .before .before
+    .before .before .before .before .before .before .before .before .before .before .pre .0 .0)
+    (c .before .before .before .before .before .before .before .before .before .before .before .before .before .before .before .before .before .before .before .before
+    .before .pre .0 .1) _ roomy _ (c .before .before .before .before .before .before .before .before .search .result)
+    (c .before .before .before .before .before .before .before .before .search .ensures) (c .before .answer .given .1))
 
 slice-aggregate-found : tie.Need-slice-aggregate-found
-slice-aggregate-found c = codes-part (this (c .before .before .before .before .before .before .before .before .before .before .before .before .before .before .before .before .before .before .before .before .before .before .args .names .now) _ (c .before .before .before .before .before .before .before .before .before .before .before .before .before .before .before .before .before .before .before .before .before .before .pre .0 .0) (c .before .before .before .before .before .before .before .before .before .before .before .before .before .before .before .before .before .before .before .before .before .before .pre .0 .1) _ roomy _ (c .before .before .before .before .before .before .before .before .before .search .result) (c .before .before .before .before .before .before .before .before .before .search .ensures) (c .before .before .answer .given .1))
+slice-aggregate-found c = codes-part (this (c .before .before .before .before .before .before .before .before .before .before .before .before .before .before .before
+    .before .before .before .before .before .before .before .args .names .now) _
+    (c .before .before .before .before .before .before .before .before .before .before .before .before .before .before .before .before .before .before .before .before
+    .before .before .pre .0 .0) (c .before .before .before .before .before .before .before .before .before .before .before .before .before .before .before .before
+    .before .before .before .before .before .before .pre .0 .1) _ roomy _ (c .before .before .before .before .before .before .before .before .before .search .result)
+    (c .before .before .before .before .before .before .before .before .before .search .ensures) (c .before .before .answer .given .1))
 
 array-share-prefix-lefts : tie.Need-array-share-prefix-lefts
-array-share-prefix-lefts c = lefts-in (this (c .before .before .before .before .before .before .before .before .before .before .before .before .before .before .before .before .before .before .before .before .before .before .args .names .now) _ (c .before .before .before .before .before .before .before .before .before .before .before .before .before .before .before .before .before .before .before .before .before .before .pre .0 .0) (c .before .before .before .before .before .before .before .before .before .before .before .before .before .before .before .before .before .before .before .before .before .before .pre .0 .1) _ roomy _ (c .before .before .before .before .before .before .before .before .before .search .result) (c .before .before .before .before .before .before .before .before .before .search .ensures) (c .before .before .answer .given .1))
+array-share-prefix-lefts c = lefts-in (this (c .before .before .before .before .before .before .before .before .before .before .before .before .before .before .before
+    .before .before .before .before .before .before .before .args .names .now) _
+    (c .before .before .before .before .before .before .before .before .before .before .before .before .before .before .before .before .before .before .before .before
+    .before .before .pre .0 .0) (c .before .before .before .before .before .before .before .before .before .before .before .before .before .before .before .before
+    .before .before .before .before .before .before .pre .0 .1) _ roomy _ (c .before .before .before .before .before .before .before .before .before .search .result)
+    (c .before .before .before .before .before .before .before .before .before .search .ensures) (c .before .before .answer .given .1))
 
 slice-aggregate-found-2 : tie.Need-slice-aggregate-found-2
-slice-aggregate-found-2 c = lefts-part (this (c .before .before .before .before .before .before .before .before .before .before .before .before .before .before .before .before .before .before .before .before .before .before .before .args .names .now) _ (c .before .before .before .before .before .before .before .before .before .before .before .before .before .before .before .before .before .before .before .before .before .before .before .pre .0 .0) (c .before .before .before .before .before .before .before .before .before .before .before .before .before .before .before .before .before .before .before .before .before .before .before .pre .0 .1) _ roomy _ (c .before .before .before .before .before .before .before .before .before .before .search .result) (c .before .before .before .before .before .before .before .before .before .before .search .ensures) (c .before .before .before .answer .given .1))
+slice-aggregate-found-2 c = lefts-part (this (c .before .before .before .before .before .before .before .before .before .before .before .before .before .before .before
+    .before .before .before .before .before .before .before .before .args .names .now) _
+    (c .before .before .before .before .before .before .before .before .before .before .before .before .before .before .before .before .before .before .before .before
+    .before .before .before .pre .0 .0) (c .before .before .before .before .before .before .before .before .before .before .before .before .before .before .before
+    .before .before .before .before .before .before .before .before .pre .0 .1) _ roomy _
+    (c .before .before .before .before .before .before .before .before .before .before .search .result)
+    (c .before .before .before .before .before .before .before .before .before .before .search .ensures) (c .before .before .before .answer .given .1))
 
 array-share-prefix-rights : tie.Need-array-share-prefix-rights
-array-share-prefix-rights c = rights-in (this (c .before .before .before .before .before .before .before .before .before .before .before .before .before .before .before .before .before .before .before .before .before .before .before .args .names .now) _ (c .before .before .before .before .before .before .before .before .before .before .before .before .before .before .before .before .before .before .before .before .before .before .before .pre .0 .0) (c .before .before .before .before .before .before .before .before .before .before .before .before .before .before .before .before .before .before .before .before .before .before .before .pre .0 .1) _ roomy _ (c .before .before .before .before .before .before .before .before .before .before .search .result) (c .before .before .before .before .before .before .before .before .before .before .search .ensures) (c .before .before .before .answer .given .1))
+array-share-prefix-rights c = rights-in (this (c .before .before .before .before .before .before .before .before .before .before .before .before .before .before .before
+    .before .before .before .before .before .before .before .before .args .names .now) _
+    (c .before .before .before .before .before .before .before .before .before .before .before .before .before .before .before .before .before .before .before .before
+    .before .before .before .pre .0 .0) (c .before .before .before .before .before .before .before .before .before .before .before .before .before .before .before
+    .before .before .before .before .before .before .before .before .pre .0 .1) _ roomy _
+    (c .before .before .before .before .before .before .before .before .before .before .search .result)
+    (c .before .before .before .before .before .before .before .before .before .before .search .ensures) (c .before .before .before .answer .given .1))
 
 slice-aggregate-found-3 : tie.Need-slice-aggregate-found-3
-slice-aggregate-found-3 c = rights-part (this (c .before .before .before .before .before .before .before .before .before .before .before .before .before .before .before .before .before .before .before .before .before .before .before .before .args .names .now) _ (c .before .before .before .before .before .before .before .before .before .before .before .before .before .before .before .before .before .before .before .before .before .before .before .before .pre .0 .0) (c .before .before .before .before .before .before .before .before .before .before .before .before .before .before .before .before .before .before .before .before .before .before .before .before .pre .0 .1) _ roomy _ (c .before .before .before .before .before .before .before .before .before .before .before .search .result) (c .before .before .before .before .before .before .before .before .before .before .before .search .ensures) (c .before .before .before .before .answer .given .1))
+slice-aggregate-found-3 c = rights-part (this (c .before .before .before .before .before .before .before .before .before .before .before .before .before .before .before
+    .before .before .before .before .before .before .before .before .before .args .names .now) _
+    (c .before .before .before .before .before .before .before .before .before .before .before .before .before .before .before .before .before .before .before .before
+    .before .before .before .before .pre .0 .0) (c .before .before .before .before .before .before .before .before .before .before .before .before .before .before
+    .before .before .before .before .before .before .before .before .before .before .pre .0 .1) _ roomy _
+    (c .before .before .before .before .before .before .before .before .before .before .before .search .result)
+    (c .before .before .before .before .before .before .before .before .before .before .before .search .ensures) (c .before .before .before .before .answer .given .1))
 
 array-share-prefix-sizes : tie.Need-array-share-prefix-sizes
-array-share-prefix-sizes c = sizes-in (this (c .before .before .before .before .before .before .before .before .before .before .before .before .before .before .before .before .before .before .before .before .before .before .before .before .args .names .now) _ (c .before .before .before .before .before .before .before .before .before .before .before .before .before .before .before .before .before .before .before .before .before .before .before .before .pre .0 .0) (c .before .before .before .before .before .before .before .before .before .before .before .before .before .before .before .before .before .before .before .before .before .before .before .before .pre .0 .1) _ roomy _ (c .before .before .before .before .before .before .before .before .before .before .before .search .result) (c .before .before .before .before .before .before .before .before .before .before .before .search .ensures) (c .before .before .before .before .answer .given .1))
+array-share-prefix-sizes c = sizes-in (this (c .before .before .before .before .before .before .before .before .before .before .before .before .before .before .before
+    .before .before .before .before .before .before .before .before .before .args .names .now) _
+    (c .before .before .before .before .before .before .before .before .before .before .before .before .before .before .before .before .before .before .before .before
+    .before .before .before .before .pre .0 .0) (c .before .before .before .before .before .before .before .before .before .before .before .before .before .before
+    .before .before .before .before .before .before .before .before .before .before .pre .0 .1) _ roomy _
+    (c .before .before .before .before .before .before .before .before .before .before .before .search .result)
+    (c .before .before .before .before .before .before .before .before .before .before .before .search .ensures) (c .before .before .before .before .answer .given .1))
 
 slice-aggregate-found-4 : tie.Need-slice-aggregate-found-4
-slice-aggregate-found-4 c = sizes-part (this (c .before .before .before .before .before .before .before .before .before .before .before .before .before .before .before .before .before .before .before .before .before .before .before .before .before .args .names .now) _ (c .before .before .before .before .before .before .before .before .before .before .before .before .before .before .before .before .before .before .before .before .before .before .before .before .before .pre .0 .0) (c .before .before .before .before .before .before .before .before .before .before .before .before .before .before .before .before .before .before .before .before .before .before .before .before .before .pre .0 .1) _ roomy _ (c .before .before .before .before .before .before .before .before .before .before .before .before .search .result) (c .before .before .before .before .before .before .before .before .before .before .before .before .search .ensures) (c .before .before .before .before .before .answer .given .1))
+slice-aggregate-found-4 c = sizes-part (this (c .before .before .before .before .before .before .before .before .before .before .before .before .before .before .before
+    .before .before .before .before .before .before .before .before .before .before .args .names .now) _
+    (c .before .before .before .before .before .before .before .before .before .before .before .before .before .before .before .before .before .before .before .before
+    .before .before .before .before .before .pre .0 .0) (c .before .before .before .before .before .before .before .before .before .before .before .before .before
+    .before .before .before .before .before .before .before .before .before .before .before .before .pre .0 .1) _ roomy _
+    (c .before .before .before .before .before .before .before .before .before .before .before .before .search .result)
+    (c .before .before .before .before .before .before .before .before .before .before .before .before .search .ensures)
+    (c .before .before .before .before .before .answer .given .1))
 
 found-requires : tie.Need-found-requires
 found-requires c κs = (
-  showable (c .before .before .before .before .before .before .before .before .before .before .before .before .before .before .before .before .before .before .before .before .before .before .before .before .before .before .args .names .now) _ (c .before .before .before .before .before .before .before .before .before .before .before .before .before .before .before .before .before .before .before .before .before .before .before .before .before .before .pre .0 .0) (c .before .before .before .before .before .before .before .before .before .before .before .before .before .before .before .before .before .before .before .before .before .before .before .before .before .before .pre .0 .1) _ roomy _ (c .before .before .before .before .before .before .before .before .before .before .before .before .before .search .result) (c .before .before .before .before .before .before .before .before .before .before .before .before .before .search .ensures) (c .before .before .before .before .before .before .answer .given .1),
-  as-many (c .before .before .before .before .before .before .before .before .before .before .before .before .before .before .before .before .before .before .before .before .before .before .before .before .before .before .args .names .now) _ (c .before .before .before .before .before .before .before .before .before .before .before .before .before .before .before .before .before .before .before .before .before .before .before .before .before .before .pre .0 .0) (c .before .before .before .before .before .before .before .before .before .before .before .before .before .before .before .before .before .before .before .before .before .before .before .before .before .before .pre .0 .1) _ roomy _ (c .before .before .before .before .before .before .before .before .before .before .before .before .before .search .result) (c .before .before .before .before .before .before .before .before .before .before .before .before .before .search .ensures) (c .before .before .before .before .before .before .answer .given .1),
+  showable (c .before .before .before .before .before .before .before .before .before .before .before .before .before .before .before .before .before .before .before
+      .before .before .before .before .before .before .before .args .names .now) _
+      (c .before .before .before .before .before .before .before .before .before .before .before .before .before .before .before .before .before .before .before .before
+      .before .before .before .before .before .before .pre .0 .0) (c .before .before .before .before .before .before .before .before .before .before .before .before
+      .before .before .before .before .before .before .before .before .before .before .before .before .before .before .pre .0 .1) _ roomy _
+      (c .before .before .before .before .before .before .before .before .before .before .before .before .before .search .result)
+      (c .before .before .before .before .before .before .before .before .before .before .before .before .before .search .ensures)
+      (c .before .before .before .before .before .before .answer .given .1),
+  as-many (c .before .before .before .before .before .before .before .before .before .before .before .before .before .before .before .before .before .before .before
+      .before .before .before .before .before .before .before .args .names .now) _
+      (c .before .before .before .before .before .before .before .before .before .before .before .before .before .before .before .before .before .before .before .before
+      .before .before .before .before .before .before .pre .0 .0) (c .before .before .before .before .before .before .before .before .before .before .before .before
+      .before .before .before .before .before .before .before .before .before .before .before .before .before .before .pre .0 .1) _ roomy _
+      (c .before .before .before .before .before .before .before .before .before .before .before .before .before .search .result)
+      (c .before .before .before .before .before .before .before .before .before .before .before .before .before .search .ensures)
+      (c .before .before .before .before .before .before .answer .given .1),
 )
 
 enum-known-answer-2 : tie.Need-enum-known-answer-2
@@ -92,25 +152,46 @@ same-length : tie.Need-same-length
 same-length c = search needs
 
 returns : tie.Need-returns
-returns c = λ p g. found-returns (c .before .before .before .before .before .before .before .before .before .before .before .before .before .before .before .before .before .before .before .before .before .before .before .before .before .before .before .before .before .args .names .now) _ p g _ roomy _ (c .before .before .before .before .before .before .before .before .before .before .before .before .before .before .before .before .search .result) (c .before .before .before .before .before .before .before .before .before .before .before .before .before .before .before .before .search .ensures) (c .before .before .before .before .before .before .before .before .before .answer .given .1) (c .before .before .before .before .before .before .before .before .before .before .before .before .before .before .before .before .before .before .before .before .before .before .before .before .before .before .before .before .before .pre .1) (c .before .before .found .ensures)
+returns c = λ p g. found-returns (c .before .before .before .before .before .before .before .before .before .before .before .before .before .before .before .before
+    .before .before .before .before .before .before .before .before .before .before .before .before .before .args .names .now) _ p g _ roomy _
+    (c .before .before .before .before .before .before .before .before .before .before .before .before .before .before .before .before .search .result)
+    (c .before .before .before .before .before .before .before .before .before .before .before .before .before .before .before .before .search .ensures)
+    (c .before .before .before .before .before .before .before .before .before .answer .given .1)
+    (c .before .before .before .before .before .before .before .before .before .before .before .before .before .before .before .before .before .before .before .before
+    .before .before .before .before .before .before .before .before .before .pre .1) (c .before .before .found .ensures)
 
 same-length-2 : tie.Need-same-length-2
 same-length-2 c = search needs
 
 returns-2 : tie.Need-returns-2
-returns-2 c = λ p g. none-returns (c .before .before .before .before .before .before .before .before .before .before .before .before .before .before .before .before .before .before .before .before .before .before .before .before .before .args .names .now) _ p g _ roomy _ (c .before .before .before .before .before .before .before .before .before .before .before .before .search .result) (c .before .before .before .before .before .before .before .before .before .before .before .before .search .ensures) (c .before .before .before .before .before .answer2 .given .1) (c .before .before .before .before .before .before .before .before .before .before .before .before .before .before .before .before .before .before .before .before .before .before .before .before .before .pre .1) (c .before .before .none .ensures)
+returns-2 c = λ p g. none-returns (c .before .before .before .before .before .before .before .before .before .before .before .before .before .before .before .before
+    .before .before .before .before .before .before .before .before .before .args .names .now) _ p g _ roomy _
+    (c .before .before .before .before .before .before .before .before .before .before .before .before .search .result)
+    (c .before .before .before .before .before .before .before .before .before .before .before .before .search .ensures)
+    (c .before .before .before .before .before .answer2 .given .1) (c .before .before .before .before .before .before .before .before .before .before .before .before
+    .before .before .before .before .before .before .before .before .before .before .before .before .before .pre .1) (c .before .before .none .ensures)
 
 same-length-3 : tie.Need-same-length-3
 same-length-3 c = search needs
 
 returns-3 : tie.Need-returns-3
-returns-3 c = λ p g. full-returns (c .before .before .before .before .before .before .before .before .before .before .before .before .before .before .before .before .before .before .before .before .before .before .before .before .before .args .names .now) _ p g _ roomy _ (c .before .before .before .before .before .before .before .before .before .before .before .before .search .result) (c .before .before .before .before .before .before .before .before .before .before .before .before .search .ensures) (c .before .before .before .before .before .answer3 .given .1) (c .before .before .before .before .before .before .before .before .before .before .before .before .before .before .before .before .before .before .before .before .before .before .before .before .before .pre .1) (c .before .before .full .ensures)
+returns-3 c = λ p g. full-returns (c .before .before .before .before .before .before .before .before .before .before .before .before .before .before .before .before
+    .before .before .before .before .before .before .before .before .before .args .names .now) _ p g _ roomy _
+    (c .before .before .before .before .before .before .before .before .before .before .before .before .search .result)
+    (c .before .before .before .before .before .before .before .before .before .before .before .before .search .ensures)
+    (c .before .before .before .before .before .answer3 .given .1) (c .before .before .before .before .before .before .before .before .before .before .before .before
+    .before .before .before .before .before .before .before .before .before .before .before .before .before .pre .1) (c .before .before .full .ensures)
 
 same-length-4 : tie.Need-same-length-4
 same-length-4 c = search needs
 
 returns-4 : tie.Need-returns-4
-returns-4 c = λ p g. refused-returns (c .before .before .before .before .before .before .before .before .before .before .before .before .before .before .before .before .before .before .before .before .before .before .before .before .before .args .names .now) _ p g _ roomy _ (c .before .before .before .before .before .before .before .before .before .before .before .before .search .result) (c .before .before .before .before .before .before .before .before .before .before .before .before .search .ensures) (c .before .before .before .before .before .answer4 .given .1) (c .before .before .before .before .before .before .before .before .before .before .before .before .before .before .before .before .before .before .before .before .before .before .before .before .before .pre .1) (c .before .before .refused .ensures)
+returns-4 c = λ p g. refused-returns (c .before .before .before .before .before .before .before .before .before .before .before .before .before .before .before .before
+    .before .before .before .before .before .before .before .before .before .args .names .now) _ p g _ roomy _
+    (c .before .before .before .before .before .before .before .before .before .before .before .before .search .result)
+    (c .before .before .before .before .before .before .before .before .before .before .before .before .search .ensures)
+    (c .before .before .before .before .before .answer4 .given .1) (c .before .before .before .before .before .before .before .before .before .before .before .before
+    .before .before .before .before .before .before .before .before .before .before .before .before .before .pre .1) (c .before .before .refused .ensures)
 
 pub searched-spec : {M : Type 1} → statement M
 searched-spec =

@@ -1,10 +1,8 @@
 -- `rows_of` meets its contract: each group of codes by its own function.
 -- Assumes nothing.
-use mathlib.Core.Path.{_≡_}
-use Prim.Native.Nat.{ℕ}
 use native.Mathlib.Omega.{arith}
 use borrow.Author.Needs.{needs}
-use Rattle.sequence.proofs.Groups.{in-unary, in-binary, off-unary, off-binary}
+use Rattle.operators.proofs.Groups.{in-unary, in-binary, in-neither}
 use Rattle.rows.proofs.Candidates.{unary-told, binary-told, leaf-told}
 use Rattle.rows.proofs.rows_of.Statement.{statement}
 use Rattle.rows.proofs.rows_of.Tie as tie
@@ -38,12 +36,9 @@ enum-told-3 c = search needs
 
 rows-of-requires-3 : tie.Need-rows-of-requires-3
 rows-of-requires-3 c κs =
-    let f = c .before .before .before .operator-of in (
-      search needs,
-      search needs,
-      λ u. off-unary _ (f .result) (f .ensures) (λ g. let z : _≡_ {A = ℕ} 0 1 = cc (c .before .enum-told3 .given .1) in omega arith) (u .0) (u .1),
-      λ u. off-binary _ (f .result) (f .ensures) (λ g. let z : _≡_ {A = ℕ} 0 1 = cc (c .before .enum-told3 .given .1) in omega arith) (u .0) (u .1),
-    )
+    let f = c .before .before .before .operator-of in
+    let none = in-neither _ (f .result) (f .ensures) (c .before .enum-told3 .given .1) in
+    (search needs, search needs, λ u. none .0 (u .0) (u .1), λ u. none .1 (u .0) (u .1))
 
 same-length : tie.Need-same-length
 same-length c = search needs
@@ -75,9 +70,10 @@ returns-6 c =
     let a = c .before .before .before .before .before .before .before .before .before .before .before .before .before .before .args in
     let f = c .before .before .rows-of3 in
     let h = c .before .before .before .before .before .before .operator-of in
+    let none = in-neither _ (h .result) (h .ensures) (c .before .before .before .before .enum-told3 .given .1) in
     leaf-told (a .r) (a .m) (a .masks .now) (a .words .now) (a .matrices .now) (a .code) (a .left .0) (a .right .0) (a .rows .now) (f .last .1 .1 .1 .1 .1 .1 .0) (omega arith) (omega arith) (omega arith)
-    (λ u. off-unary _ (h .result) (h .ensures) (λ g. let z : _≡_ {A = ℕ} 0 1 = cc (c .before .before .before .before .enum-told3 .given .1) in omega arith) (u .0) (u .1))
-    (λ u. off-binary _ (h .result) (h .ensures) (λ g. let z : _≡_ {A = ℕ} 0 1 = cc (c .before .before .before .before .enum-told3 .given .1) in omega arith) (u .0) (u .1)) (f .result) (f .ensures)
+    (λ u. none .0 (u .0) (u .1))
+    (λ u. none .1 (u .0) (u .1)) (f .result) (f .ensures)
 
 pub rows-of-spec : {M : Type 1} → statement M
 rows-of-spec =

@@ -3,7 +3,7 @@
 use mathlib.Core.Path.{sym}
 use lib.Seq.{length-take-le}
 use borrow.Author.Needs.{needs}
-use Rattle.sequence.proofs.Table.{token-fits}
+use Rattle.operators.proofs.Table.{token-fits}
 use Rattle.run_settled.proofs.say_token.Statement.{statement}
 use Rattle.run_settled.proofs.say_token.Tie as tie
 

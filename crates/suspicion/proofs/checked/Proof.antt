@@ -33,19 +33,24 @@ same-length : tie.Need-same-length
 same-length c = search needs
 
 returns : tie.Need-returns
-returns c = check-line _ _ _ (c .before .before .before .before .before .before .before .node-at .ensures) (c .before .before .before .before .before .before .check .ensures) (c .before .before .before .before .enum-told .given .1) (c .before .before .separates .ensures)
+returns c = check-line _ _ _ (c .before .before .before .before .before .before .before .node-at .ensures) (c .before .before .before .before .before .before .check .ensures)
+    (c .before .before .before .before .enum-told .given .1) (c .before .before .separates .ensures)
 
 same-length-2 : tie.Need-same-length-2
 same-length-2 c = search needs
 
 returns-2 : tie.Need-returns-2
-returns-2 c = check-line _ _ _ (c .before .before .before .before .before .before .before .before .node-at .ensures) (c .before .before .before .before .before .before .before .check .ensures) (c .before .before .before .before .before .verdict .given .1) (c .before .before .disagrees .ensures)
+returns-2 c = check-line _ _ _ (c .before .before .before .before .before .before .before .before .node-at .ensures)
+    (c .before .before .before .before .before .before .before .check .ensures) (c .before .before .before .before .before .verdict .given .1)
+    (c .before .before .disagrees .ensures)
 
 same-length-3 : tie.Need-same-length-3
 same-length-3 c = search needs
 
 returns-3 : tie.Need-returns-3
-returns-3 c = check-line _ _ _ (c .before .before .before .before .before .before .before .before .node-at .ensures) (c .before .before .before .before .before .before .before .check .ensures) (c .before .before .before .before .before .verdict2 .given .1) (c .before .before .refused .ensures)
+returns-3 c = check-line _ _ _ (c .before .before .before .before .before .before .before .before .node-at .ensures)
+    (c .before .before .before .before .before .before .before .check .ensures) (c .before .before .before .before .before .verdict2 .given .1)
+    (c .before .before .refused .ensures)
 
 pub checked-spec : {M : Type 1} → statement M
 checked-spec =

@@ -3,7 +3,7 @@
 use mathlib.Core.Path.{_≡_}
 use Prim.Native.Nat.{ℕ}
 use native.Mathlib.Omega.{arith}
-use Rattle.sequence.proofs.Groups.{in-unary, in-binary, off-unary, off-binary}
+use Rattle.operators.proofs.Groups.{in-unary, in-binary, off-unary, off-binary}
 use borrow.Author.Needs.{needs}
 use Rattle.formula.proofs.nodes.node_good.Statement.{statement}
 use Rattle.formula.proofs.nodes.node_good.Tie as tie

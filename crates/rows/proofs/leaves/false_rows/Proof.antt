@@ -3,8 +3,8 @@
 use mathlib.Core.Path.{_≡_, refl}
 use Prim.Native.Nat.{_-_, _≤_}
 use native.Mathlib.Omega.{arith}
-use Rattle.rows.specs.Rows.{Filled}
-use Rattle.rows.proofs.Filling.{filled-none, filled-more, filled-all}
+use Rattle.loops.specs.Loops.{Filled}
+use Rattle.loops.proofs.Filling.{filled-none, filled-more, filled-all}
 use Rattle.rows.proofs.leaves.false_rows.Statement.{statement}
 use Rattle.rows.proofs.leaves.false_rows.Tie as tie
 

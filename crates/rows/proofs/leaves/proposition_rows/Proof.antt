@@ -8,8 +8,8 @@ use lib.ListN.{getD}
 use borrow.Author.Needs.{needs}
 use Rattle.rows.proofs.Products.{next-row, word-in, at-most}
 use Rattle.rules.specs.Limits.{mostSessions, mostPropositions}
-use Rattle.rows.specs.Rows.{Filled}
-use Rattle.rows.proofs.Filling.{filled-none, filled-more, filled-all}
+use Rattle.loops.specs.Loops.{Filled}
+use Rattle.loops.proofs.Filling.{filled-none, filled-more, filled-all}
 use Rattle.rows.proofs.leaves.proposition_rows.Statement.{statement}
 use Rattle.rows.proofs.leaves.proposition_rows.Tie as tie
 

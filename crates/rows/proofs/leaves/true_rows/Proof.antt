@@ -6,8 +6,8 @@ use lib.ListN.{getD}
 use borrow.Author.Needs.{needs}
 use Rattle.words.specs.Masked.{Placed}
 use Rattle.words.specs.Word.{width, At, Means}
-use Rattle.rows.specs.Rows.{Filled}
-use Rattle.rows.proofs.Filling.{filled-none, filled-more, filled-all}
+use Rattle.loops.specs.Loops.{Filled}
+use Rattle.loops.proofs.Filling.{filled-none, filled-more, filled-all}
 use Rattle.rows.proofs.leaves.true_rows.Statement.{statement}
 use Rattle.rows.proofs.leaves.true_rows.Tie as tie
 

@@ -4,8 +4,8 @@ use Prim.Native.Nat.{_-_, _≤_}
 use native.Mathlib.Omega.{arith}
 use borrow.Author.Needs.{needs}
 use Rattle.rows.specs.Rows.{MaskOf}
-use Rattle.rows.specs.Rows.{Filled}
-use Rattle.rows.proofs.Filling.{filled-none, filled-more, filled-all}
+use Rattle.loops.specs.Loops.{Filled}
+use Rattle.loops.proofs.Filling.{filled-none, filled-more, filled-all}
 use Rattle.rows.proofs.masks.fill.Statement.{statement}
 use Rattle.rows.proofs.masks.fill.Tie as tie
 

@@ -35,16 +35,24 @@ part-by-code-end : tie.Need-part-by-code-end
 part-by-code-end c = search needs
 
 by-code-requires : tie.Need-by-code-requires
-by-code-requires c κs =
-    let a = c .before .before .before .before .before .before .before .args in
-    let p = c .before .before .before .before .before .before .before .pre in
-    (p .0, record { sessions-in = p .0 .sessions-in; there = part-long (a .matrices .now) (a .left .0 * a .r) (a .r) (omega arith) }, p .1, p .2)
+by-code-requires c κs = search needs
 
 same-length : tie.Need-same-length
-same-length c = c .before .before .by-code .ensures .long
+same-length c = search needs
 
 returns-2 : tie.Need-returns-2
-returns-2 c = (c .before .before .before .before .before .if1 .left, c .before .before .by-code .ensures)
+returns-2 c =
+    let a = c .before .before .before .before .before .before .before .before .before .before .args in
+    let p = c .before .before .before .before .before .before .before .before .before .before .pre in
+    let l = c .before .before .before .before .before .if1 .left in (
+      l,
+      c .before .before .by-code .ensures .did record {
+        masks-there = p .0 .there;
+        x-there = part-long (a .matrices .now) (a .left .0 * a .r) (a .r) l;
+        rows-there = p .1 .there;
+        operator = p .2;
+      },
+    )
 
 pub rows-of-spec : {M : Type 1} → statement M
 rows-of-spec =

@@ -3,7 +3,7 @@
 use mathlib.Core.Path.{_≡_}
 use Prim.Native.Nat.{ℕ}
 use native.Mathlib.Omega.{arith}
-use Rattle.sequence.proofs.Groups.{in-unary, in-binary, off-unary, off-binary}
+use Rattle.operators.proofs.Groups.{in-unary, in-binary, off-unary, off-binary}
 use Rattle.sections.proofs.CodeLaws.{group-unary, group-binary, group-neither}
 use borrow.Author.Needs.{needs}
 use Rattle.sections.proofs.codes.in_group.Statement.{statement}

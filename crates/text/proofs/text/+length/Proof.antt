@@ -4,7 +4,7 @@ use mathlib.Core.Path.{_≡_}
 use mathlib.Core.Logic.{inl, inr}
 use native.Mathlib.Omega.{arith}
 use lib.ListN.{length}
-use Rattle.sequence.proofs.Groups.{in-unary, in-binary, off-unary, off-binary}
+use Rattle.operators.proofs.Groups.{in-unary, in-binary, off-unary, off-binary}
 use Rattle.formula.specs.Kinds.{nodeOf, nodes}
 use Rattle.names.specs.Names.{namesIn}
 use Rattle.formula.proofs.Faults.{left-under, right-under}
@@ -19,7 +19,7 @@ use Rattle.text.proofs.text.length.Kinds as length-kinds
 use Rattle.text.proofs.text.+length.Lts-length as length-lts
 use Rattle.formula.proofs.nodes.node_at.Reads as node-at-reads
 use Rattle.text.proofs.text.leaf_length.Reads as leaf-length-reads
-use Rattle.sequence.proofs.operators.operator_of.Reads as operator-of-reads
+use Rattle.operators.proofs.operator_of.Reads as operator-of-reads
 use Rattle.text.proofs.text.+length.{statement}
 use Rattle.text.proofs.text.+length.Tie.{close}
 

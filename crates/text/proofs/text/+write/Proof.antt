@@ -4,11 +4,11 @@ use mathlib.Core.Path.{_≡_}
 use mathlib.Core.Logic.{inl, inr}
 use native.Mathlib.Omega.{arith}
 use lib.ListN.{length}
-use Rattle.sequence.proofs.Groups.{in-unary, in-binary, off-unary, off-binary}
+use Rattle.operators.proofs.Groups.{in-unary, in-binary, off-unary, off-binary}
 use Rattle.formula.specs.Kinds.{nodeOf, nodes}
 use Rattle.names.specs.Names.{namesIn}
 use Rattle.formula.proofs.Faults.{left-under, right-under}
-use Rattle.sequence.proofs.Table.{token-fits}
+use Rattle.operators.proofs.Table.{token-fits}
 use Rattle.text.proofs.Printing.{printable-at, unary-written, binary-written}
 use borrow.Author.Needs.{needs}
 use Prim.Native.Nat.{ℕ, _<_}
@@ -22,7 +22,7 @@ use Rattle.writing.proofs.put.Reads as put-reads
 use Rattle.text.proofs.text.put_before.Reads as put-before-reads
 use Rattle.text.proofs.text.put_between.Reads as put-between-reads
 use Rattle.text.proofs.text.put_leaf.Reads as put-leaf-reads
-use Rattle.sequence.proofs.operators.operator_of.Reads as operator-of-reads
+use Rattle.operators.proofs.operator_of.Reads as operator-of-reads
 use Rattle.text.proofs.text.+write.{statement}
 use Rattle.text.proofs.text.+write.Tie.{close}
 

@@ -3,7 +3,7 @@
 use mathlib.Core.Path.{_≡_}
 use mathlib.Core.Logic.{inl, inr}
 use native.Mathlib.Omega.{arith}
-use Rattle.sequence.proofs.Groups.{in-unary, in-binary, off-unary, off-binary}
+use Rattle.operators.proofs.Groups.{in-unary, in-binary, off-unary, off-binary}
 use Rattle.formula.specs.Kinds.{nodeOf, nodes}
 use Rattle.formula.proofs.Faults.{left-under, right-under}
 use Rattle.verdict.proofs.Evaluation.{ready-at, word-of-unary, word-of-binary}
@@ -18,7 +18,7 @@ use Rattle.verdict.proofs.evaluate.leaf.Reads as leaf-reads
 use Rattle.formula.proofs.nodes.node_at.Reads as node-at-reads
 use Rattle.sequence.proofs.CharSeq.binary.Reads as binary-reads
 use Rattle.sequence.proofs.CharSeq.unary.Reads as unary-reads
-use Rattle.sequence.proofs.operators.operator_of.Reads as operator-of-reads
+use Rattle.operators.proofs.operator_of.Reads as operator-of-reads
 use Rattle.verdict.proofs.evaluate.+eval.{statement}
 use Rattle.verdict.proofs.evaluate.+eval.Tie.{close}
 

@@ -1,0 +1,69 @@
+-- `strong_next_rows` meets its contract: the rows filled so far are the operator's.
+-- Assumes nothing.
+use mathlib.Core.List.{[]}
+use Prim.Native.Nat.{_-_, _≤_}
+use native.Mathlib.Omega.{arith}
+use borrow.Author.Needs.{needs}
+use Rattle.sequence.specs.Operators.{Unary}
+use Rattle.loops.specs.Loops.{Filled}
+use Rattle.loops.specs.Loops.{UnaryAt}
+use Rattle.loops.proofs.Filling.{filled-none, filled-more, filled-all}
+use Rattle.loops.proofs.unary.strong_next_rows.Statement.{statement}
+use Rattle.loops.proofs.unary.strong_next_rows.Tie as tie
+
+abbrev Inv-loop : tie.InvT-loop
+Inv-loop r x rows₀ j₀ rows j = (j ≤ r) × Filled j rows₀ (UnaryAt Unary.strongNext [] x) rows
+
+abbrev μ-loop : tie.MeasureT-loop
+μ-loop r x rows₀ j₀ rows j = r - j
+
+loop-holds : tie.Need-loop-holds Inv-loop μ-loop
+loop-holds c = (omega arith, filled-none _)
+
+mul-strong-next : tie.Need-mul-strong-next Inv-loop μ-loop
+mul-strong-next c = omega arith
+
+shared-slice-read-strong-next : tie.Need-shared-slice-read-strong-next Inv-loop μ-loop
+shared-slice-read-strong-next c = omega arith
+
+strong-next-requires : tie.Need-strong-next-requires Inv-loop μ-loop
+strong-next-requires c κs = search needs
+
+mul-rows : tie.Need-mul-rows Inv-loop μ-loop
+mul-rows c = omega arith
+
+slice-write-rows : tie.Need-slice-write-rows Inv-loop μ-loop
+slice-write-rows c = omega arith
+
+add-j : tie.Need-add-j Inv-loop μ-loop
+add-j c = omega arith
+
+loop-less : tie.Need-loop-less Inv-loop μ-loop
+loop-less c = omega arith
+
+loop-again : tie.Need-loop-again Inv-loop μ-loop
+loop-again c = (omega arith, filled-more (omega arith) (c .before .before .before .loop .inv .1) (c .strong-next .ensures))
+
+same-length : tie.Need-same-length Inv-loop μ-loop
+same-length c = c .before .loop .inv .1 .long
+
+returns : tie.Need-returns Inv-loop μ-loop
+returns c = filled-all (c .before .loop .inv .0) (c .loop-test .left) (c .before .loop .inv .1)
+
+pub strong-next-rows-spec : {M : Type 1} → statement M
+strong-next-rows-spec =
+    tie.close
+    (tie.spec
+    Inv-loop
+    μ-loop
+    loop-holds
+    mul-strong-next
+    shared-slice-read-strong-next
+    strong-next-requires
+    mul-rows
+    slice-write-rows
+    add-j
+    loop-less
+    loop-again
+    same-length
+    returns)
