@@ -9,7 +9,7 @@ use Rattle.sequence.specs.declared.Answer.the-variants.{Sequence}
 use Rattle.rules.specs.Refusals.{Row}
 use Rattle.sequence.specs.Sequence.{seq, unaryRows, binaryRows, Answers, UnaryRead, BinaryRead}
 use Rattle.rules.proofs.Refusals.{decided-unique}
-use Rattle.operators.proofs.Unique.{unary-unique, binary-unique}
+use Rattle.sequence.proofs.Unique.{unary-unique, binary-unique}
 use Rattle.out.specs.Out.{word, written}
 use Rattle.out_operators.specs.Operators.{OperatorDone, UnaryDone, BinaryDone}
 
