@@ -1,6 +1,7 @@
 // What the programs that run stored examples share: the lines of a text, the lists of numbers of a line, and numbers and lists said on standard output.
 //
-// A line has fields with a `/` between them. A field of numbers has them in decimal with spaces between them; `7:3` is 7 three times.
+// A line has fields with a `/` between them. A field of numbers has them in decimal with spaces between them; `7:3` is 7 three times, and a byte that is no
+// digit, colon or space is passed over. Lines and fields are counted from 0.
 use libc::STDIN_FILENO;
 use libc::STDOUT_FILENO;
 ghost use Prim.Native.Nat.{_-_, _<_, _≤_};
@@ -235,7 +236,7 @@ pub fn words<'a>(line: &[u8], number: usize, to: &'a mut [u64]) -> &'a mut [u64]
     &mut to[..n]
 }
 
-// A list of bytes; what is above 255 is 255.
+// A list of bytes, at most 4,200; what is above 255 is 255.
 pub fn bytes<'a>(line: &[u8], number: usize, to: &'a mut [u8]) -> &'a mut [u8]
     ensures { λ r. ⌜ length (now r) ≤ length (now (to .entry)) ⌝ }
 {
@@ -245,7 +246,7 @@ pub fn bytes<'a>(line: &[u8], number: usize, to: &'a mut [u8]) -> &'a mut [u8]
     &mut to[..n]
 }
 
-// A list of places; what is above 65,535 is 65,535.
+// A list of places, at most 4,200; what is above 65,535 is 65,535.
 pub fn places<'a>(line: &[u8], number: usize, to: &'a mut [u16]) -> &'a mut [u16]
     ensures { λ r. ⌜ length (now r) ≤ length (now (to .entry)) ⌝ }
 {
