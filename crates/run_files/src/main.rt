@@ -4,7 +4,6 @@
 //     file / marks / lengths / words / unary / binary / after
 // The file is in hex. The next five are what is lent, as it stands before; it is said, as it stands after, where the last is not empty.
 use file::ReadAnswer;
-use libc::STDIN_FILENO;
 use stored::say;
 use stored::say_number;
 
@@ -78,17 +77,10 @@ fn example(line: &[u8]) {
     read(line, file);
 }
 
-fn examples(text: &[u8]) {
-    let mut at: usize = 0;
-    while at < text.len() {
-        let line = stored::until(text, at, b'\n');
-        example(line);
-        at += line.len() + 1;
-    }
-}
-
 fn main() {
-    let mut text = io::large_buffer();
-    let n = io::read_full(STDIN_FILENO, &mut text);
-    examples(&text[..n]);
+    let mut room = [0u8; 65536];
+    let text = stored::input(&mut room);
+    for number in 0..stored::lines(text) {
+        example(stored::line(text, number));
+    }
 }

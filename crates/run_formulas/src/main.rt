@@ -7,7 +7,6 @@
 // An answer to `c` is `accepted`, `disagrees` with a session's number, or `refused` with a refusal's. An answer to `p` is `text` with its length, or
 // `refused` (for 8 with ` at ` and the offset), and then the whole room between bars. A line that starts with # is copied.
 use formula::kinds::Node;
-use libc::STDIN_FILENO;
 use rules::kinds::Place;
 use stored::say;
 use stored::say_number;
@@ -148,17 +147,10 @@ fn example(line: &[u8]) {
     }
 }
 
-fn examples(text: &[u8]) {
-    let mut at: usize = 0;
-    while at < text.len() {
-        let line = stored::until(text, at, b'\n');
-        example(line);
-        at += line.len() + 1;
-    }
-}
-
 fn main() {
-    let mut text = io::large_buffer();
-    let n = io::read_full(STDIN_FILENO, &mut text);
-    examples(&text[..n]);
+    let mut room = [0u8; 65536];
+    let text = stored::input(&mut room);
+    for number in 0..stored::lines(text) {
+        example(stored::line(text, number));
+    }
 }

@@ -4,7 +4,6 @@
 // A line of standard input is an example. Its fields (`stored` says how they are written) are its name, the file in hex, and the table's room. S2 has two
 // sessions of length 1 with p in both, marks 1 and 0, only `!`; S3 has p = 3, q = 4, mark 1, and p = 1, q = 4, mark 0, length 3, only `U`; S4 one empty
 // session, p, all operators.
-use libc::STDIN_FILENO;
 use stored::say;
 
 // What the bench writes for this file with this room.
@@ -24,17 +23,10 @@ fn example(line: &[u8]) {
     say_lines(file, room[0] as usize);
 }
 
-fn examples(text: &[u8]) {
-    let mut at: usize = 0;
-    while at < text.len() {
-        let line = stored::until(text, at, b'\n');
-        example(line);
-        at += line.len() + 1;
-    }
-}
-
 fn main() {
-    let mut text = io::large_buffer();
-    let n = io::read_full(STDIN_FILENO, &mut text);
-    examples(&text[..n]);
+    let mut room = [0u8; 65536];
+    let text = stored::input(&mut room);
+    for number in 0..stored::lines(text) {
+        example(stored::line(text, number));
+    }
 }

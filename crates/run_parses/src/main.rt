@@ -1,7 +1,6 @@
 // Reads texts as formulas with the names p, q and r, and writes each text's nodes or its refusal. The longest texts have 4,096 bytes.
 //
 // A line of standard input has two fields, what is said of the text and the text.
-use libc::STDIN_FILENO;
 use reader::Parsed;
 use stored::say;
 use stored::say_number;
@@ -93,17 +92,10 @@ fn example(line: &[u8]) {
     say(b"\n");
 }
 
-fn examples(text: &[u8]) {
-    let mut at: usize = 0;
-    while at < text.len() {
-        let line = stored::until(text, at, b'\n');
-        example(line);
-        at += line.len() + 1;
-    }
-}
-
 fn main() {
-    let mut text = io::large_buffer();
-    let n = io::read_full(STDIN_FILENO, &mut text);
-    examples(&text[..n]);
+    let mut room = [0u8; 65536];
+    let text = stored::input(&mut room);
+    for number in 0..stored::lines(text) {
+        example(stored::line(text, number));
+    }
 }

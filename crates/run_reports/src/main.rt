@@ -6,7 +6,6 @@
 // The root has a code, a left and a right place and a size; the room is one number, and that many dots are lent. Of an example with a name the name, the
 // answer and then the whole text are said; of one without, the answer.
 use formula::kinds::Node;
-use libc::STDIN_FILENO;
 use report::Reported;
 use rules::kinds::Place;
 
@@ -103,17 +102,10 @@ fn example(line: &[u8]) {
     of_nodes(line, marks, lengths, words);
 }
 
-fn examples(text: &[u8]) {
-    let mut at: usize = 0;
-    while at < text.len() {
-        let line = stored::until(text, at, b'\n');
-        example(line);
-        at += line.len() + 1;
-    }
-}
-
 fn main() {
-    let mut text = io::large_buffer();
-    let n = io::read_full(STDIN_FILENO, &mut text);
-    examples(&text[..n]);
+    let mut room = [0u8; 65536];
+    let text = stored::input(&mut room);
+    for number in 0..stored::lines(text) {
+        example(stored::line(text, number));
+    }
 }

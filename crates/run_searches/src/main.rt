@@ -5,7 +5,6 @@
 //     name / r m bound room constants / marks / lengths / words / unary / binary / codes / lefts / rights / sizes / matrices / after
 // The five before the last are what is lent, as it stands before; it is said, as it stands after, where `after` is not empty.
 use formula::kinds::Node;
-use libc::STDIN_FILENO;
 use search::SearchAnswer;
 use search::counts::Counts;
 use stored::say;
@@ -147,17 +146,10 @@ fn example(line: &[u8]) {
     say(b"\n");
 }
 
-fn examples(text: &[u8]) {
-    let mut at: usize = 0;
-    while at < text.len() {
-        let line = stored::until(text, at, b'\n');
-        example(line);
-        at += line.len() + 1;
-    }
-}
-
 fn main() {
-    let mut text = io::large_buffer();
-    let n = io::read_full(STDIN_FILENO, &mut text);
-    examples(&text[..n]);
+    let mut room = [0u8; 65536];
+    let text = stored::input(&mut room);
+    for number in 0..stored::lines(text) {
+        example(stored::line(text, number));
+    }
 }

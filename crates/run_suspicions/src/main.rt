@@ -2,7 +2,6 @@
 // 01 and 02: S1 has two sessions of two snapshots, p at the second of the good one and nowhere in the bad one.
 //
 // A line of standard input has two fields, what is typed, and the file in hex: "S1, whole file (hex)" of document 01, or its first bytes.
-use libc::STDIN_FILENO;
 use stored::say;
 
 fn answer(typed: &[u8], file: &[u8]) {
@@ -22,17 +21,10 @@ fn example(line: &[u8]) {
     answer(typed, file);
 }
 
-fn examples(text: &[u8]) {
-    let mut at: usize = 0;
-    while at < text.len() {
-        let line = stored::until(text, at, b'\n');
-        example(line);
-        at += line.len() + 1;
-    }
-}
-
 fn main() {
-    let mut text = io::large_buffer();
-    let n = io::read_full(STDIN_FILENO, &mut text);
-    examples(&text[..n]);
+    let mut room = [0u8; 65536];
+    let text = stored::input(&mut room);
+    for number in 0..stored::lines(text) {
+        example(stored::line(text, number));
+    }
 }

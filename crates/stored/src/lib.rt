@@ -1,6 +1,8 @@
 // What the programs that run stored examples share: the lines of a text, the lists of numbers of a line, and numbers and lists said on standard output.
 //
-// A line has fields with a `/` between them. A field of numbers has them in decimal with spaces between them; `7:3` is 7 three times.
+// A line has fields with a `/` between them. A field of numbers has them in decimal with spaces between them; `7:3` is 7 three times, and a byte that is no
+// digit, colon or space is passed over. Lines and fields are counted from 0.
+use libc::STDIN_FILENO;
 use libc::STDOUT_FILENO;
 ghost use Prim.Native.Nat.{_-_, _<_, _≤_};
 ghost use mathlib.Core.Path.{_≡_};
@@ -23,7 +25,7 @@ fn stop(text: &[u8], from: usize, end: u8) -> usize
 }
 
 // What stands from a place on, up to a byte or the end.
-pub fn until(text: &[u8], from: usize, end: u8) -> &[u8]
+fn until(text: &[u8], from: usize, end: u8) -> &[u8]
     ensures { λ r. ⌜ length (now r) ≤ length (now (text .entry)) - from ⌝ }
 {
     if text.len() < from {
@@ -33,21 +35,56 @@ pub fn until(text: &[u8], from: usize, end: u8) -> &[u8]
     &text[from..e]
 }
 
-// A line's field by its number; a field that isn't there is empty.
-pub fn field(line: &[u8], number: usize) -> &[u8]
-    ensures { λ r. ⌜ length (now r) ≤ length (now (line .entry)) ⌝ }
+// The part of a text by its number, where a byte ends each part but the last; a part that isn't there is empty.
+fn part(text: &[u8], number: usize, end: u8) -> &[u8]
+    ensures { λ r. ⌜ length (now r) ≤ length (now (text .entry)) ⌝ }
 {
     let mut at: usize = 0;
     let mut i: usize = 0;
     while i < number {
-        let e = stop(line, at, b'/');
-        if e == line.len() {
-            return &line[..0];
+        let e = stop(text, at, end);
+        if e == text.len() {
+            return &text[..0];
         }
         at = e + 1;
         i += 1;
     }
-    until(line, at, b'/')
+    until(text, at, end)
+}
+
+// Standard input, as much of it as there is room for.
+pub fn input<'a>(room: &'a mut [u8]) -> &'a mut [u8]
+    ensures { λ r. ⌜ length (now r) ≤ length (now (room .entry)) ⌝ }
+{
+    let n = io::read_full(STDIN_FILENO, room);
+    &mut room[..n]
+}
+
+// How many lines a text has.
+pub fn lines(text: &[u8]) -> usize
+    ensures { λ r. ⌜ r ≤ length (now (text .entry)) ⌝ }
+{
+    let mut n: usize = 0;
+    let mut at: usize = 0;
+    while at < text.len() {
+        at = stop(text, at, b'\n') + 1;
+        n += 1;
+    }
+    n
+}
+
+// A text's line by its number, without its end.
+pub fn line(text: &[u8], number: usize) -> &[u8]
+    ensures { λ r. ⌜ length (now r) ≤ length (now (text .entry)) ⌝ }
+{
+    part(text, number, b'\n')
+}
+
+// A line's field by its number.
+pub fn field(line: &[u8], number: usize) -> &[u8]
+    ensures { λ r. ⌜ length (now r) ≤ length (now (line .entry)) ⌝ }
+{
+    part(line, number, b'/')
 }
 
 // A number, or a number and how often, of which some digits were read.
@@ -199,7 +236,7 @@ pub fn words<'a>(line: &[u8], number: usize, to: &'a mut [u64]) -> &'a mut [u64]
     &mut to[..n]
 }
 
-// A list of bytes; what is above 255 is 255.
+// A list of bytes, at most 4,200; what is above 255 is 255.
 pub fn bytes<'a>(line: &[u8], number: usize, to: &'a mut [u8]) -> &'a mut [u8]
     ensures { λ r. ⌜ length (now r) ≤ length (now (to .entry)) ⌝ }
 {
@@ -209,7 +246,7 @@ pub fn bytes<'a>(line: &[u8], number: usize, to: &'a mut [u8]) -> &'a mut [u8]
     &mut to[..n]
 }
 
-// A list of places; what is above 65,535 is 65,535.
+// A list of places, at most 4,200; what is above 65,535 is 65,535.
 pub fn places<'a>(line: &[u8], number: usize, to: &'a mut [u16]) -> &'a mut [u16]
     ensures { λ r. ⌜ length (now r) ≤ length (now (to .entry)) ⌝ }
 {

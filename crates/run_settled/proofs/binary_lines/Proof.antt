@@ -11,33 +11,8 @@ Inv-loop length code₀ code = Unit {0}
 abbrev μ-loop : tie.MeasureT-loop
 μ-loop length code₀ code = 11 - code
 
-loop-holds : tie.Need-loop-holds Inv-loop μ-loop
-loop-holds c = tt
-
-binary-rows-requires : tie.Need-binary-rows-requires Inv-loop μ-loop
-binary-rows-requires c κs = search needs
-
-add-code : tie.Need-add-code Inv-loop μ-loop
-add-code c = search needs
-
-loop-less : tie.Need-loop-less Inv-loop μ-loop
-loop-less c = search needs
-
-loop-again : tie.Need-loop-again Inv-loop μ-loop
-loop-again c = tt
-
-returns : tie.Need-returns Inv-loop μ-loop
-returns c = search needs
-
 pub binary-lines-spec : {M : Type 1} → statement M
 binary-lines-spec =
     tie.close
     (tie.spec
-    Inv-loop
-    μ-loop
-    loop-holds
-    binary-rows-requires
-    add-code
-    loop-less
-    loop-again
-    returns)
+    Inv-loop μ-loop (λ c. tt) (λ c κs. search needs) (λ c. search needs) (λ c. search needs) (λ c. tt) (λ c. search needs))
