@@ -10,8 +10,9 @@ use Prim.Native.Nat.{ℕ, suc, _+_, _*_, _≤_, _<_}
 use lib.ListN.{length, take, getD}
 use Rattle.words.specs.Word.{At, places, Means}
 use Rattle.sequence.specs.Operators.{Unary, Binary, unaryReading, binaryReading}
-use Rattle.formula.specs.Formula.{Formula, size, Holds, Separates, Offered}
+use Rattle.formula.specs.Formula.{Formula, size, Holds, Accepts, Separates, Offered}
 use Rattle.rules.specs.Lists.{_∈_}
+use Rattle.formula.specs.Empty.{OnEmpty}
 use Rattle.formula.specs.Recorded.{markedTrace, markedTraces}
 use Rattle.session.specs.Recording.{lengthOf}
 use Rattle.formula.specs.Nodes.{Node, Spells, codes}
@@ -271,3 +272,9 @@ pub record SuperfluousBy {Mat : Type 0} (k before : List (Candidate Mat)) (c : C
 abbrev pub DroppedBy : Type 0
 DroppedBy = (i : Input) (e : Ending) (k : Table) (n : Tally) → search i ≡ ended e k n → (before : Table) (c : Candidate (List ℕ)) (d : Drops i before c)
     → (place : ℕ) × (place < length (d .so-far)) × SuperfluousBy k before c place
+
+-- request E4's "the usual reading of the empty trace", of what was recorded: of an input that passes the checks, a session without snapshots accepts a formula
+-- over what was offered exactly where the table of E4 says so
+abbrev pub EmptySession : Type 0
+EmptySession = (i : Input) → Passes i → (j : ℕ) → j < i .recording .sessions → lengthOf (i .recording) j ≡ 0
+    → (t : Formula) → Offered (language i) t → Accepts (markedTrace (i .recording) j .trace) t ↔ OnEmpty t
