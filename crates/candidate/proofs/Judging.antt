@@ -27,7 +27,7 @@ use Rattle.rows.proofs.Matrices.{rows-made, made-fine}
 use Rattle.table.proofs.Known.{the-type as known-type}
 use Rattle.table.specs.Compare.{agreeing, KnownAnswer}
 use Rattle.table.specs.Keep.{KeepAnswer}
-use Rattle.table.specs.Formulas.{Holds, RoomAt}
+use Rattle.table.specs.Formulas.{HoldsKept, RoomAt}
 use Rattle.table.specs.Promises.{isAt}
 use Rattle.rows.specs.Formulas as matrices
 use Rattle.table.proofs.Acceptance.{agrees-separating}

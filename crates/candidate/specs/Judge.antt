@@ -12,7 +12,7 @@ use Rattle.walk.specs.Input.{Input, Passes, offer, inputOf}
 use Rattle.walk.specs.Promises.{Table}
 use Rattle.rows.specs.Formulas.{Makes, made, Masks}
 use Rattle.table.specs.Slices.{Cols}
-use Rattle.table.specs.Formulas.{Holds, RoomAt}
+use Rattle.table.specs.Formulas.{HoldsKept, RoomAt}
 use Rattle.candidate.specs.declared.Verdict.{Verdict}
 use Rattle.candidate.specs.declared.Verdict.the-variants.{Found, Dropped, Full, Kept}
 
@@ -38,14 +38,14 @@ pub record Over (i : Input) (masks : List ℕ) (node : Node) (count : ℕ) (rows
   pub room : count < i .room → RoomAt i count t₀
   pub masks-are : Masks i masks
   pub rows-there : i .recording .sessions ≤ length rows
-  pub holds : Holds i k t₀ t
+  pub holds : HoldsKept i k t₀ t
   pub counted : count ≡ length k
   pub posed : Posed i k node x
 
 -- it comes to what the walk makes of it
 pub record Does (i : Input) (node : Node) (t₀ t′ : Cols) (k : Table) (x : Candidate (List ℕ)) (v : Verdict) : Type 0 where
   pub is : (n : Tally) → consider (offer i) (i .room) (going k n) x ≡ comes v x k n
-  pub holds : (n : Tally) → Holds i (kept (comes v x k n)) t₀ t′
+  pub holds : (n : Tally) → HoldsKept i (kept (comes v x k n)) t₀ t′
 
 -- whatever it was handed: one is kept only at a place below C and below the most that any table has, and otherwise nothing is written
 abbrev pub Placed : ℕ → ℕ → Cols → Cols → Verdict → Type 0

@@ -13,7 +13,7 @@ use Rattle.grammar.proofs.Peeks.{Halts}
 use Rattle.grammar.proofs.Passage as passage
 use Rattle.tokens.specs.declared.operator.Op.{Op}
 use Rattle.tokens.specs.declared.operator.Op.the-variants.{Is, Nothing, Cut}
-use Rattle.tokens.specs.Next.{Said, Operator}
+use Rattle.tokens.specs.Next.{PeekSaid, Operator}
 use Rattle.tokens.proofs.Operators.{inside, head}
 use Rattle.descent.specs.declared.closing.End.the-variants.{At, Bad as NoEnd}
 use Rattle.descent.specs.Answers.{Closing, Ending}
@@ -31,9 +31,9 @@ module _ (text : List ℕ) where
 
   module _ (at : ℕ) (h : at ≤ length text) where
     there : {a : Op} {i : ℕ} → a ≡ Nothing i → Operator text at a → (n : ℕ) × (peek (drop at text) ≡ nothing n) × (i ≡ at + n)
-    there {i = i} e f = by-peek (peek (drop at text)) refl (subst (Said at (peek (drop at text))) e f)
+    there {i = i} e f = by-peek (peek (drop at text)) refl (subst (PeekSaid at (peek (drop at text))) e f)
       where
-        by-peek : (k : Peek) → peek (drop at text) ≡ k → Said at k (Nothing i) → (n : ℕ) × (peek (drop at text) ≡ nothing n) × (i ≡ at + n)
+        by-peek : (k : Peek) → peek (drop at text) ≡ k → PeekSaid at k (Nothing i) → (n : ℕ) × (peek (drop at text) ≡ nothing n) × (i ≡ at + n)
         by-peek (op o m) q s = absurd s
         by-peek (nothing m) q s = (m, q, s)
         by-peek (cut m) q s = absurd s
@@ -61,17 +61,17 @@ module _ (text : List ℕ) where
 
     -- nothing goes on, so no operator was there
     no-op : {a : Op} {l r next c : ℕ} → a ≡ Is l r next c → Operator text at a → QuietAt text 0 at → ⊥
-    no-op {l = l} {r} {next} {c} e f q = by-peek (peek (drop at text)) q (subst (Said at (peek (drop at text))) e f)
+    no-op {l = l} {r} {next} {c} e f q = by-peek (peek (drop at text)) q (subst (PeekSaid at (peek (drop at text))) e f)
       where
-        by-peek : (k : Peek) → IfOp (λ o. level o < 0) ⊥ k → Said at k (Is l r next c) → ⊥
+        by-peek : (k : Peek) → IfOp (λ o. level o < 0) ⊥ k → PeekSaid at k (Is l r next c) → ⊥
         by-peek (op o m) q s = omega arith
         by-peek (nothing m) q s = s
         by-peek (cut m) q s = s
 
     no-cut : {a : Op} {k : ℕ} → a ≡ Cut k → Operator text at a → QuietAt text 0 at → ⊥
-    no-cut {k = k} e f q = by-peek (peek (drop at text)) q (subst (Said at (peek (drop at text))) e f)
+    no-cut {k = k} e f q = by-peek (peek (drop at text)) q (subst (PeekSaid at (peek (drop at text))) e f)
       where
-        by-peek : (p : Peek) → IfOp (λ o. level o < 0) ⊥ p → Said at p (Cut k) → ⊥
+        by-peek : (p : Peek) → IfOp (λ o. level o < 0) ⊥ p → PeekSaid at p (Cut k) → ⊥
         by-peek (op o m) q s = s
         by-peek (nothing m) q s = s
         by-peek (cut m) q s = q

@@ -26,7 +26,7 @@ use Rattle.descent.specs.declared.Got.the-variants.{Val, Bad}
 use Rattle.descent.specs.declared.closing.End.{End}
 use Rattle.descent.specs.declared.closing.End.the-variants.{At, Bad as NoEnd}
 use Rattle.names.specs.Names.{namesIn, GoodNames}
-use Rattle.tokens.specs.Next.{Said, Operator, Fronts}
+use Rattle.tokens.specs.Next.{PeekSaid, Operator, Fronts}
 use Rattle.descent.specs.Packed.{codesBy, pack, packs, mostField}
 use Rattle.descent.specs.Inner.{LeafFields}
 use Rattle.descent.specs.Answers.{Closing, Infix, More, Prefix, Bracket, Ending, Fits, Whole}
@@ -85,9 +85,9 @@ module _ (file text : List ℕ) (place at : ℕ) (h : at ≤ length text) where
   Seen l r next c = (o : Binary) × (m : ℕ) × (peek (drop at text) ≡ op o m) × (l ≡ level o) × (r ≡ rightLevel o) × (next ≡ at + m) × (c ≡ binaryCode o)
 
   seen : {a : Op} {l r next c : ℕ} → a ≡ Is l r next c → Operator text at a → Seen l r next c
-  seen {l = l} {r} {next} {c} e f = by-peek (peek (drop at text)) refl (subst (Said at (peek (drop at text))) e f)
+  seen {l = l} {r} {next} {c} e f = by-peek (peek (drop at text)) refl (subst (PeekSaid at (peek (drop at text))) e f)
     where
-      by-peek : (k : Peek) → peek (drop at text) ≡ k → Said at k (Is l r next c) → Seen l r next c
+      by-peek : (k : Peek) → peek (drop at text) ≡ k → PeekSaid at k (Is l r next c) → Seen l r next c
       by-peek (op o m) q s = (o, m, q, s .0, s .1, s .2, s .3)
       by-peek (nothing m) q s = absurd s
       by-peek (cut m) q s = absurd s
@@ -108,17 +108,17 @@ module _ (file text : List ℕ) (place at : ℕ) (h : at ≤ length text) where
 
   pub more-nothing : (n m : ℕ) (old : List ℕ) {a : Op} {i : ℕ} → a ≡ Nothing i → Operator text at a → More file place old old text n at m (Val at m)
   more-nothing n m old {i = i} e f =
-      (omega arith, omega arith, omega arith, h, [], passage.no-more text (codesBy (namesIn file)) place h, by-peek (peek (drop at text)) (subst (Said at (peek (drop at text))) e f), refl)
+      (omega arith, omega arith, omega arith, h, [], passage.no-more text (codesBy (namesIn file)) place h, by-peek (peek (drop at text)) (subst (PeekSaid at (peek (drop at text))) e f), refl)
     where
-      by-peek : (k : Peek) → Said at k (Nothing i) → IfOp (λ o. level o < n) ⊥ k
+      by-peek : (k : Peek) → PeekSaid at k (Nothing i) → IfOp (λ o. level o < n) ⊥ k
       by-peek (op o m) s = absurd s
       by-peek (nothing m) s = tt
       by-peek (cut m) s = absurd s
 
   pub more-cut : {a : Op} {k : ℕ} → a ≡ Cut k → Operator text at a → (d : ℕ) → Stops text (after d) at k
-  more-cut {k = k} e f d = by-peek (peek (drop at text)) refl (subst (Said at (peek (drop at text))) e f)
+  more-cut {k = k} e f d = by-peek (peek (drop at text)) refl (subst (PeekSaid at (peek (drop at text))) e f)
     where
-      by-peek : (p : Peek) → peek (drop at text) ≡ p → Said at p (Cut k) → Stops text (after d) at k
+      by-peek : (p : Peek) → peek (drop at text) ≡ p → PeekSaid at p (Cut k) → Stops text (after d) at k
       by-peek (op o m) q s = absurd s
       by-peek (nothing m) q s = absurd s
       by-peek (cut m) q s = rw s (passage.stop-cut text at h q d)
@@ -140,7 +140,8 @@ module _ (file text : List ℕ) (place at : ℕ) (h : at ≤ length text) where
         let s = seen e f in
         let i : Infix file (place + before) old mid text r next (Val end w) = subst (Infix file (place + before) old mid text r next) q g in
         let x : Infix file (place + before) old mid text (rightLevel (s .0)) (at + s .1) (Val end w) =
-        subst (λ (v : ℕ). Infix file (place + before) old mid text (rightLevel (s .0)) v (Val end w)) (s .5) (subst (λ (v : ℕ). Infix file (place + before) old mid text v next (Val end w)) (s .4) i) in
+        subst (λ (v : ℕ). Infix file (place + before) old mid text (rightLevel (s .0)) v (Val end w)) (s .5)
+        (subst (λ (v : ℕ). Infix file (place + before) old mid text v next (Val end w)) (s .4) i) in
         let p = rw (s .2) at (some (drop at text)) in
         by-answer c (s .0) (s .1) (s .2) p (omega (arith, s .3)) (s .6) x m
       where

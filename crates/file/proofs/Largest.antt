@@ -9,7 +9,7 @@ use lib.Dec.{lit<, lit≤}
 use lib.ListN.{length, replicate, length-append}
 use Rattle.words.specs.Word.{Wf}
 use Rattle.words.proofs.At.{lt-wf}
-use Rattle.file.specs.Format.{Session, Parts, fileBytes, GoodSession, Good}
+use Rattle.file.specs.Format.{FileSession, Parts, fileBytes, GoodSession, Good}
 use Rattle.sequence.specs.Operators.{decode}
 use Rattle.reading.specs.Reading.{one, section, got, each, byte}
 use Rattle.names.specs.Reserved.{reserved}
@@ -62,7 +62,7 @@ unfolding Each
 repeated P a h zero before = tt
 repeated P a h (suc n) before = (h, repeated P a h n (before ++ (a ∷ [])))
 
-longest : Session
+longest : FileSession
 longest = record { mark = 1; length = 64; words = replicate 16 (2 ^ 64 - 1) }
 
 longest-good : GoodSession 16 longest

@@ -10,11 +10,11 @@ use borrow.Author.Tests.{ltb-false, leb-false}
 use lib.Dec.{ltb, leb, eqb}
 use lib.ListN.{length, getD, take, drop, length-append}
 use Rattle.words.specs.Word.{width}
-use Rattle.sections.specs.Numbers.{sessions, propositions, bound}
+use Rattle.sections.specs.Numbers.{fileSessions, propositions, bound}
 use Rattle.names.specs.Names.{nameLength, letter, name, isTaken, notTaken, namesUpTo, wholeNames}
 use Rattle.rules.specs.Lists.{Each}
 use Rattle.reading.specs.Reading.{Got, got, bad, Reader, andThen, each, byte, within, counted, atEnd}
-use Rattle.file.specs.Offence.{number, word, session, allSessions, isUnary, isBinary, code, codes, settings, parts, wholeFile}
+use Rattle.file.specs.Offence.{number, eightBytes, session, allSessions, isUnary, isBinary, code, codes, settings, parts, wholeFile}
 use Rattle.reading.proofs.Lists.{within-high}
 use Rattle.reading.proofs.Readers.{got-bad, byte-sound}
 use Rattle.sections.proofs.CodeLaws.{New, new-sound}
@@ -87,8 +87,8 @@ module _ (file : List ℕ) where
 
   -- ---- sessions
 
-  pub word-upto : (n at : ℕ) → Upto (at + 8) (word n file at)
-  unfolding word
+  pub word-upto : (n at : ℕ) → Upto (at + 8) (eightBytes n file at)
+  unfolding eightBytes
   word-upto n at = go (leb (at + 8) (length file)) (ltb (number (take 8 (drop at file))) (2 ^ n)) refl
     where
       go : (p q : Bool) → leb (at + 8) (length file) ≡ p → Upto (at + 8) (cond p (cond q (got (number (take 8 (drop at file))) (at + 8)) (bad at)) (bad (length file)))
@@ -101,7 +101,7 @@ module _ (file : List ℕ) where
   session-upto m at =
       next-upto (byte (within 0 1) file at) _ (byte-upto (within 0 1) at) (omega arith) λ mark a e h.
       next-upto (byte (within 0 width) file a) _ (byte-upto (within 0 width) a) (omega arith) λ n b d i.
-      next-upto (each (λ _. word n) m [] file b) _ (row-upto (λ _. word n) 8 (λ _. word-upto n) m [] b) (omega arith) λ words next f j.
+      next-upto (each (λ _. eightBytes n) m [] file b) _ (row-upto (λ _. eightBytes n) 8 (λ _. word-upto n) m [] b) (omega arith) λ words next f j.
       (omega arith)
 
   -- ---- codes: as many as there are in the group, since none comes twice
@@ -148,7 +148,7 @@ module _ (file : List ℕ) where
 
   pub sessions-upto : (m : ℕ) → m ≤ propositions → (at : ℕ) → Upto (at + 4161) (allSessions m file at)
   sessions-upto m h at =
-      higher (allSessions m file at) (counted-upto 1 sessions (λ _. session m) (2 + m * 8) (λ _. session-upto m) at) (omega arith)
+      higher (allSessions m file at) (counted-upto 1 fileSessions (λ _. session m) (2 + m * 8) (λ _. session-upto m) at) (omega arith)
 
   pub parts-upto : Upto 4450 (parts file 0)
   unfolding parts

@@ -11,7 +11,7 @@ use lib.ListN.{length, drop, length-map}
 use lib.Seq.{sets}
 use Rattle.file.specs.declared.ReadAnswer.{ReadAnswer}
 use Rattle.file.specs.declared.ReadAnswer.the-variants.{Parts as AllParts, Broken, Room}
-use Rattle.sections.specs.Numbers.{sessions, propositions}
+use Rattle.sections.specs.Numbers.{fileSessions, propositions}
 use Rattle.file.specs.Format.{Parts, Good}
 use Rattle.reading.specs.Reading.{section, Got, got, bad}
 use Rattle.names.specs.Names.{nameBytes}
@@ -37,7 +37,7 @@ module _ (file : List ℕ) where
     pub binaries : length (parts .binary) ≡ v
     pub mark : parts .constants ≡ constants
     pub size : parts .bound ≡ bound
-    pub few : r ≤ sessions
+    pub few : r ≤ fileSessions
     pub narrow : m ≤ propositions
     pub room : a + 1 + r * (2 + 8 * m) + u + 2 + v + 3 ≡ length file
     pub marks : strided (2 + 8 * m) r (drop (a + 1) file) ≡ marksOf parts

@@ -16,7 +16,7 @@ use Rattle.file.specs.declared.ReadAnswer.{ReadAnswer}
 use Rattle.file.specs.declared.ReadAnswer.the-variants.{Parts as AllParts, Broken as FileBroken}
 use Rattle.sections.specs.Numbers.{propositions, bound}
 use Rattle.names.specs.Names.{nameBytes, namesUpTo}
-use Rattle.file.specs.Format.{Session, Parts}
+use Rattle.file.specs.Format.{FileSession, Parts}
 use Rattle.reading.specs.Reading.{section, Got, got, bad, andThen, byte, within, atEnd, stepOf}
 use Rattle.file.specs.Offence.{allSessions, isUnary, isBinary, codes, Settings, settings, parts, wholeFile}
 use Rattle.file.specs.Inner.{tailOf, tailAt, numbersOf, answerOf}
@@ -108,7 +108,7 @@ module _ (file : List ℕ) where
         judge-sessions p = rw (names-read .1, step-broken length s (allSessions (length ns) file a) sessions-step p)
 
         module _ {n b : ℕ} (p : s ≡ Read n b) (t : Step) (f : t ≡ stepOf length (codes isUnary file b)) where
-          sessions-read : (ss : List Session) × (allSessions (length ns) file a ≡ got ss b) × (length ss ≡ n)
+          sessions-read : (ss : List FileSession) × (allSessions (length ns) file a ≡ got ss b) × (length ss ≡ n)
           sessions-read = step-read length s (allSessions (length ns) file a) sessions-step p
 
           pub judge-unary : {o : ℕ} → t ≡ Broken o → FileBroken o ≡ answerOf file

@@ -7,8 +7,8 @@ use Prim.Native.Nat.{ℕ, _+_, _≤_, _<_}
 use native.Mathlib.Omega.{arith}
 use lib.Dec.{lit<, lit≤}
 use lib.ListN.{length}
-use Rattle.sections.specs.Numbers.{propositions, sessions}
-use Rattle.file.specs.Format.{Parts, Session, sessionBytes, fileBytes, Good}
+use Rattle.sections.specs.Numbers.{propositions, fileSessions}
+use Rattle.file.specs.Format.{Parts, FileSession, sessionBytes, fileBytes, Good}
 use Rattle.reading.specs.Reading.{one, section, got}
 use Rattle.names.specs.Names.{nameBytes, namesUpTo}
 use Rattle.rules.specs.Lists.{Each}
@@ -53,14 +53,14 @@ few-binary l e =
 module _ (file : List ℕ) where
   -- ---- the sections
 
-  abbrev pub Sessions : ℕ → ℕ → List Session → ℕ → Type 0
-  Sessions m at all next = Section (λ _. session m) (Fit file m) sessionBytes file 1 sessions at all next
+  abbrev pub Sessions : ℕ → ℕ → List FileSession → ℕ → Type 0
+  Sessions m at all next = Section (λ _. session m) (Fit file m) sessionBytes file 1 fileSessions at all next
 
-  pub all-sound : Bytes file → (m at : ℕ) {all : List Session} {next : ℕ} → allSessions m file at ≡ got all next → Sessions m at all next
-  all-sound bs m at e = section-sound (λ _. session m) (Fit file m) sessionBytes file (sessions-sound file bs m) 1 sessions at e
+  pub all-sound : Bytes file → (m at : ℕ) {all : List FileSession} {next : ℕ} → allSessions m file at ≡ got all next → Sessions m at all next
+  all-sound bs m at e = section-sound (λ _. session m) (Fit file m) sessionBytes file (sessions-sound file bs m) 1 fileSessions at e
 
-  pub all-complete : (m at : ℕ) (all : List Session) {next : ℕ} → Sessions m at all next → allSessions m file at ≡ got all next
-  all-complete m at all w = section-complete (λ _. session m) (Fit file m) sessionBytes file (sessions-complete file m) 1 sessions at all w
+  pub all-complete : (m at : ℕ) (all : List FileSession) {next : ℕ} → Sessions m at all next → allSessions m file at ≡ got all next
+  all-complete m at all w = section-complete (λ _. session m) (Fit file m) sessionBytes file (sessions-complete file m) 1 fileSessions at all w
 
   abbrev pub Codes : (ℕ → Bool) → ℕ → List ℕ → ℕ → Type 0
   Codes group at all next = Section (code group) (New group) one file 0 255 at all next

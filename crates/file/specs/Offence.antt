@@ -8,7 +8,7 @@ use lib.ListN.{length}
 use Rattle.sections.specs.Numbers.{propositions, bound}
 use Rattle.reading.specs.Reading.{Got, got, Reader, andThen, byte, within, atEnd}
 use Rattle.names.specs.Names.{namesUpTo}
-unfoldable pub use Rattle.sections.specs.Sections.{number, word, session}
+unfoldable pub use Rattle.sections.specs.Sections.{number, eightBytes, session}
 pub use Rattle.sections.specs.Sections.{allSessions, isUnary, isBinary, code, codes}
 use Rattle.file.specs.Format.{Parts}
 

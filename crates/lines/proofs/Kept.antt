@@ -14,7 +14,7 @@ use Rattle.formula.specs.Nodes.{Node, nodeAt, Spells, codes}
 use Rattle.walk.specs.Walk.{Candidate}
 use Rattle.walk.specs.Input.{Input, language}
 use Rattle.rules.specs.Limits.{mostSize, mostRoom}
-use Rattle.walk.specs.Promises.{Table, KeepsAll, Kept, Found}
+use Rattle.walk.specs.Promises.{Table, KeepsAll, Kept, FoundAs}
 use Rattle.walk.specs.Promises as walk
 use Rattle.formula.specs.Kinds.{node, nodes}
 use Rattle.formula.specs.Rule.{Broken}
@@ -59,7 +59,7 @@ module _ (i : Input) where
       (subst (λ (l : Table). Fits (i .recording .propositions) (walk.nodes l) (length (before ++ (c ∷ [])) + p) (nodeAt (walk.nodes k) p)) (append-assoc before (c ∷ []) k) f)
 
   -- what the walk keeps, with the root that it finds
-  pub kept-whole : (root : Node) (k : Table) → Kept i k → Found i root k → ((c : Candidate (List ℕ)) → c ∈ k → c .node .size ≤ mostSize)
+  pub kept-whole : (root : Node) (k : Table) → Kept i k → FoundAs i root k → ((c : Candidate (List ℕ)) → c ∈ k → c .node .size ≤ mostSize)
       → i .room ≤ mostRoom → i .bound ≤ mostSize → Broken (i .recording .propositions) (walk.nodes k) root → ⊥
   kept-whole root k a f s h b =
       fits-whole (i .recording .propositions) (walk.nodes k) root

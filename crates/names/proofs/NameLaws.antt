@@ -55,7 +55,11 @@ module _ (file : List ℕ) where
   unfolding name
   name-complete before at a next g s =
       let w : Word at a next = record { some = g .some; few = g .short; fits = g .letters; spans = s } in
-      rw (section-complete letter Letter one file letter-complete 1 nameLength at a w, in-not sameBytes a (λ y p. same-eq a y p) reserved (g .free), in-not sameBytes a (λ y p. same-eq a y p) before (g .new))
+      rw (
+        section-complete letter Letter one file letter-complete 1 nameLength at a w,
+        in-not sameBytes a (λ y p. same-eq a y p) reserved (g .free),
+        in-not sameBytes a (λ y p. same-eq a y p) before (g .new),
+      )
 
   -- ---- one name, step by step
 

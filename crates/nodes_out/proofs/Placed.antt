@@ -18,7 +18,7 @@ use Rattle.grammar.specs.Grammar.{Reads}
 use Rattle.grammar.specs.Nodes.{nodesOf}
 use Rattle.reader.specs.declared.Parsed.{Parsed}
 use Rattle.reader.specs.declared.Parsed.the-variants.{Nodes, Broken, Stops, Unknown, Refused}
-use Rattle.reader.specs.Parsing.{saidParsed, Row, Decides, Columns, roomOf, largeFormula, shortRoom, parseRows, written, Taken, Parses}
+use Rattle.reader.specs.Parsing.{saidParsed, ParseRow, Decides, Columns, roomOf, largeFormula, shortRoom, parseRows, written, Taken, Parses}
 use Rattle.reader.proofs.Scratch.{nodes-length}
 use Rattle.nodes_out.specs.declared.Read.{Read}
 use Rattle.nodes_in.specs.Arrays.{Filled}
@@ -28,13 +28,13 @@ use Rattle.nodes_out.proofs.Kept.{column, within}
 
 -- ---- the rows, for slices of other lengths
 
-skip : (row : Row) (rows rows′ : List Row) (P Q : Said → Type 0) (s : Said) → (((vs : List ℕ) → row .given vs → ⊥) → Decides rows P s → Decides rows′ Q s)
+skip : (row : ParseRow) (rows rows′ : List ParseRow) (P Q : Said → Type 0) (s : Said) → (((vs : List ℕ) → row .given vs → ⊥) → Decides rows P s → Decides rows′ Q s)
     → Decides (row ∷ rows) P s → Decides (row ∷ rows′) Q s
 unfolding Decides
 skip row rows rows′ P Q s f (inl p) = inl p
 skip row rows rows′ P Q s f (inr p) = inr (p .0, f (p .0) (p .1))
 
-swap : (row row′ : Row) (P Q : Said → Type 0) (s : Said) → row .number ≡ row′ .number → ((vs : List ℕ) → row .given vs → row′ .given vs)
+swap : (row row′ : ParseRow) (P Q : Said → Type 0) (s : Said) → row .number ≡ row′ .number → ((vs : List ℕ) → row .given vs → row′ .given vs)
     → ((vs : List ℕ) → row′ .given vs → row .given vs) → (P s → Q s) → Decides (row ∷ []) P s → Decides (row′ ∷ []) Q s
 unfolding Decides
 swap row row′ P Q s e f g k (inl p) = inl (p .0 ∙ e, f (s .values) (p .1))

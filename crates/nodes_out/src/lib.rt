@@ -120,7 +120,9 @@ pub fn search(
     length: usize,
     matrices: &mut [u64],
 ) -> Done
-    ensures { λ d. ⌜ Works (inputOf r m bound room constants (now (marks .entry)) (now (lengths .entry)) (now (words .entry)) (now (unary .entry)) (now (binary .entry))) length (now (matrices .entry)) d (now (matrices .exit)) ⌝ }
+    ensures { λ d. ⌜ Works
+        (inputOf r m bound room constants (now (marks .entry)) (now (lengths .entry)) (now (words .entry)) (now (unary .entry)) (now (binary .entry)))
+        length (now (matrices .entry)) d (now (matrices .exit)) ⌝ }
 {
     let count = room_of(length);
     let mut codes = bytes();

@@ -9,7 +9,7 @@ use lib.ListN.{length, getD}
 use Rattle.operators.specs.declared.Operator.{Operator}
 use Rattle.sequence.specs.Operators as ops
 use Rattle.sequence.specs.Operators.{not, weakNext, strongNext, finally, globally, or, and, until, release, implies, equiv}
-use Rattle.operators.specs.Table.{Listed, unary, binary, neither, unaryRow, binaryRow}
+use Rattle.operators.specs.Table.{Listed, unary, binary, neither, unaryListed, binaryListed}
 
 -- the rows of a table whose first code is i
 abbrev Rows : ℕ → List Operator → Type 0
@@ -23,8 +23,8 @@ at d (r ∷ rs) i (suc k) t h = subst (λ (m : ℕ). Listed m (getD rs k d)) (su
 
 abbrev pub operators : List Operator
 operators =
-    unaryRow not ∷ unaryRow weakNext ∷ unaryRow strongNext ∷ unaryRow finally ∷ unaryRow globally ∷ binaryRow or ∷ binaryRow and ∷ binaryRow until
-    ∷ binaryRow release ∷ binaryRow implies ∷ binaryRow equiv ∷ []
+    unaryListed not ∷ unaryListed weakNext ∷ unaryListed strongNext ∷ unaryListed finally ∷ unaryListed globally ∷ binaryListed or ∷ binaryListed and ∷ binaryListed until
+    ∷ binaryListed release ∷ binaryListed implies ∷ binaryListed equiv ∷ []
 
 rows : Rows 0 operators
 rows = (
@@ -54,14 +54,14 @@ pub row-at : (d : Operator) (code : ℕ) → code < 11 → Listed code (getD ope
 row-at d code h = subst (λ (m : ℕ). Listed m (getD operators code d)) (zero-add code) (at d operators 0 code rows h)
 
 -- a token lies within the bytes that hold it
-unary-fits : (op : ops.Unary) → unaryRow op .bytes ≤ length (unaryRow op .token)
+unary-fits : (op : ops.Unary) → unaryListed op .bytes ≤ length (unaryListed op .token)
 unary-fits not = lit≤ tt
 unary-fits weakNext = lit≤ tt
 unary-fits strongNext = lit≤ tt
 unary-fits finally = lit≤ tt
 unary-fits globally = lit≤ tt
 
-binary-fits : (op : ops.Binary) → binaryRow op .bytes ≤ length (binaryRow op .token)
+binary-fits : (op : ops.Binary) → binaryListed op .bytes ≤ length (binaryListed op .token)
 binary-fits or = lit≤ tt
 binary-fits and = lit≤ tt
 binary-fits until = lit≤ tt

@@ -15,10 +15,10 @@ padded t = take 4 (t ++ (0 ∷ 0 ∷ 0 ∷ 0 ∷ []))
 
 -- "a constant table with token and commuting mark"
 abbrev pub unaryRow : ops.Unary → Operator
-unaryRow op = record { token = padded (ops.unaryToken op); bytes = length (ops.unaryToken op); group = Unary; commutes = false }
+unaryListed op = record { token = padded (ops.unaryToken op); bytes = length (ops.unaryToken op); group = Unary; commutes = false }
 
 abbrev pub binaryRow : ops.Binary → Operator
-binaryRow op = record { token = padded (ops.binaryToken op); bytes = length (ops.binaryToken op); group = Binary; commutes = ops.commutes op }
+binaryListed op = record { token = padded (ops.binaryToken op); bytes = length (ops.binaryToken op); group = Binary; commutes = ops.commutes op }
 
 -- "Leaves: 16 proposition, 17 false, 18 true", and every other code: in no group
 abbrev pub noRow : Operator
@@ -26,6 +26,6 @@ noRow = record { token = padded []; bytes = 0; group = Neither; commutes = false
 
 -- r is the row for a code
 pub data Listed (code : ℕ) (r : Operator) : Type 0 where
-  unary : (op : ops.Unary) → ops.unaryCode op ≡ code → r ≡ unaryRow op → Listed code r
-  binary : (op : ops.Binary) → ops.binaryCode op ≡ code → r ≡ binaryRow op → Listed code r
+  unary : (op : ops.Unary) → ops.unaryCode op ≡ code → r ≡ unaryListed op → Listed code r
+  binary : (op : ops.Binary) → ops.binaryCode op ≡ code → r ≡ binaryListed op → Listed code r
   neither : ((op : ops.Unary) → ops.unaryCode op ≡ code → ⊥) → ((op : ops.Binary) → ops.binaryCode op ≡ code → ⊥) → r ≡ noRow → Listed code r

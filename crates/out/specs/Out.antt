@@ -29,8 +29,8 @@ pub record Named : Type 0 where
   pub at : ℕ
   pub value : ℕ
 
-abbrev pub word : ℕ → ℕ → Named
-word at value = record { at = at; value = value }
+abbrev pub wordFrom : ℕ → ℕ → Named
+wordFrom at value = record { at = at; value = value }
 
 -- "Words of `out` that the lines below don't name for the case at hand stay as they were"
 abbrev pub written : List Named → List ℕ → List ℕ
@@ -40,7 +40,7 @@ written (w ∷ ws) out = written ws (set out (w .at) (w .value))
 -- values in the order of their words
 abbrev pub inOrder : ℕ → List ℕ → List Named
 inOrder at [] = []
-inOrder at (v ∷ vs) = word at v ∷ inOrder (suc at) vs
+inOrder at (v ∷ vs) = wordFrom at v ∷ inOrder (suc at) vs
 
 -- ---- an answer in document 01's terms: its number, and its values (of numbers 8, 11 and 13 the offset)
 

@@ -10,7 +10,7 @@ use Rattle.rules.specs.Refusals.{Row}
 use Rattle.sequence.specs.Sequence.{seq, unaryRows, binaryRows, Answers, UnaryRead, BinaryRead}
 use Rattle.rules.proofs.Refusals.{decided-unique}
 use Rattle.sequence.proofs.Unique.{unary-unique, binary-unique}
-use Rattle.out.specs.Out.{word, written}
+use Rattle.out.specs.Out.{wordFrom, written}
 use Rattle.out_operators.specs.Operators.{OperatorDone, UnaryDone, BinaryDone}
 
 operator-unique : (rows : List Row) (asked : CharSeq → Type 0) → ((s t : CharSeq) → Answers rows asked (Sequence s) → Answers rows asked (Sequence t) → s ≡ t)
@@ -21,7 +21,7 @@ operator-unique rows asked one old k l x y p q =
       | yes e ↦
           let a = p .passed e in
           let b = q .passed (sym n ∙ e) in
-          (n, a .2 ∙ ap (λ (s : CharSeq). written (word 0 (s .values) ∷ []) old) (one (a .0) (b .0) (a .1) (b .1)) ∙ sym (b .2))
+          (n, a .2 ∙ ap (λ (s : CharSeq). written (wordFrom 0 (s .values) ∷ []) old) (one (a .0) (b .0) (a .1) (b .1)) ∙ sym (b .2))
       | no e ↦ (n, p .refused e ∙ sym (q .refused (λ z. e (n ∙ z))))
     ]
 

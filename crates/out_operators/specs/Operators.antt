@@ -7,7 +7,7 @@ use Rattle.sequence.specs.declared.CharSeq.{CharSeq}
 use Rattle.sequence.specs.declared.Answer.the-variants.{Sequence}
 use Rattle.rules.specs.Refusals.{Row, Decided}
 use Rattle.sequence.specs.Sequence.{seq, unaryRows, binaryRows, Answers, UnaryRead, BinaryRead}
-use Rattle.out.specs.Out.{outShort, word, written}
+use Rattle.out.specs.Out.{outShort, wordFrom, written}
 
 -- "a shorter one is 3, at the place that 3 has in that entry's order (at operators last)"
 abbrev pub outLast : List Row → List ℕ → List Row
@@ -17,7 +17,7 @@ outLast rows old = rows ++ (outShort old ∷ [])
 pub record OperatorDone (rows : List Row) (asked : CharSeq → Type 0) (old : List ℕ) (returned : ℕ) (new : List ℕ) : Type 0 where
   pub number : Decided (outLast rows old) returned
   pub refused : (returned ≡ 0 → ⊥) → new ≡ old
-  pub passed : returned ≡ 0 → (s : CharSeq) × Answers rows asked (Sequence s) × (new ≡ written (word 0 (s .values) ∷ []) old)
+  pub passed : returned ≡ 0 → (s : CharSeq) × Answers rows asked (Sequence s) × (new ≡ written (wordFrom 0 (s .values) ∷ []) old)
 
 -- the operator with that code, read on the sequence of that length and word
 abbrev pub UnaryDone : ℕ → ℕ → ℕ → List ℕ → ℕ → List ℕ → Type 0

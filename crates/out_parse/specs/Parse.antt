@@ -5,16 +5,16 @@ use mathlib.Core.List.{List, [], _∷_}
 use Prim.Native.Nat.{ℕ, _<_}
 use lib.ListN.{length}
 use Rattle.reader.specs.declared.Parsed.{Parsed}
-use Rattle.reader.specs.Parsing.{Row, Decides, plain, Columns, brokenNames, longText, noFormula, unknownName, largeFormula, shortRoom, saidParsed, Taken}
+use Rattle.reader.specs.Parsing.{ParseRow, Decides, plain, Columns, brokenNames, longText, noFormula, unknownName, largeFormula, shortRoom, saidParsed, Taken}
 use Rattle.out.specs.Out.{outWords, written, returnedOf, saidWords}
 
 module _ (names text : List ℕ) (lent : Columns) (old : List ℕ) where
   -- "3 (.. out below 8)"; which of the rows with one number is given first can't be seen
-  abbrev pub shortOut : Row
+  abbrev pub shortOut : ParseRow
   shortOut = plain 3 (length old < outWords)
 
   -- "8, 12, 11, 13, 12, then 3 (the shortest of the four slices below the size; out below 8)"
-  abbrev pub parseRows : List Row
+  abbrev pub parseRows : List ParseRow
   parseRows =
       brokenNames names text lent
       ∷ longText names text lent

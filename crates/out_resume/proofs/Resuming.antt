@@ -19,7 +19,7 @@ use Rattle.slices.specs.declared.Resumed.the-variants.{Goes, Refused}
 use Rattle.slices.specs.declared.state.State.{State}
 use Rattle.slices.specs.Slices as core
 use Rattle.slices.specs.Resume.{numberOf, Called}
-use Rattle.out.specs.Out.{longWords, Named, word, written}
+use Rattle.out.specs.Out.{longWords, Named, wordFrom, written}
 use Rattle.state_words.specs.Words.{stateWords, stateRead}
 use Rattle.state_words.specs.Written.{stateShort, StateDone}
 use Rattle.out_resume.specs.Resume.{foundWords, endWords, toldWords, resumeRows, ResumeDone}
@@ -124,23 +124,29 @@ module _ (s : State) (old : List ℕ) where
   told ws e = ap (λ (x : List Named). written x counted) (sym e)
 
   module _ (not-found : s .end ≡ 1 → ⊥) where
-    after-found : endWords s ≡ cond (eqb (s .end) 2) (word 0 2 ∷ []) (cond (eqb (s .end) 3) (word 0 3 ∷ word 1 (s .size) ∷ []) (word 0 4 ∷ []))
-    after-found = ap (λ (b : Bool). cond b (foundWords (s .root)) (cond (eqb (s .end) 2) (word 0 2 ∷ []) (cond (eqb (s .end) 3) (word 0 3 ∷ word 1 (s .size) ∷ []) (word 0 4 ∷ [])))) (ne-eqb (s .end) 1 not-found)
+    after-found : endWords s ≡ cond (eqb (s .end) 2) (wordFrom 0 2 ∷ []) (cond (eqb (s .end) 3) (wordFrom 0 3 ∷ wordFrom 1 (s .size) ∷ []) (wordFrom 0 4 ∷ []))
+    after-found = ap (λ (b : Bool). cond b (foundWords (s .root))
+        (cond (eqb (s .end) 2) (wordFrom 0 2 ∷ []) (cond (eqb (s .end) 3) (wordFrom 0 3 ∷ wordFrom 1 (s .size) ∷ []) (wordFrom 0 4 ∷ []))))
+        (ne-eqb (s .end) 1 not-found)
 
     pub told-none : s .end ≡ 2 → set counted 0 2 ≡ written (toldWords s) old
-    told-none e = told (word 0 2 ∷ []) (after-found ∙ ap (λ (b : Bool). cond b (word 0 2 ∷ []) (cond (eqb (s .end) 3) (word 0 3 ∷ word 1 (s .size) ∷ []) (word 0 4 ∷ []))) (eq-eqb (s .end) 2 e))
+    told-none e = told (wordFrom 0 2 ∷ []) (after-found ∙ ap
+        (λ (b : Bool). cond b (wordFrom 0 2 ∷ []) (cond (eqb (s .end) 3) (wordFrom 0 3 ∷ wordFrom 1 (s .size) ∷ []) (wordFrom 0 4 ∷ [])))
+        (eq-eqb (s .end) 2 e))
 
     module _ (not-none : s .end ≡ 2 → ⊥) where
-      after-none : endWords s ≡ cond (eqb (s .end) 3) (word 0 3 ∷ word 1 (s .size) ∷ []) (word 0 4 ∷ [])
-      after-none = after-found ∙ ap (λ (b : Bool). cond b (word 0 2 ∷ []) (cond (eqb (s .end) 3) (word 0 3 ∷ word 1 (s .size) ∷ []) (word 0 4 ∷ []))) (ne-eqb (s .end) 2 not-none)
+      after-none : endWords s ≡ cond (eqb (s .end) 3) (wordFrom 0 3 ∷ wordFrom 1 (s .size) ∷ []) (wordFrom 0 4 ∷ [])
+      after-none = after-found ∙ ap (λ (b : Bool). cond b (wordFrom 0 2 ∷ []) (cond (eqb (s .end) 3) (wordFrom 0 3 ∷ wordFrom 1 (s .size) ∷ []) (wordFrom 0 4 ∷ []))) (ne-eqb (s .end) 2 not-none)
 
       pub told-full : s .end ≡ 3 → set (set counted 0 3) 1 (s .size) ≡ written (toldWords s) old
-      told-full e = told (word 0 3 ∷ word 1 (s .size) ∷ []) (after-none ∙ ap (λ (b : Bool). cond b (word 0 3 ∷ word 1 (s .size) ∷ []) (word 0 4 ∷ [])) (eq-eqb (s .end) 3 e))
+      told-full e = told (wordFrom 0 3 ∷ wordFrom 1 (s .size) ∷ []) (after-none ∙ ap (λ (b : Bool). cond b (wordFrom 0 3 ∷ wordFrom 1 (s .size) ∷ []) (wordFrom 0 4 ∷ [])) (eq-eqb (s .end) 3 e))
 
       pub told-more : (s .end ≡ 3 → ⊥) → set counted 0 4 ≡ written (toldWords s) old
-      told-more f = told (word 0 4 ∷ []) (after-none ∙ ap (λ (b : Bool). cond b (word 0 3 ∷ word 1 (s .size) ∷ []) (word 0 4 ∷ [])) (ne-eqb (s .end) 3 f))
+      told-more f = told (wordFrom 0 4 ∷ []) (after-none ∙ ap (λ (b : Bool). cond b (wordFrom 0 3 ∷ wordFrom 1 (s .size) ∷ []) (wordFrom 0 4 ∷ [])) (ne-eqb (s .end) 3 f))
 
   pub told-found : s .end ≡ 1 → written (foundWords (s .root)) counted ≡ written (toldWords s) old
   told-found e =
       told (foundWords (s .root))
-      (ap (λ (b : Bool). cond b (foundWords (s .root)) (cond (eqb (s .end) 2) (word 0 2 ∷ []) (cond (eqb (s .end) 3) (word 0 3 ∷ word 1 (s .size) ∷ []) (word 0 4 ∷ [])))) (eq-eqb (s .end) 1 e))
+      (ap (λ (b : Bool). cond b (foundWords (s .root))
+      (cond (eqb (s .end) 2) (wordFrom 0 2 ∷ []) (cond (eqb (s .end) 3) (wordFrom 0 3 ∷ wordFrom 1 (s .size) ∷ []) (wordFrom 0 4 ∷ []))))
+      (eq-eqb (s .end) 1 e))

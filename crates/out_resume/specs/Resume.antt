@@ -13,24 +13,24 @@ use Rattle.slices.specs.declared.Resumed.the-variants.{Goes}
 use Rattle.slices.specs.declared.state.State.{State}
 use Rattle.slices.specs.Slices.{resumeRowsWith}
 use Rattle.slices.specs.Resume.{Called}
-use Rattle.out.specs.Out.{Named, word, written, longShort}
+use Rattle.out.specs.Out.{Named, wordFrom, written, longShort}
 use Rattle.state_words.specs.Words.{stateRead, Narrow}
 use Rattle.state_words.specs.Written.{stateShort, stateOver}
 
 -- "out as search's": at FOUND the case, the size, and the root's code, left, right, size
 abbrev pub foundWords : Node → List Named
 foundWords root =
-    word 0 1 ∷ word 1 (root .size) ∷ word 4 (root .code) ∷ word 5 (root .left .0) ∷ word 6 (root .right .0) ∷ word 7 (root .size) ∷ []
+    wordFrom 0 1 ∷ wordFrom 1 (root .size) ∷ wordFrom 4 (root .code) ∷ wordFrom 5 (root .left .0) ∷ wordFrom 6 (root .right .0) ∷ wordFrom 7 (root .size) ∷ []
 
 -- ".. with case 4 MORE": 2 is NONE, and 3 is FULL with its size
 abbrev pub endWords : State → List Named
 endWords s =
     cond (eqb (s .end) 1) (foundWords (s .root))
-    (cond (eqb (s .end) 2) (word 0 2 ∷ []) (cond (eqb (s .end) 3) (word 0 3 ∷ word 1 (s .size) ∷ []) (word 0 4 ∷ [])))
+    (cond (eqb (s .end) 2) (wordFrom 0 2 ∷ []) (cond (eqb (s .end) 3) (wordFrom 0 3 ∷ wordFrom 1 (s .size) ∷ []) (wordFrom 0 4 ∷ [])))
 
 -- words 2, 3 and 8: tried, kept, dropped
 abbrev pub toldWords : State → List Named
-toldWords s = word 2 (s .counts .tried) ∷ word 3 (s .counts .kept) ∷ word 8 (s .counts .dropped) ∷ endWords s
+toldWords s = wordFrom 2 (s .counts .tried) ∷ wordFrom 3 (s .counts .kept) ∷ wordFrom 8 (s .counts .dropped) ∷ endWords s
 
 module _ (i : Input) (t : Cols) (budget : ℕ) (state old : List ℕ) where
   -- "1, 2 (budget above 1,000,000 too), 3 (state below 16 words too), 4, 5, 6, 7, 14"

@@ -9,7 +9,7 @@ use lib.ListN.{getD}
 use Rattle.formula.specs.Nodes.{Node}
 use Rattle.walk.specs.Walk.{found, none, full}
 use Rattle.walk.specs.Input.{Input}
-use Rattle.walk.specs.Promises.{Table, Found, Full, NoneBelow}
+use Rattle.walk.specs.Promises.{Table, FoundAs, Full, NoneBelow}
 use Rattle.candidate.specs.declared.counts.Counts.{Counts}
 use Rattle.table.specs.Slices.{Cols}
 use Rattle.search.specs.Promises.{Holding, CountedTo}
@@ -36,7 +36,7 @@ pub record Says (i : Input) (t u : Cols) (out : List ℕ) : Type 0 where
   pub one-of : (wordAt out 0 ≡ 1) ⊎ (wordAt out 0 ≡ 2) ⊎ (wordAt out 0 ≡ 3)
   -- the root node over the nodes in the slices is a formula that uses only what was offered, keeps to the bound and separates, and no smaller one does
   pub when-found : wordAt out 0 ≡ 1 → (wordAt out 1 ≡ wordAt out 7) × CountedTo i t u (found (rootIn out)) (countsIn out) × AddsUp out 1
-      × ((k : Table) × Holding i t u (wordAt out 3) k × Found i (rootIn out) k)
+      × ((k : Table) × Holding i t u (wordAt out 3) k × FoundAs i (rootIn out) k)
   -- no formula over what was offered that keeps to the bound separates
   pub when-none : wordAt out 0 ≡ 2 → CountedTo i t u none (countsIn out) × AddsUp out 0 × NoneBelow i (i .bound + 1)
   -- the walk needs a place beyond the room, and no formula smaller than the size in word 1 separates

@@ -10,23 +10,23 @@ use Rattle.search.specs.declared.SearchAnswer.the-variants.{Found, None, Full, 
 use Rattle.table.specs.Slices.{Cols}
 use Rattle.checks.specs.Refusals.{searchRowsWith}
 use Rattle.search.specs.Search.{Searched}
-use Rattle.out.specs.Out.{Named, word, written, longShort}
+use Rattle.out.specs.Out.{Named, wordFrom, written, longShort}
 
 -- "out = case (1 found, 2 none, 3 full), size (found, full), tried, kept, and at found the root's code, left, right, size; out[8] = dropped"
 abbrev pub searchWords : SearchAnswer → List Named
 searchWords (Found root n) =
-    word 0 1
-    ∷ word 1 (root .size)
-    ∷ word 2 (n .tried)
-    ∷ word 3 (n .kept)
-    ∷ word 4 (root .code)
-    ∷ word 5 (root .left .0)
-    ∷ word 6 (root .right .0)
-    ∷ word 7 (root .size)
-    ∷ word 8 (n .dropped)
+    wordFrom 0 1
+    ∷ wordFrom 1 (root .size)
+    ∷ wordFrom 2 (n .tried)
+    ∷ wordFrom 3 (n .kept)
+    ∷ wordFrom 4 (root .code)
+    ∷ wordFrom 5 (root .left .0)
+    ∷ wordFrom 6 (root .right .0)
+    ∷ wordFrom 7 (root .size)
+    ∷ wordFrom 8 (n .dropped)
     ∷ []
-searchWords (None n) = word 0 2 ∷ word 2 (n .tried) ∷ word 3 (n .kept) ∷ word 8 (n .dropped) ∷ []
-searchWords (Full size n) = word 0 3 ∷ word 1 size ∷ word 2 (n .tried) ∷ word 3 (n .kept) ∷ word 8 (n .dropped) ∷ []
+searchWords (None n) = wordFrom 0 2 ∷ wordFrom 2 (n .tried) ∷ wordFrom 3 (n .kept) ∷ wordFrom 8 (n .dropped) ∷ []
+searchWords (Full size n) = wordFrom 0 3 ∷ wordFrom 1 size ∷ wordFrom 2 (n .tried) ∷ wordFrom 3 (n .kept) ∷ wordFrom 8 (n .dropped) ∷ []
 searchWords (Refused k) = []
 
 module _ (i : Input) (t : Cols) (old : List ℕ) where

@@ -21,7 +21,7 @@ use Rattle.reader.specs.declared.Parsed.the-variants.{Nodes, Broken, Sto
 use Rattle.descent.specs.declared.judge.Judged.{Judged}
 use Rattle.descent.specs.declared.judge.Judged.the-variants.{Nodes as Sized, Broken as BrokenNames, Long, Room as NoRoom, Stops as StopsAt, Unknown as UnknownName, Large}
 use Rattle.reader.specs.Words.{mostBytes, Deep}
-use Rattle.reader.specs.Parsing.{saidParsed, Row, Decides, Columns, columns, roomOf, written, longText, noFormula, unknownName, largeFormula, shortRoom, Taken, Parses}
+use Rattle.reader.specs.Parsing.{saidParsed, ParseRow, Decides, Columns, columns, roomOf, written, longText, noFormula, unknownName, largeFormula, shortRoom, Taken, Parses}
 use Rattle.descent.specs.Packed.{codesBy}
 use Rattle.descent.specs.Judging.{AllKnown, JudgedIs}
 use Rattle.reader.specs.Lent.{Enough, Unpacked, ReadsGood}
@@ -46,7 +46,7 @@ module _ (file text : List ℕ) (old : Columns) where
 
   -- ---- rows that are not given
 
-  abbrev Free : Row → Type 0
+  abbrev Free : ParseRow → Type 0
   Free row = (vs : List ℕ) → row .given vs → ⊥
 
   not-long : length text ≤ mostBytes → Free (longText file text old)

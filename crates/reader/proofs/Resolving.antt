@@ -21,7 +21,7 @@ use Rattle.names.specs.declared.lookup.Found.the-variants.{At, Nothing}
 use Rattle.names.proofs.Finding.{FoundIs, found-is}
 use Rattle.text.specs.Tokens.{Named}
 use Rattle.grammar.specs.Name.{Name}
-use Rattle.grammar.specs.Token.{Atom, name, constant, Typed, Token, pre, mid, atom, opens, closes, spell, Good, isWord, endsAsWord, Apart, Spells, end, gap, token}
+use Rattle.grammar.specs.Token.{Atom, name, constant, Typed, Token, pre, mid, atom, opens, closes, spell, Good, isWord, endsAsWord, Apart, SpelledBy, end, gap, token}
 use Rattle.grammar.specs.Grammar.{Derives, alone, prefix, bracket, between, looser, Reads}
 use Rattle.grammar.specs.Naming.{typed}
 use Rattle.grammar.specs.Nodes.{node, nodesOf}
@@ -181,7 +181,7 @@ module _ (file : List ℕ) where
   at-token before text opens g a c known = tt
   at-token before text closes g a c known = tt
 
-  spelled : {ts : List Token} {text : List ℕ} → Spells ts text → (before : List ℕ) → Clean before text → AllKnown file (before ++ text) → All Listed ts
+  spelled : {ts : List Token} {text : List ℕ} → SpelledBy ts text → (before : List ℕ) → Clean before text → AllKnown file (before ++ text) → All Listed ts
   unfolding All
   spelled end before c known = tt
   spelled (gap {ts} {text} s) before c known =

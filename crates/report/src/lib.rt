@@ -37,7 +37,9 @@ fn write(
     text: &mut [u8],
 ) -> Reported
     requires { ⌜ Decided (checkRows (recording r m (now marks) (now lengths) (now words)) (nodes (now codes) (now lefts) (now rights) (now sizes)) (nodeOf root)) 0 ⌝ }
-    ensures { λ a. ⌜ Reports (recording r m (now (marks .entry)) (now (lengths .entry)) (now (words .entry))) (nodes (now (codes .entry)) (now (lefts .entry)) (now (rights .entry)) (now (sizes .entry))) (nodeOf root) (now (text .entry)) (saidReport a) (now (text .exit)) ⌝ }
+    ensures { λ a. ⌜ Reports (recording r m (now (marks .entry)) (now (lengths .entry)) (now (words .entry)))
+        (nodes (now (codes .entry)) (now (lefts .entry)) (now (rights .entry)) (now (sizes .entry))) (nodeOf root) (now (text .entry)) (saidReport a)
+        (now (text .exit)) ⌝ }
 {
     let under = places_under(codes, lefts, rights, sizes, root);
     let mut whole = [0u8; LONGEST];
@@ -76,7 +78,9 @@ pub fn report(
     root: Node,
     text: &mut [u8],
 ) -> Reported
-    ensures { λ a. ⌜ Reports (recording r m (now (marks .entry)) (now (lengths .entry)) (now (words .entry))) (nodes (now (codes .entry)) (now (lefts .entry)) (now (rights .entry)) (now (sizes .entry))) (nodeOf root) (now (text .entry)) (saidReport a) (now (text .exit)) ⌝ }
+    ensures { λ a. ⌜ Reports (recording r m (now (marks .entry)) (now (lengths .entry)) (now (words .entry)))
+        (nodes (now (codes .entry)) (now (lefts .entry)) (now (rights .entry)) (now (sizes .entry))) (nodeOf root) (now (text .entry)) (saidReport a)
+        (now (text .exit)) ⌝ }
 {
     let verdict = verdict::check(
         r,

@@ -97,15 +97,18 @@ module _ {r m : ℕ} {masks words matrices : List ℕ} {code left right : ℕ} w
 
   module _ {old new : List ℕ} where
     pub proposition-told : {p : ℕ} → code ≡ 16 → m ≤ mostPropositions → left < m → m * r ≤ length words → p ≡ min left 255
-        → Filled r old (λ j w. w ≡ getD words (j * m + p) 0) new → Told (Reads r m masks words matrices code left right) (Filled r old (RowIs r m masks words matrices code left right) new) (new ≡ old) true
+        → Filled r old (λ j w. w ≡ getD words (j * m + p) 0) new → Told (Reads r m masks words matrices code left right)
+        (Filled r old (RowIs r m masks words matrices code left right) new) (new ≡ old) true
     proposition-told {p} e a b c q f =
         let n : p ≡ left = omega arith in
         (Reads.proposition (sym e) a b c, filled-as (λ j w l h. RowIs.proposition (sym e) (h ∙ ap (λ (x : ℕ). getD words (j * m + x) 0) n)) f)
 
-    pub false-told : code ≡ 17 → Filled r old (λ j w. w ≡ 0) new → Told (Reads r m masks words matrices code left right) (Filled r old (RowIs r m masks words matrices code left right) new) (new ≡ old) true
+    pub false-told : code ≡ 17 → Filled r old (λ j w. w ≡ 0) new → Told (Reads r m masks words matrices code left right)
+        (Filled r old (RowIs r m masks words matrices code left right) new) (new ≡ old) true
     false-told e f = (Reads.constant false (sym e), filled-as (λ j w l h. RowIs.none (sym e) h) f)
 
-    pub true-told : code ≡ 18 → Filled r old (λ j w. Means width w (Placed (At (getD masks j 0)))) new → Told (Reads r m masks words matrices code left right) (Filled r old (RowIs r m masks words matrices code left right) new) (new ≡ old) true
+    pub true-told : code ≡ 18 → Filled r old (λ j w. Means width w (Placed (At (getD masks j 0)))) new → Told
+        (Reads r m masks words matrices code left right) (Filled r old (RowIs r m masks words matrices code left right) new) (new ≡ old) true
     true-told e f = (Reads.constant true (sym e), filled-as (λ j w l h. RowIs.all (sym e) h) f)
 
 -- ---- from the groups to the candidate

@@ -39,7 +39,7 @@ pub record Holding (i : Input) (t u : Cols) (kept : ℕ) (k : Table) : Type 0 wh
 -- the root node over the table
 abbrev pub FoundSmallest : Type 0
 FoundSmallest = (i : Input) (t u : Cols) (root : Node) (n : Counts) → Searched i t (Found root n) u
-    → (k : Table) × Holding i t u (n .kept) k × walk.Found i (nodeOf root) k
+    → (k : Table) × Holding i t u (n .kept) k × walk.FoundAs i (nodeOf root) k
 
 -- ""None" only where no such formula within the bound separates"
 abbrev pub NoneMeansNone : Type 0

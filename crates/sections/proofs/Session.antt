@@ -8,7 +8,7 @@ use Rattle.words.specs.Word.{width}
 use Rattle.reading.specs.declared.Step.{Step}
 use Rattle.reading.specs.declared.Step.the-variants.{Read, Broken}
 use Rattle.reading.specs.Reading.{Got, got, bad, andThen, each, byte, within, stepOf}
-use Rattle.sections.specs.Sections.{word, session}
+use Rattle.sections.specs.Sections.{eightBytes, session}
 use Rattle.sections.specs.Inner.{wordCount}
 use Rattle.reading.proofs.Steps.{step-broken, byte-read}
 
@@ -27,8 +27,8 @@ module _ (file : List ℕ) where
       counts n (got ws next) = refl
       counts n (bad o) = refl
 
-      pub session-words : {n b : ℕ} → s ≡ Read n b → (t : Step) → t ≡ stepOf length (each (λ _. word n) m [] file b) → t ≡ stepOf wordCount (session m file at)
+      pub session-words : {n b : ℕ} → s ≡ Read n b → (t : Step) → t ≡ stepOf length (each (λ _. eightBytes n) m [] file b) → t ≡ stepOf wordCount (session m file at)
       unfolding session
       session-words {n} {b} p t h =
           rw (byte-read r (byte (within 0 1) file at) e q, byte-read s (byte (within 0 width) file a) d p)
-          (h ∙ counts n (each (λ _. word n) m [] file b))
+          (h ∙ counts n (each (λ _. eightBytes n) m [] file b))

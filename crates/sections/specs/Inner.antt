@@ -2,10 +2,10 @@
 -- Assumes nothing.
 use Prim.Native.Nat.{ℕ}
 use lib.ListN.{length}
-use Rattle.sections.specs.Sections.{Session}
+use Rattle.sections.specs.Sections.{FileSession}
 
 abbrev pub nothing : {A : Type 0} → A → ℕ
 nothing a = 0
 
-abbrev pub wordCount : Session → ℕ
+abbrev pub wordCount : FileSession → ℕ
 wordCount s = length (s .words)

@@ -5,8 +5,8 @@ use Prim.Native.Nat.{ℕ}
 use Rattle.rules.specs.Limits.{mostSize}
 
 -- "sessions r 1 to 32"
-abbrev pub sessions : ℕ
-sessions = 32
+abbrev pub fileSessions : ℕ
+fileSessions = 32
 
 -- "propositions m 1 to 16"
 abbrev pub propositions : ℕ

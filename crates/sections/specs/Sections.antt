@@ -7,12 +7,12 @@ use lib.Dec.{eqb, leb, ltb}
 use lib.ListN.{length, take, drop}
 use Rattle.words.specs.Word.{width}
 use Rattle.sequence.specs.Operators.{Coded, unary, binary, neither, decode}
-use Rattle.sections.specs.Numbers.{sessions}
+use Rattle.sections.specs.Numbers.{fileSessions}
 use Rattle.reading.specs.Reading.{got, bad, Reader, andThen, each, byte, within, counted, isIn}
 
 -- ---- sessions
 
-pub record Session : Type 0 where
+pub record FileSession : Type 0 where
   pub mark : ℕ
   pub length : ℕ
   pub words : List ℕ
@@ -23,21 +23,21 @@ number [] = 0
 number (b ∷ bs) = b + 256 * number bs
 
 -- "a bad word's first byte"; "A word cut off is the file ending early". No bit at or above n is set: it is below 2 ^ n.
-unfoldable pub word : ℕ → Reader ℕ
-word n file at =
+unfoldable pub eightBytes : ℕ → Reader ℕ
+eightBytes n file at =
     cond (leb (at + 8) (length file))
     (cond (ltb (number (take 8 (drop at file))) (2 ^ n)) (got (number (take 8 (drop at file))) (at + 8)) (bad at))
     (bad (length file))
 
-unfoldable pub session : ℕ → Reader Session
+unfoldable pub session : ℕ → Reader FileSession
 session m file at =
     andThen (byte (within 0 1) file at) (λ mark a.
     andThen (byte (within 0 width) file a) (λ n b.
-    andThen (each (λ _. word n) m [] file b) (λ words next.
+    andThen (each (λ _. eightBytes n) m [] file b) (λ words next.
     got (record { mark = mark; length = n; words = words }) next)))
 
-abbrev pub allSessions : ℕ → Reader (List Session)
-allSessions m = counted 1 sessions (λ _. session m)
+abbrev pub allSessions : ℕ → Reader (List FileSession)
+allSessions m = counted 1 fileSessions (λ _. session m)
 
 -- ---- codes
 

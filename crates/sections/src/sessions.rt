@@ -12,7 +12,7 @@ ghost use lib.ListN.{length};
 ghost use lib.Dec.{ltb};
 ghost use Rattle.words.specs.Word.{width};
 ghost use Rattle.reading.specs.Reading.{each, stepOf};
-ghost use Rattle.sections.specs.Sections.{word, session, allSessions};
+ghost use Rattle.sections.specs.Sections.{eightBytes, session, allSessions};
 ghost use Rattle.sections.specs.Inner.{nothing, wordCount};
 
 // The most sessions of a file; for the contracts it is in specs/Numbers.antt. It is the file's own, since a later request raises the library's alone.
@@ -32,7 +32,7 @@ fn is_clear(n: usize, w: u64) -> bool
 // The word at an offset, of a session of length n.
 fn word_step(file: &[u8], at: usize, n: usize) -> Step
     requires { ⌜ n ≤ width ⌝ }
-    ensures { λ r. ⌜ r ≡ stepOf nothing (word n (now (file .entry)) at) ⌝ }
+    ensures { λ r. ⌜ r ≡ stepOf nothing (eightBytes n (now (file .entry)) at) ⌝ }
 {
     let left = bytes_left(file, at);
     if left < 8 {
@@ -52,7 +52,7 @@ fn word_step(file: &[u8], at: usize, n: usize) -> Step
 // m words of a session of length n.
 fn words_from(file: &[u8], at: usize, n: usize, m: usize) -> Step
     requires { ⌜ n ≤ width ⌝ }
-    ensures { λ r. ⌜ r ≡ stepOf length (each (λ _. word n) m [] (now (file .entry)) at) ⌝ }
+    ensures { λ r. ⌜ r ≡ stepOf length (each (λ _. eightBytes n) m [] (now (file .entry)) at) ⌝ }
 {
     let mut i: usize = 0;
     let mut p = at;

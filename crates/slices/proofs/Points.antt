@@ -23,7 +23,7 @@ use Rattle.order.proofs.Layers.{first-layer}
 use Rattle.order.proofs.Rest.{step-left, step-safe, end-left}
 use Rattle.rows.specs.Formulas.{nothing, Makes}
 use Rattle.table.specs.Slices.{Cols}
-use Rattle.table.specs.Formulas.{Holds}
+use Rattle.table.specs.Formulas.{HoldsKept}
 use Rattle.candidate.specs.declared.Verdict.{Verdict}
 use Rattle.candidate.specs.declared.Verdict.the-variants.{Found, Dropped, Full, Kept}
 use Rattle.candidate.specs.Judge.{comes, Posed, Does}
@@ -48,7 +48,7 @@ comes-going Kept e x k n c f l d = ap (going (k ++ (x ∷ []))) (sym (counts-are
 
 module _ {i : Input} {t₀ t t′ : Cols} {k : Table} {starts : List ℕ} {s kept₀ : ℕ} (w : Standing i t₀ t k starts s kept₀) (x : Candidate (List ℕ))
     (size : x .node .size ≡ s) where
-  module _ {kept′ : ℕ} (h : Holds i (k ++ (x ∷ [])) t₀ t′) (counted : kept′ ≡ length (k ++ (x ∷ []))) where
+  module _ {kept′ : ℕ} (h : HoldsKept i (k ++ (x ∷ [])) t₀ t′) (counted : kept′ ≡ length (k ++ (x ∷ []))) where
     more : length (k ++ (x ∷ [])) ≡ length k + 1
     more = length-append k (x ∷ [])
 
@@ -78,7 +78,7 @@ module _ {i : Input} {t₀ t t′ : Cols} {k : Table} {starts : List ℕ} {s kep
       begins = λ u l. split-push nothing k u (start starts u) x (w .begins u l) (omega (arith, size));
     }
 
-  pub standing-after : (v : Verdict) → endsWalk v ≡ false → (n : Counts) → n .kept ≡ kept₀ → n .kept + 1 < 2 ^ 64 → Holds i (kept (comes v x k (tallyOf n))) t₀ t′
+  pub standing-after : (v : Verdict) → endsWalk v ≡ false → (n : Counts) → n .kept ≡ kept₀ → n .kept + 1 < 2 ^ 64 → HoldsKept i (kept (comes v x k (tallyOf n))) t₀ t′
       → Standing i t₀ t′ (kept (comes v x k (tallyOf n))) starts s (countedBy v n .kept)
   standing-after Found e n c f h = absurd (true≢false e)
   standing-after Dropped e n c f h = record { counted = c ∙ w .counted; holds = h; rising = w .rising; small = w .small; begins = w .begins }

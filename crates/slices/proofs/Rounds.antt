@@ -39,7 +39,7 @@ use Rattle.rows.specs.Formulas.{nothing, Masks}
 use Rattle.rows.proofs.Matrices.{length-map, masks-made}
 use Rattle.rows.proofs.Products.{place-end}
 use Rattle.table.specs.Slices.{Cols}
-use Rattle.table.specs.Formulas.{Holds, RoomAt}
+use Rattle.table.specs.Formulas.{HoldsKept, RoomAt}
 use Rattle.checks.specs.Promises.{RoomThere}
 use Rattle.candidate.specs.declared.Verdict.{Verdict}
 use Rattle.candidate.specs.declared.Verdict.the-variants.{Found, Dropped, Full, Kept}
@@ -80,7 +80,7 @@ began sizes kept s h l = record {
 -- ---- the table of a point, told by itself
 
 -- the column of sizes, up to the number kept
-pub kept-sizes : {i : Input} {k : Table} {t₀ t : Cols} {kept : ℕ} → kept ≡ length k → Holds i k t₀ t → take kept (t .sizes) ≡ map (λ c. c .node .size) k
+pub kept-sizes : {i : Input} {k : Table} {t₀ t : Cols} {kept : ℕ} → kept ≡ length k → HoldsKept i k t₀ t → take kept (t .sizes) ≡ map (λ c. c .node .size) k
 kept-sizes {k = k} {t₀} {t} {kept} e h =
     ap (λ (x : Cols). take kept (x .sizes)) (h .are)
     ∙ take-at (map (λ c. c .node .size) k) _ kept (length-map (λ c. c .node .size) k ∙ sym e)
@@ -161,7 +161,7 @@ one-counted k n d c f p q r =
 -- ---- at the end
 
 module _ (i : Input) (t₀ : Cols) {t′ : Cols} (target : Cut (List ℕ)) (s j a : ℕ) where
-  stands-none : (k : Table) (n : Counts) → n .kept ≡ length k → Holds i k t₀ t′ → s ≡ i .bound → length (layer (offer i) s k) ≤ j
+  stands-none : (k : Table) (n : Counts) → n .kept ≡ length k → HoldsKept i k t₀ t′ → s ≡ i .bound → length (layer (offer i) s k) ≤ j
       → target ≡ goOn i a (settled i s j (going k (tallyOf n))) → StandsIn i t₀ target (noneState s n) t′
   stands-none k n c h e l f =
       subst (λ (x : Cut (List ℕ)). StandsIn i t₀ x (noneState s n) t′)

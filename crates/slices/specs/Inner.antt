@@ -23,7 +23,7 @@ use Rattle.order.specs.Ahead.{ahead, first, leafCursor, cursorAfter}
 use Rattle.order.specs.Starts.{startsOf}
 use Rattle.rows.specs.Formulas.{nothing, matrixAt}
 use Rattle.table.specs.Slices.{Cols}
-use Rattle.table.specs.Formulas.{Holds}
+use Rattle.table.specs.Formulas.{HoldsKept}
 use Rattle.checks.specs.Promises.{RoomThere}
 use Rattle.candidate.specs.declared.Verdict.{Verdict}
 use Rattle.candidate.specs.declared.Verdict.the-variants.{Found, Dropped, Full, Kept}
@@ -79,7 +79,7 @@ make i k s c = record { node = record { code = c .code; left = c .left; right = 
 -- the slices hold the table k, of sizes up to s, which begin where `starts` says
 pub record Standing (i : Input) (t₀ t : Cols) (k : Table) (starts : List ℕ) (s kept : ℕ) : Type 0 where
   pub counted : kept ≡ length k
-  pub holds : Holds i k t₀ t
+  pub holds : HoldsKept i k t₀ t
   pub rising : (p q : ℕ) → p ≤ q → q < length k → sizeAt nothing k p ≤ sizeAt nothing k q
   pub small : (p : ℕ) → p < length k → sizeAt nothing k p ≤ s
   pub begins : (u : ℕ) → u ≤ s → Split nothing k u (start starts u)

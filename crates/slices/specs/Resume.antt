@@ -24,14 +24,14 @@ pub record Went (i : Input) (t : Cols) (budget : ℕ) (state after : State) (t�
   pub runs : (t₀ : Cols) → RoomThere i t₀ → (n : ℕ) → StandsAt i t₀ n state t → StandsAt i t₀ (n + budget) after t′
 
 -- a refusal "writes nothing"
-abbrev pub Outcome : Input → Cols → ℕ → State → Resumed → Cols → Type 0
-Outcome i t budget state (Goes after) t′ = Went i t budget state after t′
-Outcome i t budget state (Refused k) t′ = (0 < k) × (t′ ≡ t)
+abbrev pub CallOutcome : Input → Cols → ℕ → State → Resumed → Cols → Type 0
+CallOutcome i t budget state (Goes after) t′ = Went i t budget state after t′
+CallOutcome i t budget state (Refused k) t′ = (0 < k) × (t′ ≡ t)
 
 -- the number is that of the first of the rows that is given, 0 where none is
 pub record CalledBy (rows : List Row) (i : Input) (t : Cols) (budget : ℕ) (state : State) (answer : Resumed) (t′ : Cols) : Type 0 where
   pub decided : Decided rows (numberOf answer)
-  pub outcome : Outcome i t budget state answer t′
+  pub outcome : CallOutcome i t budget state answer t′
 
 -- a call with a budget of at most 1,000,000
 abbrev pub Called : Input → Cols → ℕ → State → Resumed → Cols → Type 0

@@ -14,15 +14,15 @@ pub record Spelt (i : ℕ) (word : Word) : Type 0 where
 
 -- the rows as the code has them
 abbrev row : List ℕ → ℕ → Word
-row letters bytes = record { letters = letters; bytes = bytes }
+wordRow letters bytes = record { letters = letters; bytes = bytes }
 
 abbrev pub words : List Word
 words =
-    row (85 ∷ 0 ∷ 0 ∷ 0 ∷ 0 ∷ []) 1
-    ∷ row (82 ∷ 0 ∷ 0 ∷ 0 ∷ 0 ∷ []) 1
-    ∷ row (88 ∷ 0 ∷ 0 ∷ 0 ∷ 0 ∷ []) 1
-    ∷ row (70 ∷ 0 ∷ 0 ∷ 0 ∷ 0 ∷ []) 1
-    ∷ row (71 ∷ 0 ∷ 0 ∷ 0 ∷ 0 ∷ []) 1
-    ∷ row (116 ∷ 114 ∷ 117 ∷ 101 ∷ 0 ∷ []) 4
-    ∷ row (102 ∷ 97 ∷ 108 ∷ 115 ∷ 101 ∷ []) 5
+    wordRow (85 ∷ 0 ∷ 0 ∷ 0 ∷ 0 ∷ []) 1
+    ∷ wordRow (82 ∷ 0 ∷ 0 ∷ 0 ∷ 0 ∷ []) 1
+    ∷ wordRow (88 ∷ 0 ∷ 0 ∷ 0 ∷ 0 ∷ []) 1
+    ∷ wordRow (70 ∷ 0 ∷ 0 ∷ 0 ∷ 0 ∷ []) 1
+    ∷ wordRow (71 ∷ 0 ∷ 0 ∷ 0 ∷ 0 ∷ []) 1
+    ∷ wordRow (116 ∷ 114 ∷ 117 ∷ 101 ∷ 0 ∷ []) 4
+    ∷ wordRow (102 ∷ 97 ∷ 108 ∷ 115 ∷ 101 ∷ []) 5
     ∷ []

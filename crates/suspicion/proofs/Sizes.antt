@@ -22,7 +22,7 @@ use Rattle.line.specs.Line.{refusedWord, newline, sessionWord, disagreesWord, d
 use Rattle.line.proofs.Digits.{refused-short}
 use Rattle.writing.proofs.Digits.{few-digits}
 use Rattle.suspicion.specs.Caret.{caret, pointedLines}
-use Rattle.suspicion.specs.Suspicion.{roomy, verdictLine, Shows, Says, LinesOf}
+use Rattle.suspicion.specs.Suspicion.{roomy, verdictLine, Shows, TypedSays, TypedLinesOf}
 use Rattle.suspicion.proofs.Typed.{stops-within, unknown-within}
 
 disagrees-short : (session : ℕ) → length (disagreesLine session) ≤ 39
@@ -67,12 +67,12 @@ module _ (i : Recording) (names typed : List ℕ) (c : Columns) where
       omega (arith, pointed-short typed o 13 (w .1) (w .0), ap length s)
   shows-short (parsed.Refused k) out a s = omega (arith, refused-short k, ap length s)
 
-pub says-short : (g : Got Parts) (typed out : List ℕ) → Says g typed out → length out ≤ 8248
+pub says-short : (g : Got Parts) (typed out : List ℕ) → TypedSays g typed out → length out ≤ 8248
 says-short (bad o) typed out s = omega (arith, refused-at-short 8 o, ap length s)
 says-short (got p next) typed out s = shows-short _ _ typed (s .left) (s .answer) out (s .parses) (s .shows)
 
 -- where as much is lent, all lines stand
-pub suspicion-fits : {typed file old new : List ℕ} {r : ℕ} → 8248 ≤ length old → (w : LinesOf typed file old new r) → r ≡ length (w .lines)
+pub suspicion-fits : {typed file old new : List ℕ} {r : ℕ} → 8248 ≤ length old → (w : TypedLinesOf typed file old new r) → r ≡ length (w .lines)
 suspicion-fits {typed} {file} h w =
     let s = says-short (wholeFile file) typed (w .lines) (w .says) in
     omega (arith, wrote-whole (w .lines) (w .wrote) (omega arith))

@@ -21,7 +21,7 @@ use Rattle.reader.specs.Words.{mostBytes, FirstUnknown, Deep}
 use Rattle.writing.specs.Writing.{mostDigits}
 use Rattle.line.specs.Line.{refusedLine, separatesLine, disagreesLine, refusedAtLine}
 use Rattle.suspicion.specs.Caret.{pointedLines}
-use Rattle.suspicion.specs.Suspicion.{recordingOf, LinesOf}
+use Rattle.suspicion.specs.Suspicion.{recordingOf, TypedLinesOf}
 
 -- what is typed is this formula: the text has one tree by the grammar, which is the formula with the file's names, and no other formula has it
 pub record IsTyped (names : List (List ℕ)) (text : List ℕ) (t : Formula) : Type 0 where
@@ -55,5 +55,5 @@ pub record ShownFor (file text out : List ℕ) : Type 0 where
 
 -- whatever is written for a text and a file, a list of bytes, means what it says; 8,248 bytes hold every answer
 abbrev pub SuspicionMeans : Type 0
-SuspicionMeans = (text file : List ℕ) → ((i : ℕ) → getD file i 0 < 256) → (old new : List ℕ) (r : ℕ) → 8248 ≤ length old → LinesOf text file old new r
+SuspicionMeans = (text file : List ℕ) → ((i : ℕ) → getD file i 0 < 256) → (old new : List ℕ) (r : ℕ) → 8248 ≤ length old → TypedLinesOf text file old new r
     → ShownFor file text (take r new)

@@ -7,7 +7,7 @@ use reader::Parsed;
 use verdict::Verdict;
 ghost use Rattle.session.specs.Recording.{recording};
 ghost use Rattle.formula.specs.Kinds.{nodes};
-ghost use Rattle.suspicion.specs.Suspicion.{LinesOf};
+ghost use Rattle.suspicion.specs.Suspicion.{TypedLinesOf};
 ghost use Rattle.suspicion.specs.Inner.{Checked, JudgedBy};
 
 // The line of what the check says of the formula whose root is the node at a place of these.
@@ -96,7 +96,7 @@ fn judged(
 
 // The lines for what is typed and a session file, at the start of the text, as far as there is room; how many bytes were written.
 pub fn of_typed(typed: &[u8], file: &[u8], text: &mut [u8]) -> usize
-    ensures { λ k. ⌜ LinesOf (now (typed .entry)) (now (file .entry)) (now (text .entry)) (now (text .exit)) k ⌝ }
+    ensures { λ k. ⌜ TypedLinesOf (now (typed .entry)) (now (file .entry)) (now (text .entry)) (now (text .exit)) k ⌝ }
 {
     let mut marks = [0u8; rules::SESSIONS];
     let mut lengths = [0u8; rules::SESSIONS];

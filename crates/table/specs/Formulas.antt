@@ -9,7 +9,7 @@ use Rattle.rows.specs.Formulas.{matrixAt, Fine}
 use Rattle.table.specs.Slices.{Cols, tableOver}
 
 -- the slices, which held t₀, hold the table k
-pub record Holds (i : Input) (k : Table) (t₀ t : Cols) : Type 0 where
+pub record HoldsKept (i : Input) (k : Table) (t₀ t : Cols) : Type 0 where
   pub fine : (p : ℕ) → p < length k → Fine i (matrixAt k p)
   pub are : t ≡ tableOver k t₀
 

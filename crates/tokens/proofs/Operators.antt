@@ -18,9 +18,9 @@ use Rattle.grammar.specs.Passing.{Peek, op, nothing, cut, further, expect, alon
 use Rattle.grammar.proofs.Words.{KindIs, kind-is}
 use Rattle.tokens.specs.declared.operator.Op.{Op}
 use Rattle.tokens.specs.declared.operator.Op.the-variants.{Is, Nothing, Cut}
-use Rattle.tokens.specs.Next.{Said, Operator, Arrow, Word}
+use Rattle.tokens.specs.Next.{PeekSaid, Operator, Arrow, Word}
 
-pub said-further : (at : ℕ) (k : Peek) (r : Op) → Said (at + 1) k r → Said at (further k) r
+pub said-further : (at : ℕ) (k : Peek) (r : Op) → PeekSaid (at + 1) k r → PeekSaid at (further k) r
 said-further at (op o n) (Is l r next c) s = (s .0, s .1, omega (arith, s .2), s .3)
 said-further at (op o n) (Nothing i) s = s
 said-further at (op o n) (Cut i) s = s
@@ -84,7 +84,7 @@ module _ (text : List ℕ) where
     unfolding peek kind expect
     op-equiv r e f s =
         let n : (at + 1) + 1 ≡ at + 2 = omega arith in
-        let t : Said ((at + 1) + 1) (expect (62 ∷ []) equiv (drop ((at + 1) + 1) text)) r = rw n (s equiv refl refl refl) in
+        let t : PeekSaid ((at + 1) + 1) (expect (62 ∷ []) equiv (drop ((at + 1) + 1) text)) r = rw n (s equiv refl refl refl) in
         rw (head h e, head (inside (at + 1) 44 f) f) (said-further at (further (expect (62 ∷ []) equiv (drop ((at + 1) + 1) text))) r
         (said-further (at + 1) (expect (62 ∷ []) equiv (drop ((at + 1) + 1) text)) r t))
 
@@ -95,16 +95,16 @@ module _ (text : List ℕ) where
       | no g ↦ rw (head h e, drop-of-length-le text {i = at + 1} (omega arith)) (omega arith)
     ]
 
-    said-word : (o : Binary) (r : Op) → level o ≡ 3 → rightLevel o ≡ 3 → Word text (at + 1) (binaryCode o) 3 r → Said at (alone o (drop (at + 1) text)) r
+    said-word : (o : Binary) (r : Op) → level o ≡ 3 → rightLevel o ≡ 3 → Word text (at + 1) (binaryCode o) 3 r → PeekSaid at (alone o (drop (at + 1) text)) r
     said-word o r p q w = elim (decLt (at + 1) (length text)) [
       | yes g ↦ rw (head g refl) (by-test (isNameByte (getD text (at + 1) 0)) (w o p q refl))
       | no g ↦
           let z : getD text (at + 1) 0 ≡ 0 = List·getD-eq-default text 0 (omega arith) in
-          let v : Said (at + 1) (op o 0) r = subst (λ (x : ℕ). Said (at + 1) (cond (isNameByte x) (cut 0) (op o 0)) r) z (w o p q refl) in
+          let v : PeekSaid (at + 1) (op o 0) r = subst (λ (x : ℕ). PeekSaid (at + 1) (cond (isNameByte x) (cut 0) (op o 0)) r) z (w o p q refl) in
           rw (drop-of-length-le text {i = at + 1} (omega arith)) (said-further at (op o 0) r v)
     ]
       where
-        by-test : (t : Bool) → Said (at + 1) (cond t (cut 0) (op o 0)) r → Said at (cond t (cut 1) (op o 1)) r
+        by-test : (t : Bool) → PeekSaid (at + 1) (cond t (cut 0) (op o 0)) r → PeekSaid at (cond t (cut 1) (op o 1)) r
         by-test true s = said-further at (cut 0) r s
         by-test false s = said-further at (op o 0) r s
 
@@ -127,7 +127,7 @@ module _ (text : List ℕ) where
         z : at ≡ at + 0
         z = omega arith
 
-        by-kind : (k : Kind) → KindIs b k → Said at (peekKind b k (drop (at + 1) text) (peek (drop (at + 1) text))) (Nothing at)
+        by-kind : (k : Kind) → KindIs b k → PeekSaid at (peekKind b k (drop (at + 1) text) (peek (drop (at + 1) text))) (Nothing at)
         by-kind (wordy l) q = rw (ne-eqb b 85 n6, ne-eqb b 82 n7) z
         by-kind square q = z
         by-kind (sign blank) q = absurd (n1 (q .1))

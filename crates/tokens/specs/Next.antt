@@ -18,28 +18,28 @@ use Rattle.tokens.specs.declared.front.First.{First}
 use Rattle.tokens.specs.declared.front.First.the-variants.{Operator as PrefixOperator, Open, Word as LeafWord, Bad as NoOperand}
 
 -- the next operator, with offsets of the whole text
-abbrev pub Said : ℕ → Peek → Op → Type 0
-Said at (op o n) (Is l r next c) = (l ≡ level o) × (r ≡ rightLevel o) × (next ≡ at + n) × (c ≡ binaryCode o)
-Said at (op o n) (Nothing i) = ⊥
-Said at (op o n) (Cut i) = ⊥
-Said at (nothing n) (Is l r next c) = ⊥
-Said at (nothing n) (Nothing i) = i ≡ at + n
-Said at (nothing n) (Cut i) = ⊥
-Said at (cut n) (Is l r next c) = ⊥
-Said at (cut n) (Nothing i) = ⊥
-Said at (cut n) (Cut i) = i ≡ at + n
+abbrev pub PeekSaid : ℕ → Peek → Op → Type 0
+PeekSaid at (op o n) (Is l r next c) = (l ≡ level o) × (r ≡ rightLevel o) × (next ≡ at + n) × (c ≡ binaryCode o)
+PeekSaid at (op o n) (Nothing i) = ⊥
+PeekSaid at (op o n) (Cut i) = ⊥
+PeekSaid at (nothing n) (Is l r next c) = ⊥
+PeekSaid at (nothing n) (Nothing i) = i ≡ at + n
+PeekSaid at (nothing n) (Cut i) = ⊥
+PeekSaid at (cut n) (Is l r next c) = ⊥
+PeekSaid at (cut n) (Nothing i) = ⊥
+PeekSaid at (cut n) (Cut i) = i ≡ at + n
 
 abbrev pub Operator : List ℕ → ℕ → Op → Type 0
-Operator text at r = Said at (peek (drop at text)) r
+Operator text at r = PeekSaid at (peek (drop at text)) r
 
 -- the last byte of `->` or `<->`
 abbrev pub Arrow : List ℕ → ℕ → ℕ → ℕ → Op → Type 0
-Arrow text at code right r = (o : Binary) → level o ≡ 0 → rightLevel o ≡ right → binaryCode o ≡ code → Said at (expect (62 ∷ []) o (drop at text)) r
+Arrow text at code right r = (o : Binary) → level o ≡ 0 → rightLevel o ≡ right → binaryCode o ≡ code → PeekSaid at (expect (62 ∷ []) o (drop at text)) r
 
 -- behind `U` or `R`
 abbrev pub Word : List ℕ → ℕ → ℕ → ℕ → Op → Type 0
 Word text at code right r =
-    (o : Binary) → level o ≡ 3 → rightLevel o ≡ right → binaryCode o ≡ code → Said at (cond (isNameByte (getD text at 0)) (cut 0) (op o 0)) r
+    (o : Binary) → level o ≡ 3 → rightLevel o ≡ right → binaryCode o ≡ code → PeekSaid at (cond (isNameByte (getD text at 0)) (cut 0) (op o 0)) r
 
 -- a word so far goes on from i to r; from there no word's byte comes, or the word has all its 16
 pub record Ran (text : List ℕ) (start i r : ℕ) : Type 0 where

@@ -25,10 +25,10 @@ use Rattle.rules.specs.Lists.{count}
 use Rattle.session.specs.Recording.{Recording, markOf, lengthOf, wordOf}
 use Rattle.formula.specs.Recorded.{markedTrace, markedTraces}
 use Rattle.formula.specs.Rule.{Broken, brokenList}
-use Rattle.verdict.specs.Check.{saidVerdict, checkRows, Agrees, Outcome, CheckAnswer}
+use Rattle.verdict.specs.Check.{saidVerdict, checkRows, Agrees, Judged, CheckAnswer}
 use Rattle.verdict.specs.declared.Verdict.{Verdict}
 use Rattle.formula.specs.Faultless.{Fits}
-use Rattle.verdict.specs.Inner.{traceAt, Ready, Evaluated, AgreesSeq, Checkable, Found, VerdictOn}
+use Rattle.verdict.specs.Inner.{traceAt, Ready, Evaluated, AgreesSeq, Checkable, FirstApart, VerdictOn}
 use Rattle.formula.proofs.Faults.{whole-fits}
 use Rattle.formula.proofs.Spelled.{spelled}
 
@@ -151,16 +151,16 @@ module _ (i : Recording) (t : Formula) where
 
 -- ---- the answers
 
-module _ (i : Recording) (k : List Node) (root : Node) (c : Checkable i k root) {j : ℕ} (f : Found i k root j) where
+module _ (i : Recording) (k : List Node) (root : Node) (c : Checkable i k root) {j : ℕ} (f : FirstApart i k root j) where
   formula : (t : Formula) × Spells codes k root t
   formula = spelled (i .propositions) k (c .all) (length k) (omega arith) root (c .fits)
 
-  names-session : j < i .sessions → (t : Formula) × Spells codes k root t × Outcome i t (0 ∷ j ∷ [])
+  names-session : j < i .sessions → (t : Formula) × Spells codes k root t × Judged i t (0 ∷ j ∷ [])
   names-session h =
       let t = formula in
       (t .0, t .1, inr (j, record { there = h; disagrees = f .here (t .0) (t .1) h; before = f .before (t .0) (t .1) }, refl))
 
-  accepts-formula : i .sessions ≤ j → (t : Formula) × Spells codes k root t × Outcome i t (1 ∷ [])
+  accepts-formula : i .sessions ≤ j → (t : Formula) × Spells codes k root t × Judged i t (1 ∷ [])
   accepts-formula h = let t = formula in (t .0, t .1, inl (all-agree i (t .0) (λ g l. f .before (t .0) (t .1) g (omega arith)), refl))
 
   -- whatever the verdict, where no row is given

@@ -57,7 +57,7 @@ pub record Checkable (i : Recording) (k : List Node) (root : Node) : Type 0 wher
   pub fits : Fits (i .propositions) k (length k) root
 
 -- the sessions before j agree with whatever formula the root spells, and j does not or is their number
-pub record Found (i : Recording) (k : List Node) (root : Node) (j : ℕ) : Type 0 where
+pub record FirstApart (i : Recording) (k : List Node) (root : Node) (j : ℕ) : Type 0 where
   pub upto : j ≤ i .sessions
   pub before : (t : Formula) → Spells codes k root t → (h : ℕ) → h < j → Agrees (markedTrace i h) t
   pub here : (t : Formula) → Spells codes k root t → j < i .sessions → Agrees (markedTrace i j) t → ⊥

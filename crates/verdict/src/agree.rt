@@ -10,7 +10,7 @@ ghost use Prim.Native.Nat.{_≤_, _<_};
 ghost use Rattle.words.specs.Word.{At};
 ghost use Rattle.formula.specs.Kinds.{nodeOf, nodes};
 ghost use Rattle.session.specs.Recording.{recording};
-ghost use Rattle.verdict.specs.Inner.{Checkable, Found, AgreesSeq};
+ghost use Rattle.verdict.specs.Inner.{Checkable, FirstApart, AgreesSeq};
 
 // A session of that mark, and a formula's sequence there.
 fn agrees(mark: u8, seq: CharSeq) -> bool
@@ -40,7 +40,8 @@ pub(crate) fn first_disagreeing(
     root: Node,
 ) -> usize
     requires { ⌜ Checkable (recording r m (now marks) (now lengths) (now words)) (nodes (now codes) (now lefts) (now rights) (now sizes)) (nodeOf root) ⌝ }
-    ensures { λ j. ⌜ Found (recording r m (now (marks .entry)) (now (lengths .entry)) (now (words .entry))) (nodes (now (codes .entry)) (now (lefts .entry)) (now (rights .entry)) (now (sizes .entry))) (nodeOf root) j ⌝ }
+    ensures { λ j. ⌜ FirstApart (recording r m (now (marks .entry)) (now (lengths .entry)) (now (words .entry)))
+        (nodes (now (codes .entry)) (now (lefts .entry)) (now (rights .entry)) (now (sizes .entry))) (nodeOf root) j ⌝ }
 {
     let below = count(codes, lefts, rights, sizes);
     let mut j: usize = 0;

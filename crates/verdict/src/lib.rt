@@ -46,7 +46,8 @@ pub fn check(
     sizes: &[u8],
     root: Node,
 ) -> Verdict
-    ensures { λ v. ⌜ CheckAnswer (recording r m (now (marks .entry)) (now (lengths .entry)) (now (words .entry))) (nodes (now (codes .entry)) (now (lefts .entry)) (now (rights .entry)) (now (sizes .entry))) (nodeOf root) (saidVerdict v) ⌝ }
+    ensures { λ v. ⌜ CheckAnswer (recording r m (now (marks .entry)) (now (lengths .entry)) (now (words .entry)))
+        (nodes (now (codes .entry)) (now (lefts .entry)) (now (rights .entry)) (now (sizes .entry))) (nodeOf root) (saidVerdict v) ⌝ }
 {
     let data = session::data::test(r, m, marks, lengths, words);
     if data != 0 {
@@ -92,7 +93,8 @@ pub fn sequence_of(
     root: Node,
     on: Session,
 ) -> Sequenced
-    ensures { λ a. ⌜ SequenceAnswer (recording r m (now (marks .entry)) (now (lengths .entry)) (now (words .entry))) (nodes (now (codes .entry)) (now (lefts .entry)) (now (rights .entry)) (now (sizes .entry))) (nodeOf root) (on .0) a ⌝ }
+    ensures { λ a. ⌜ SequenceAnswer (recording r m (now (marks .entry)) (now (lengths .entry)) (now (words .entry)))
+        (nodes (now (codes .entry)) (now (lefts .entry)) (now (rights .entry)) (now (sizes .entry))) (nodeOf root) (on .0) a ⌝ }
 {
     let data = session::data::test(r, m, marks, lengths, words);
     if data != 0 {

@@ -52,7 +52,7 @@ module _ (i : Input) where
 
   -- "FOUND": the root node over the kept list is a formula that uses only what was offered, whose size is the size reported and at most B;
   -- it separates, and no smaller one does
-  pub record Found (root : Node) (k : Table) : Type 0 where
+  pub record FoundAs (root : Node) (k : Table) : Type 0 where
     pub formula : Formula
     pub spelled : Spells codes (nodes k) root formula
     pub offered : Offered (language i) formula
@@ -120,7 +120,7 @@ BinaryRowOnly = (op : Binary) (n r x y : ℕ) → Means n r (binaryReading op n 
 -- ---- (1) to (3): FOUND, NONE, FULL
 
 abbrev pub FoundSmallest : Type 0
-FoundSmallest = (i : Input) → Passes i → (root : Node) (k : Table) (n : Tally) → search i ≡ ended (found root) k n → Found i root k
+FoundSmallest = (i : Input) → Passes i → (root : Node) (k : Table) (n : Tally) → search i ≡ ended (found root) k n → FoundAs i root k
 
 abbrev pub NoneMeansNone : Type 0
 NoneMeansNone = (i : Input) → Passes i → (k : Table) (n : Tally) → search i ≡ ended none k n → NoneBelow i (i .bound + 1)

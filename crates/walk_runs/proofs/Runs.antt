@@ -24,7 +24,8 @@ abbrev equals : Input
 equals = inputOf 2 1 5 200 1 (1 ∷ 0 ∷ []) (2 ∷ 2 ∷ []) (1 ∷ 1 ∷ []) (0 ∷ 1 ∷ 2 ∷ 3 ∷ 4 ∷ []) (5 ∷ 6 ∷ 7 ∷ 8 ∷ 9 ∷ 10 ∷ [])
 
 equals-none : brief (search equals) ≡ 2 ∷ 140 ∷ 4 ∷ 136 ∷ []
-unfolding each count ofSize leftSizes finish orders unaryCandidates pairs layer known judge consider through after walk word someOf allOf unaryRow binaryRow constantRow sameRows every separating bit decode
+unfolding each count ofSize leftSizes finish orders unaryCandidates pairs layer known judge consider through after walk word someOf allOf unaryRow
+    binaryRow constantRow sameRows every separating bit decode
 equals-none = refl
 
 -- two propositions, four sessions, all operators
@@ -32,11 +33,13 @@ abbrev four : ℕ → Input
 four room = inputOf 4 2 5 room 0 (1 ∷ 1 ∷ 0 ∷ 0 ∷ []) (3 ∷ 3 ∷ 3 ∷ 3 ∷ []) (5 ∷ 2 ∷ 1 ∷ 6 ∷ 5 ∷ 6 ∷ 0 ∷ 2 ∷ []) (0 ∷ 1 ∷ 2 ∷ 3 ∷ 4 ∷ []) (5 ∷ 6 ∷ 7 ∷ 8 ∷ 9 ∷ 10 ∷ [])
 
 four-found : brief (search (four 200)) ≡ 1 ∷ 4 ∷ 82 ∷ 0 ∷ 5 ∷ 633 ∷ 164 ∷ 468 ∷ []
-unfolding each count ofSize leftSizes finish orders unaryCandidates pairs layer known judge consider through after walk word someOf allOf unaryRow binaryRow constantRow sameRows every separating bit decode
+unfolding each count ofSize leftSizes finish orders unaryCandidates pairs layer known judge consider through after walk word someOf allOf unaryRow
+    binaryRow constantRow sameRows every separating bit decode
 four-found = refl
 
 four-full : brief (search (four 20)) ≡ 3 ∷ 3 ∷ 25 ∷ 20 ∷ 4 ∷ []
-unfolding each count ofSize leftSizes finish orders unaryCandidates pairs layer known judge consider through after walk word someOf allOf unaryRow binaryRow constantRow sameRows every separating bit decode
+unfolding each count ofSize leftSizes finish orders unaryCandidates pairs layer known judge consider through after walk word someOf allOf unaryRow
+    binaryRow constantRow sameRows every separating bit decode
 four-full = refl
 
 -- constants, two unary and two binary operators, sessions of different lengths
@@ -44,5 +47,6 @@ abbrev three : Input
 three = inputOf 3 1 5 200 1 (1 ∷ 0 ∷ 0 ∷ []) (4 ∷ 4 ∷ 2 ∷ []) (9 ∷ 1 ∷ 1 ∷ []) (1 ∷ 4 ∷ []) (8 ∷ 7 ∷ [])
 
 three-found : brief (search three) ≡ 1 ∷ 1 ∷ 8 ∷ 0 ∷ 4 ∷ 56 ∷ 11 ∷ 44 ∷ []
-unfolding each count ofSize leftSizes finish orders unaryCandidates pairs layer known judge consider through after walk word someOf allOf unaryRow binaryRow constantRow sameRows every separating bit decode
+unfolding each count ofSize leftSizes finish orders unaryCandidates pairs layer known judge consider through after walk word someOf allOf unaryRow
+    binaryRow constantRow sameRows every separating bit decode
 three-found = refl

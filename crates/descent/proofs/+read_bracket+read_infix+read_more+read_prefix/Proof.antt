@@ -6,7 +6,30 @@ use native.Mathlib.Omega.{arith}
 use mathlib.Core.Path.{refl, ap, _∙_}
 use lib.ListN.{length, length-set}
 use Rattle.descent.proofs.Scratch.{room-on}
-use Rattle.descent.proofs.Returns.{infix-val, prefix-val, bracket-refused, bracket-closed, bracket-open, infix-refused, infix-more, op-next, more-low, more-nothing, more-cut, more-refused, more-on, operator-next, open-next, word-next, prefix-operator, prefix-operator-refused, prefix-bracket, prefix-leaf, leaf-small, prefix-refused}
+use Rattle.descent.proofs.Returns.{
+  infix-val,
+  prefix-val,
+  bracket-refused,
+  bracket-closed,
+  bracket-open,
+  infix-refused,
+  infix-more,
+  op-next,
+  more-low,
+  more-nothing,
+  more-cut,
+  more-refused,
+  more-on,
+  operator-next,
+  open-next,
+  word-next,
+  prefix-operator,
+  prefix-operator-refused,
+  prefix-bracket,
+  prefix-leaf,
+  leaf-small,
+  prefix-refused,
+}
 use Prim.Native.Nat.{ℕ, _<_, _+_, _-_, _*_}
 use borrow.Fn.Kinds.{In}
 use borrow.Fn.PlainCycle.{Measures, is, falls, and}
@@ -320,7 +343,9 @@ read-more-same-length-2 t c = search needs
 
 read-more-returns-5 : (t : ℕ) → read-more-lts.Need-returns-5 (read-more-calls t) (read-more-at t) read-more.Post
 read-more-returns-5 t c =
-    let s = (c .before .before .before .before .before .before .before .before .before .before .before .before .before .before .before .before .before .before .before .before .before .before .before) in
+    let s =
+    (c .before .before .before .before .before .before .before .before .before .before .before .before .before .before .before .before .before .before .before .before .before .before
+    .before) in
     more-on (s .args .names .now) (s .args .text .now) (s .args .place) (s .args .at) (s .pre .1 .0 .within) (s .args .scratch .now) _
     (s .args .level) (s .args .size) _ _ (c .before .before .read-more .result)
     (c .before .before .before .before .before .before .before .before .before .before .before .before .before .before .before .before .before .o2 .given .1)

@@ -20,30 +20,6 @@ wide = record {
   binary = length-replicate {A = ℕ} 6 0;
 }
 
-slice-aggregate-read : tie.Need-slice-aggregate-read
-slice-aggregate-read c = search needs
-
-slice-aggregate-read-2 : tie.Need-slice-aggregate-read-2
-slice-aggregate-read-2 c = search needs
-
-slice-aggregate-read-3 : tie.Need-slice-aggregate-read-3
-slice-aggregate-read-3 c = search needs
-
-slice-aggregate-read-4 : tie.Need-slice-aggregate-read-4
-slice-aggregate-read-4 c = search needs
-
-slice-aggregate-read-5 : tie.Need-slice-aggregate-read-5
-slice-aggregate-read-5 c = search needs
-
-read-requires : tie.Need-read-requires
-read-requires c κs = search needs
-
-enum-known-read : tie.Need-enum-known-read
-enum-known-read c = search needs
-
-cast-searched : tie.Need-cast-searched
-cast-searched c = search needs
-
 array-share-prefix-marks : tie.Need-array-share-prefix-marks
 array-share-prefix-marks c = handed (c .before .before .before .before .before .before .before .before .before .before .before .before .before .before
     .before .args .file .now) (λ i. omega (
@@ -176,18 +152,6 @@ searched-requires c κs = (
   omega arith,
 )
 
-enum-told : tie.Need-enum-told
-enum-told c = search needs
-
-bench-requires : tie.Need-bench-requires
-bench-requires c κs = search needs
-
-enum-told-2 : tie.Need-enum-told-2
-enum-told-2 c = search needs
-
-bench-requires-2 : tie.Need-bench-requires-2
-bench-requires-2 c κs = search needs
-
 returns : tie.Need-returns
 returns c = good-explained (c .before .before .before .before .before .before .before .before .before .before .before .before .before .before .before .before .before
     .before .before .before .before .before .args .file .now) (λ i. omega (
@@ -229,30 +193,8 @@ pub of-file-spec : {M : Type 1} → statement M
 of-file-spec =
     tie.close
     (tie.spec
-    slice-aggregate-read
-    slice-aggregate-read-2
-    slice-aggregate-read-3
-    slice-aggregate-read-4
-    slice-aggregate-read-5
-    read-requires
-    enum-known-read
-    cast-searched
-    array-share-prefix-marks
-    slice-aggregate-searched
-    array-share-prefix-lengths
-    slice-aggregate-searched-2
-    mul-words
-    array-share-prefix-words
-    slice-aggregate-searched-3
-    array-share-prefix-unary
-    slice-aggregate-searched-4
-    array-share-prefix-binary
-    slice-aggregate-searched-5
-    searched-requires
-    enum-told
-    bench-requires
-    enum-told-2
-    bench-requires-2
-    returns
-    returns-2
-    returns-3)
+    (λ c. search needs) (λ c. search needs) (λ c. search needs) (λ c. search needs) (λ c. search needs) (λ c κs. search needs)
+    (λ c. search needs) (λ c. search needs) array-share-prefix-marks slice-aggregate-searched array-share-prefix-lengths
+    slice-aggregate-searched-2 mul-words array-share-prefix-words slice-aggregate-searched-3 array-share-prefix-unary
+    slice-aggregate-searched-4 array-share-prefix-binary slice-aggregate-searched-5 searched-requires (λ c. search needs)
+    (λ c κs. search needs) (λ c. search needs) (λ c κs. search needs) returns returns-2 returns-3)

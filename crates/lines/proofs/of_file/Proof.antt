@@ -19,27 +19,6 @@ wide = record {
   binary = length-replicate {A = ℕ} 6 0;
 }
 
-slice-aggregate-read : tie.Need-slice-aggregate-read
-slice-aggregate-read c = search needs
-
-slice-aggregate-read-2 : tie.Need-slice-aggregate-read-2
-slice-aggregate-read-2 c = search needs
-
-slice-aggregate-read-3 : tie.Need-slice-aggregate-read-3
-slice-aggregate-read-3 c = search needs
-
-slice-aggregate-read-4 : tie.Need-slice-aggregate-read-4
-slice-aggregate-read-4 c = search needs
-
-slice-aggregate-read-5 : tie.Need-slice-aggregate-read-5
-slice-aggregate-read-5 c = search needs
-
-read-requires : tie.Need-read-requires
-read-requires c κs = search needs
-
-enum-known-read : tie.Need-enum-known-read
-enum-known-read c = search needs
-
 slice-aggregate-searched : tie.Need-slice-aggregate-searched
 slice-aggregate-searched c = handed (c .before .before .before .before .before .before .before .before .before .before .before .before .before .before .before
     .before .args .file .now) (λ i. omega (
@@ -48,9 +27,6 @@ slice-aggregate-searched c = handed (c .before .before .before .before .before .
           .before .shared-slice-known .given i,
     )) _ wide (c .before .before .before .before .before .before .before .before .before .read .result) _ _ _ _ _
     (c .before .before .before .before .before .before .before .before .before .read .ensures) (c .before .before .read2 .given .1) .names-long
-
-cast-searched : tie.Need-cast-searched
-cast-searched c = search needs
 
 array-share-prefix-marks : tie.Need-array-share-prefix-marks
 array-share-prefix-marks c = handed (c .before .before .before .before .before .before .before .before .before .before .before .before .before .before .before
@@ -186,18 +162,6 @@ searched-requires c κs = (
   omega arith,
 )
 
-enum-known-read-2 : tie.Need-enum-known-read-2
-enum-known-read-2 c = search needs
-
-broken-requires : tie.Need-broken-requires
-broken-requires c κs = search needs
-
-enum-told : tie.Need-enum-told
-enum-told c = search needs
-
-refused-requires : tie.Need-refused-requires
-refused-requires c κs = search needs
-
 returns : tie.Need-returns
 returns c = good-lines (c .before .before .before .before .before .before .before .before .before .before .before .before .before .before .before .before .before
     .before .before .before .before .before .before .args .file .now) (λ i. omega (
@@ -241,31 +205,8 @@ pub of-file-spec : {M : Type 1} → statement M
 of-file-spec =
     tie.close
     (tie.spec
-    slice-aggregate-read
-    slice-aggregate-read-2
-    slice-aggregate-read-3
-    slice-aggregate-read-4
-    slice-aggregate-read-5
-    read-requires
-    enum-known-read
-    slice-aggregate-searched
-    cast-searched
-    array-share-prefix-marks
-    slice-aggregate-searched-2
-    array-share-prefix-lengths
-    slice-aggregate-searched-3
-    mul-words
-    array-share-prefix-words
-    slice-aggregate-searched-4
-    array-share-prefix-unary
-    slice-aggregate-searched-5
-    array-share-prefix-binary
-    slice-aggregate-searched-6
-    searched-requires
-    enum-known-read-2
-    broken-requires
-    enum-told
-    refused-requires
-    returns
-    returns-2
-    returns-3)
+    (λ c. search needs) (λ c. search needs) (λ c. search needs) (λ c. search needs) (λ c. search needs) (λ c κs. search needs)
+    (λ c. search needs) slice-aggregate-searched (λ c. search needs) array-share-prefix-marks slice-aggregate-searched-2
+    array-share-prefix-lengths slice-aggregate-searched-3 mul-words array-share-prefix-words slice-aggregate-searched-4
+    array-share-prefix-unary slice-aggregate-searched-5 array-share-prefix-binary slice-aggregate-searched-6 searched-requires
+    (λ c. search needs) (λ c κs. search needs) (λ c. search needs) (λ c κs. search needs) returns returns-2 returns-3)

@@ -4,7 +4,23 @@ use Prim.Native.Nat.{ℕ}
 use lib.ListN.{length-replicate, replicate}
 use Rattle.search.specs.Table.{cols}
 use Rattle.lines.proofs.Searching.{Roomy}
-use Rattle.lines.proofs.Answered.{this, codes-in, codes-part, lefts-in, lefts-part, rights-in, rights-part, sizes-in, sizes-part, showable, as-many, found-returns, none-returns, full-returns, refused-returns}
+use Rattle.lines.proofs.Answered.{
+  this,
+  codes-in,
+  codes-part,
+  lefts-in,
+  lefts-part,
+  rights-in,
+  rights-part,
+  sizes-in,
+  sizes-part,
+  showable,
+  as-many,
+  found-returns,
+  none-returns,
+  full-returns,
+  refused-returns,
+}
 use borrow.Author.Needs.{needs}
 use Rattle.lines.proofs.searched.Statement.{statement}
 use Rattle.lines.proofs.searched.Tie as tie
@@ -18,27 +34,6 @@ roomy = record {
   sizes = length-replicate {A = ℕ} 4096 0;
   matrices = length-replicate {A = ℕ} 131072 0;
 }
-
-slice-aggregate-search : tie.Need-slice-aggregate-search
-slice-aggregate-search c = search needs
-
-slice-aggregate-search-2 : tie.Need-slice-aggregate-search-2
-slice-aggregate-search-2 c = search needs
-
-slice-aggregate-search-3 : tie.Need-slice-aggregate-search-3
-slice-aggregate-search-3 c = search needs
-
-slice-aggregate-search-4 : tie.Need-slice-aggregate-search-4
-slice-aggregate-search-4 c = search needs
-
-slice-aggregate-search-5 : tie.Need-slice-aggregate-search-5
-slice-aggregate-search-5 c = search needs
-
-search-requires : tie.Need-search-requires
-search-requires c κs = search needs
-
-enum-known-answer : tie.Need-enum-known-answer
-enum-known-answer c = search needs
 
 array-share-prefix-codes : tie.Need-array-share-prefix-codes
 array-share-prefix-codes c = codes-in (this (c .before .before .before .before .before .before .before .before .before .before .before .before .before .before .before
@@ -130,27 +125,6 @@ found-requires c κs = (
       (c .before .before .before .before .before .before .answer .given .1),
 )
 
-enum-known-answer-2 : tie.Need-enum-known-answer-2
-enum-known-answer-2 c = search needs
-
-none-requires : tie.Need-none-requires
-none-requires c κs = search needs
-
-enum-known-answer-3 : tie.Need-enum-known-answer-3
-enum-known-answer-3 c = search needs
-
-full-requires : tie.Need-full-requires
-full-requires c κs = search needs
-
-enum-known-answer-4 : tie.Need-enum-known-answer-4
-enum-known-answer-4 c = search needs
-
-refused-requires : tie.Need-refused-requires
-refused-requires c κs = search needs
-
-same-length : tie.Need-same-length
-same-length c = search needs
-
 returns : tie.Need-returns
 returns c = λ p g. found-returns (c .before .before .before .before .before .before .before .before .before .before .before .before .before .before .before .before
     .before .before .before .before .before .before .before .before .before .before .before .before .before .args .names .now) _ p g _ roomy _
@@ -160,9 +134,6 @@ returns c = λ p g. found-returns (c .before .before .before .before .before .be
     (c .before .before .before .before .before .before .before .before .before .before .before .before .before .before .before .before .before .before .before .before
     .before .before .before .before .before .before .before .before .before .pre .1) (c .before .before .found .ensures)
 
-same-length-2 : tie.Need-same-length-2
-same-length-2 c = search needs
-
 returns-2 : tie.Need-returns-2
 returns-2 c = λ p g. none-returns (c .before .before .before .before .before .before .before .before .before .before .before .before .before .before .before .before
     .before .before .before .before .before .before .before .before .before .args .names .now) _ p g _ roomy _
@@ -171,9 +142,6 @@ returns-2 c = λ p g. none-returns (c .before .before .before .before .before .b
     (c .before .before .before .before .before .answer2 .given .1) (c .before .before .before .before .before .before .before .before .before .before .before .before
     .before .before .before .before .before .before .before .before .before .before .before .before .before .pre .1) (c .before .before .none .ensures)
 
-same-length-3 : tie.Need-same-length-3
-same-length-3 c = search needs
-
 returns-3 : tie.Need-returns-3
 returns-3 c = λ p g. full-returns (c .before .before .before .before .before .before .before .before .before .before .before .before .before .before .before .before
     .before .before .before .before .before .before .before .before .before .args .names .now) _ p g _ roomy _
@@ -181,9 +149,6 @@ returns-3 c = λ p g. full-returns (c .before .before .before .before .before .b
     (c .before .before .before .before .before .before .before .before .before .before .before .before .search .ensures)
     (c .before .before .before .before .before .answer3 .given .1) (c .before .before .before .before .before .before .before .before .before .before .before .before
     .before .before .before .before .before .before .before .before .before .before .before .before .before .pre .1) (c .before .before .full .ensures)
-
-same-length-4 : tie.Need-same-length-4
-same-length-4 c = search needs
 
 returns-4 : tie.Need-returns-4
 returns-4 c = λ p g. refused-returns (c .before .before .before .before .before .before .before .before .before .before .before .before .before .before .before .before
@@ -197,33 +162,8 @@ pub searched-spec : {M : Type 1} → statement M
 searched-spec =
     tie.close
     (tie.spec
-    slice-aggregate-search
-    slice-aggregate-search-2
-    slice-aggregate-search-3
-    slice-aggregate-search-4
-    slice-aggregate-search-5
-    search-requires
-    enum-known-answer
-    array-share-prefix-codes
-    slice-aggregate-found
-    array-share-prefix-lefts
-    slice-aggregate-found-2
-    array-share-prefix-rights
-    slice-aggregate-found-3
-    array-share-prefix-sizes
-    slice-aggregate-found-4
-    found-requires
-    enum-known-answer-2
-    none-requires
-    enum-known-answer-3
-    full-requires
-    enum-known-answer-4
-    refused-requires
-    same-length
-    returns
-    same-length-2
-    returns-2
-    same-length-3
-    returns-3
-    same-length-4
-    returns-4)
+    (λ c. search needs) (λ c. search needs) (λ c. search needs) (λ c. search needs) (λ c. search needs) (λ c κs. search needs)
+    (λ c. search needs) array-share-prefix-codes slice-aggregate-found array-share-prefix-lefts slice-aggregate-found-2
+    array-share-prefix-rights slice-aggregate-found-3 array-share-prefix-sizes slice-aggregate-found-4 found-requires (λ c. search needs)
+    (λ c κs. search needs) (λ c. search needs) (λ c κs. search needs) (λ c. search needs) (λ c κs. search needs) (λ c. search needs) returns
+    (λ c. search needs) returns-2 (λ c. search needs) returns-3 (λ c. search needs) returns-4)

@@ -7,50 +7,17 @@ use Rattle.nodes_out.proofs.Placed.{read-in, count-in-room, cut-within,
 use Rattle.nodes_out.proofs.parse.Statement.{statement}
 use Rattle.nodes_out.proofs.parse.Tie as tie
 
-room-of-requires : tie.Need-room-of-requires
-room-of-requires c κs = search needs
-
-bytes-requires : tie.Need-bytes-requires
-bytes-requires c κs = search needs
-
-places-requires : tie.Need-places-requires
-places-requires c κs = search needs
-
-places-requires-2 : tie.Need-places-requires-2
-places-requires-2 c κs = search needs
-
-bytes-requires-2 : tie.Need-bytes-requires-2
-bytes-requires-2 c κs = search needs
-
-array-borrow-prefix-codes : tie.Need-array-borrow-prefix-codes
-array-borrow-prefix-codes c = search needs
-
 slice-aggregate-parse : tie.Need-slice-aggregate-parse
 slice-aggregate-parse c = sym (length-take-le _ _ (search needs))
-
-array-borrow-prefix-lefts : tie.Need-array-borrow-prefix-lefts
-array-borrow-prefix-lefts c = search needs
 
 slice-aggregate-parse-2 : tie.Need-slice-aggregate-parse-2
 slice-aggregate-parse-2 c = sym (length-take-le _ _ (search needs))
 
-array-borrow-prefix-rights : tie.Need-array-borrow-prefix-rights
-array-borrow-prefix-rights c = search needs
-
 slice-aggregate-parse-3 : tie.Need-slice-aggregate-parse-3
 slice-aggregate-parse-3 c = sym (length-take-le _ _ (search needs))
 
-array-borrow-prefix-sizes : tie.Need-array-borrow-prefix-sizes
-array-borrow-prefix-sizes c = search needs
-
 slice-aggregate-parse-4 : tie.Need-slice-aggregate-parse-4
 slice-aggregate-parse-4 c = sym (length-take-le _ _ (search needs))
-
-parse-requires : tie.Need-parse-requires
-parse-requires c κs = search needs
-
-count-in-requires : tie.Need-count-in-requires
-count-in-requires c κs = search needs
 
 pack-requires : tie.Need-pack-requires
 pack-requires c κs =
@@ -89,20 +56,6 @@ pub parse-spec : {M : Type 1} → statement M
 parse-spec =
     tie.close
     (tie.spec
-    room-of-requires
-    bytes-requires
-    places-requires
-    places-requires-2
-    bytes-requires-2
-    array-borrow-prefix-codes
-    slice-aggregate-parse
-    array-borrow-prefix-lefts
-    slice-aggregate-parse-2
-    array-borrow-prefix-rights
-    slice-aggregate-parse-3
-    array-borrow-prefix-sizes
-    slice-aggregate-parse-4
-    parse-requires
-    count-in-requires
-    pack-requires
-    returns)
+    (λ c κs. search needs) (λ c κs. search needs) (λ c κs. search needs) (λ c κs. search needs) (λ c κs. search needs) (λ c. search needs)
+    slice-aggregate-parse (λ c. search needs) slice-aggregate-parse-2 (λ c. search needs) slice-aggregate-parse-3 (λ c. search needs)
+    slice-aggregate-parse-4 (λ c κs. search needs) (λ c κs. search needs) pack-requires returns)

@@ -7,56 +7,24 @@ use Rattle.nodes_out.proofs.Kept.{works, kept-in-room, cut-room}
 use Rattle.nodes_out.proofs.search.Statement.{statement}
 use Rattle.nodes_out.proofs.search.Tie as tie
 
-room-of-requires : tie.Need-room-of-requires
-room-of-requires c κs = search needs
-
-bytes-requires : tie.Need-bytes-requires
-bytes-requires c κs = search needs
-
-places-requires : tie.Need-places-requires
-places-requires c κs = search needs
-
-places-requires-2 : tie.Need-places-requires-2
-places-requires-2 c κs = search needs
-
-bytes-requires-2 : tie.Need-bytes-requires-2
-bytes-requires-2 c κs = search needs
-
-array-borrow-prefix-codes : tie.Need-array-borrow-prefix-codes
-array-borrow-prefix-codes c = search needs
-
 slice-aggregate-search : tie.Need-slice-aggregate-search
 slice-aggregate-search c = sym (length-take-le _ _ (search needs))
-
-array-borrow-prefix-lefts : tie.Need-array-borrow-prefix-lefts
-array-borrow-prefix-lefts c = search needs
 
 slice-aggregate-search-2 : tie.Need-slice-aggregate-search-2
 slice-aggregate-search-2 c = sym (length-take-le _ _ (search needs))
 
-array-borrow-prefix-rights : tie.Need-array-borrow-prefix-rights
-array-borrow-prefix-rights c = search needs
-
 slice-aggregate-search-3 : tie.Need-slice-aggregate-search-3
 slice-aggregate-search-3 c = sym (length-take-le _ _ (search needs))
-
-array-borrow-prefix-sizes : tie.Need-array-borrow-prefix-sizes
-array-borrow-prefix-sizes c = search needs
 
 slice-aggregate-search-4 : tie.Need-slice-aggregate-search-4
 slice-aggregate-search-4 c = sym (length-take-le _ _ (search needs))
 
-search-requires : tie.Need-search-requires
-search-requires c κs = search needs
-
-kept-in-requires : tie.Need-kept-in-requires
-kept-in-requires c κs = search needs
-
 pack-requires : tie.Need-pack-requires
-pack-requires c κs = kept-in-room _ _ _ _ _ _ (c .before .before .before .before .before .before .before .search .ensures) (c .before .before .before .before .before .before .before .search .kept .1 .1 .1 .1 .1 .1 .1 .1 .1 .1 .0) (cut-room _ _ _ (c .before .before .before .before .before .before .before .before .before .before .before .before .before .before .before .before .before .room-of .ensures) (c .before .before .before .before .before .before .before .before .before .before .before .before .before .before .before .before .bytes .ensures)) (c .kept-in .ensures)
-
-same-length : tie.Need-same-length
-same-length c = search needs
+pack-requires c κs = kept-in-room _ _ _ _ _ _ (c .before .before .before .before .before .before .before .search .ensures)
+    (c .before .before .before .before .before .before .before .search .kept .1 .1 .1 .1 .1 .1 .1 .1 .1 .1 .0) (cut-room _ _ _
+    (c .before .before .before .before .before .before .before .before .before .before .before .before .before .before .before .before .before .room-of .ensures)
+    (c .before .before .before .before .before .before .before .before .before .before .before .before .before .before .before .before .bytes .ensures))
+    (c .kept-in .ensures)
 
 returns : tie.Need-returns
 returns c =
@@ -67,10 +35,18 @@ returns c =
       lefts-beyond = _;
       rights-beyond = _;
       sizes-beyond = _;
-      codes-given = cut-room _ _ _ (c .before .before .before .before .before .before .before .before .before .before .before .before .before .before .before .before .before .before .room-of .ensures) (c .before .before .before .before .before .before .before .before .before .before .before .before .before .before .before .before .before .bytes .ensures);
-      lefts-given = cut-room _ _ _ (c .before .before .before .before .before .before .before .before .before .before .before .before .before .before .before .before .before .before .room-of .ensures) (c .before .before .before .before .before .before .before .before .before .before .before .before .before .before .before .before .places .ensures);
-      rights-given = cut-room _ _ _ (c .before .before .before .before .before .before .before .before .before .before .before .before .before .before .before .before .before .before .room-of .ensures) (c .before .before .before .before .before .before .before .before .before .before .before .before .before .before .before .places2 .ensures);
-      sizes-given = cut-room _ _ _ (c .before .before .before .before .before .before .before .before .before .before .before .before .before .before .before .before .before .before .room-of .ensures) (c .before .before .before .before .before .before .before .before .before .before .before .before .before .before .bytes2 .ensures);
+      codes-given = cut-room _ _ _
+          (c .before .before .before .before .before .before .before .before .before .before .before .before .before .before .before .before .before .before .room-of .ensures)
+          (c .before .before .before .before .before .before .before .before .before .before .before .before .before .before .before .before .before .bytes .ensures);
+      lefts-given = cut-room _ _ _
+          (c .before .before .before .before .before .before .before .before .before .before .before .before .before .before .before .before .before .before .room-of .ensures)
+          (c .before .before .before .before .before .before .before .before .before .before .before .before .before .before .before .before .places .ensures);
+      rights-given = cut-room _ _ _
+          (c .before .before .before .before .before .before .before .before .before .before .before .before .before .before .before .before .before .before .room-of .ensures)
+          (c .before .before .before .before .before .before .before .before .before .before .before .before .before .before .before .places2 .ensures);
+      sizes-given = cut-room _ _ _
+          (c .before .before .before .before .before .before .before .before .before .before .before .before .before .before .before .before .before .before .room-of .ensures)
+          (c .before .before .before .before .before .before .before .before .before .before .before .before .before .before .bytes2 .ensures);
       codes-left = c .before .before .before .before .before .before .before .before .search .kept .1 .1 .1 .1 .1 .1 .1 .1 .1 .1 .0;
       old-is = refl;
       new-is = refl;
@@ -84,21 +60,6 @@ pub search-spec : {M : Type 1} → statement M
 search-spec =
     tie.close
     (tie.spec
-    room-of-requires
-    bytes-requires
-    places-requires
-    places-requires-2
-    bytes-requires-2
-    array-borrow-prefix-codes
-    slice-aggregate-search
-    array-borrow-prefix-lefts
-    slice-aggregate-search-2
-    array-borrow-prefix-rights
-    slice-aggregate-search-3
-    array-borrow-prefix-sizes
-    slice-aggregate-search-4
-    search-requires
-    kept-in-requires
-    pack-requires
-    same-length
-    returns)
+    (λ c κs. search needs) (λ c κs. search needs) (λ c κs. search needs) (λ c κs. search needs) (λ c κs. search needs) (λ c. search needs)
+    slice-aggregate-search (λ c. search needs) slice-aggregate-search-2 (λ c. search needs) slice-aggregate-search-3 (λ c. search needs)
+    slice-aggregate-search-4 (λ c κs. search needs) (λ c κs. search needs) pack-requires (λ c. search needs) returns)

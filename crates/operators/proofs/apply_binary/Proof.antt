@@ -15,30 +15,11 @@ use Rattle.sequence.proofs.Answers.{binary-decided, binary-passed}
 use Rattle.operators.proofs.apply_binary.Statement.{statement}
 use Rattle.operators.proofs.apply_binary.Tie as tie
 
-binary-refusal-requires : tie.Need-binary-refusal-requires
-binary-refusal-requires c κs = search needs
-
-refusal-requires : tie.Need-refusal-requires
-refusal-requires c κs = search needs
-
-refusal-requires-2 : tie.Need-refusal-requires-2
-refusal-requires-2 c κs = search needs
-
-first-requires : tie.Need-first-requires
-first-requires c κs = search needs
-
-unequal-refusal-requires : tie.Need-unequal-refusal-requires
-unequal-refusal-requires c κs = search needs
-
-first-requires-2 : tie.Need-first-requires-2
-first-requires-2 c κs = search needs
-
-first-requires-3 : tie.Need-first-requires-3
-first-requires-3 c κs = search needs
-
 -- what the calls decided
 decided : (c : tie.After-first3)
-    → Decided (binaryRows (c .before .before .before .before .before .before .before .args .code) (c .before .before .before .before .before .before .before .args .left) (c .before .before .before .before .before .before .before .args .right)) (c .first3 .result)
+    → Decided (binaryRows (c .before .before .before .before .before .before .before .args .code)
+    (c .before .before .before .before .before .before .before .args .left)
+    (c .before .before .before .before .before .before .before .args .right)) (c .first3 .result)
 decided c =
     let lengths = c .before .before in
     let right = lengths .before .before in
@@ -46,13 +27,11 @@ decided c =
     let group = left .before in
     let s = group .before .args in
     binary-decided (s .code) (s .left) (s .right) (group .binary-refusal .result) (left .refusal .result) (right .refusal2 .result) (lengths .unequal-refusal .result)
-    (group .binary-refusal .ensures) (left .refusal .ensures) (right .refusal2 .ensures) (lengths .before .first .ensures) (lengths .unequal-refusal .ensures) (c .before .first2 .ensures) (c .first3 .ensures)
+    (group .binary-refusal .ensures) (left .refusal .ensures) (right .refusal2 .ensures) (lengths .before .first .ensures)
+    (lengths .unequal-refusal .ensures) (c .before .first2 .ensures) (c .first3 .ensures)
 
 returns : tie.Need-returns
 returns c = (decided (c .before), omega arith)
-
-binary-requires : tie.Need-binary-requires
-binary-requires c κs = search needs
 
 -- the operator by code, on sequences that passed
 read : (code : ℕ) (s t r : CharSeq) → Decided (binaryRows code s t) 0 → BinaryBy code s t r → BinaryRead code s t r
@@ -72,13 +51,5 @@ pub apply-binary-spec : {M : Type 1} → statement M
 apply-binary-spec =
     tie.close
     (tie.spec
-    binary-refusal-requires
-    refusal-requires
-    refusal-requires-2
-    first-requires
-    unequal-refusal-requires
-    first-requires-2
-    first-requires-3
-    returns
-    binary-requires
-    returns-2)
+    (λ c κs. search needs) (λ c κs. search needs) (λ c κs. search needs) (λ c κs. search needs) (λ c κs. search needs)
+    (λ c κs. search needs) (λ c κs. search needs) returns (λ c κs. search needs) returns-2)

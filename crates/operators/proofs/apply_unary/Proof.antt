@@ -14,26 +14,15 @@ use Rattle.sequence.proofs.Answers.{unary-decided, unary-passed}
 use Rattle.operators.proofs.apply_unary.Statement.{statement}
 use Rattle.operators.proofs.apply_unary.Tie as tie
 
-unary-refusal-requires : tie.Need-unary-refusal-requires
-unary-refusal-requires c κs = search needs
-
-refusal-requires : tie.Need-refusal-requires
-refusal-requires c κs = search needs
-
-first-requires : tie.Need-first-requires
-first-requires c κs = search needs
-
 -- what the three calls decided
 decided : (c : tie.After-first) → Decided (unaryRows (c .before .before .before .args .code) (c .before .before .before .args .seq)) (c .first .result)
 decided c =
     let s = c .before .before .before .args in
-    unary-decided (s .code) (s .seq) (c .before .before .unary-refusal .result) (c .before .refusal .result) (c .before .before .unary-refusal .ensures) (c .before .refusal .ensures) (c .first .ensures)
+    unary-decided (s .code) (s .seq) (c .before .before .unary-refusal .result) (c .before .refusal .result)
+    (c .before .before .unary-refusal .ensures) (c .before .refusal .ensures) (c .first .ensures)
 
 returns : tie.Need-returns
 returns c = (decided (c .before), omega arith)
-
-unary-requires : tie.Need-unary-requires
-unary-requires c κs = search needs
 
 -- the operator by code, on a sequence that passed
 read : (code : ℕ) (s r : CharSeq) → Decided (unaryRows code s) 0 → UnaryBy code s r → UnaryRead code s r
@@ -51,9 +40,4 @@ pub apply-unary-spec : {M : Type 1} → statement M
 apply-unary-spec =
     tie.close
     (tie.spec
-    unary-refusal-requires
-    refusal-requires
-    first-requires
-    returns
-    unary-requires
-    returns-2)
+    (λ c κs. search needs) (λ c κs. search needs) (λ c κs. search needs) returns (λ c κs. search needs) returns-2)

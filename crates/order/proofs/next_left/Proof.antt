@@ -28,7 +28,8 @@ over-requires : tie.Need-over-requires
 over-requires c κs = search needs
 
 returns-3 : tie.Need-returns-3
-returns-3 c = carried (carry-right _ _ _ _ _ (c .before .before .before .before .before .before .before .before .pre .2)) (part-takes _ _ _ (omega arith) (omega arith) (omega arith) (c .over .ensures))
+returns-3 c = carried (carry-right _ _ _ _ _ (c .before .before .before .before .before .before .before .before .pre .2))
+    (part-takes _ _ _ (omega arith) (omega arith) (omega arith) (c .over .ensures))
 
 pub next-left-spec : {M : Type 1} → statement M
 next-left-spec =

@@ -5,35 +5,16 @@ use Rattle.out_check.proofs.Checking.{check-short, check-long}
 use Rattle.out_check.proofs.check.Statement.{statement}
 use Rattle.out_check.proofs.check.Tie as tie
 
-unanswered-requires : tie.Need-unanswered-requires
-unanswered-requires c κs = search needs
-
 returns : tie.Need-returns
 returns c = check-short _ _ _ _ _ _ _ _ (c .before .if1 .taken) _ (c .unanswered .ensures)
 
-check-requires : tie.Need-check-requires
-check-requires c κs = search needs
-
-put-requires : tie.Need-put-requires
-put-requires c κs = search needs
-
-number-requires : tie.Need-number-requires
-number-requires c κs = search needs
-
-same-length : tie.Need-same-length
-same-length c = search needs
-
 returns-2 : tie.Need-returns-2
-returns-2 c = rw (c .number .ensures) (check-long _ _ _ _ (c .before .before .before .before .before .before .if1 .left) _ (c .before .before .before .before .before .check .result) (c .before .before .before .before .before .check .ensures) (c .before .before .before .put .ensures))
+returns-2 c = rw (c .number .ensures) (check-long _ _ _ _ (c .before .before .before .before .before .before .if1 .left) _
+    (c .before .before .before .before .before .check .result) (c .before .before .before .before .before .check .ensures)
+    (c .before .before .before .put .ensures))
 
 pub check-spec : {M : Type 1} → statement M
 check-spec =
     tie.close
     (tie.spec
-    unanswered-requires
-    returns
-    check-requires
-    put-requires
-    number-requires
-    same-length
-    returns-2)
+    (λ c κs. search needs) returns (λ c κs. search needs) (λ c κs. search needs) (λ c κs. search needs) (λ c. search needs) returns-2)

@@ -6,51 +6,40 @@ use Rattle.out_compare.proofs.Comparing.{lent, answered, refused}
 use Rattle.out_compare.proofs.compare.Statement.{statement}
 use Rattle.out_compare.proofs.compare.Tie as tie
 
-refusal-requires : tie.Need-refusal-requires
-refusal-requires c κs = search needs
-
 returns : tie.Need-returns
-returns c = let a = c .before .before .before .before .before .args in refused (a .r) (a .place) (a .matrices .now) (a .words .now) (a .out .now) (c .before .refusal .result) (c .before .refusal .ensures) (c .if1 .taken)
+returns c = let a = c .before .before .before .before .before .args in refused (a .r) (a .place) (a .matrices .now) (a .words .now) (a .out .now)
+    (c .before .refusal .result) (c .before .refusal .ensures) (c .if1 .taken)
 
 mul-from : tie.Need-mul-from
-mul-from c = let a = c .before .before .before .before .before .args in let l = lent (a .r) (a .place) (a .matrices .now) (a .words .now) (a .out .now) (rw (c .if1 .left) at (c .before .refusal .ensures)) in omega (arith, l .there)
+mul-from c = let a = c .before .before .before .before .before .args in let l = lent (a .r) (a .place) (a .matrices .now) (a .words .now)
+    (a .out .now) (rw (c .if1 .left) at (c .before .refusal .ensures)) in omega (arith, l .there)
 
 mul-compare : tie.Need-mul-compare
-mul-compare c = let a = c .before .before .before .before .before .args in let l = lent (a .r) (a .place) (a .matrices .now) (a .words .now) (a .out .now) (rw (c .if1 .left) at (c .before .refusal .ensures)) in omega (arith, l .there)
+mul-compare c = let a = c .before .before .before .before .before .args in let l = lent (a .r) (a .place) (a .matrices .now) (a .words .now)
+    (a .out .now) (rw (c .if1 .left) at (c .before .refusal .ensures)) in omega (arith, l .there)
 
 sub-compare : tie.Need-sub-compare
-sub-compare c = let a = c .before .before .before .before .before .args in let l = lent (a .r) (a .place) (a .matrices .now) (a .words .now) (a .out .now) (rw (c .if1 .left) at (c .before .refusal .ensures)) in omega (arith, l .there)
+sub-compare c = let a = c .before .before .before .before .before .args in let l = lent (a .r) (a .place) (a .matrices .now) (a .words .now)
+    (a .out .now) (rw (c .if1 .left) at (c .before .refusal .ensures)) in omega (arith, l .there)
 
 part-compare-start : tie.Need-part-compare-start
-part-compare-start c = let a = c .before .before .before .before .before .args in let l = lent (a .r) (a .place) (a .matrices .now) (a .words .now) (a .out .now) (rw (c .if1 .left) at (c .before .refusal .ensures)) in omega (arith, l .there)
-
-part-compare-end : tie.Need-part-compare-end
-part-compare-end c = search needs
-
-compare-requires : tie.Need-compare-requires
-compare-requires c κs = search needs
+part-compare-start c = let a = c .before .before .before .before .before .args in let l = lent (a .r) (a .place) (a .matrices .now) (a .words .now)
+    (a .out .now) (rw (c .if1 .left) at (c .before .refusal .ensures)) in omega (arith, l .there)
 
 put-requires : tie.Need-put-requires
-put-requires c κs = let a = c .before .before .before .before .before .before .before .before .args in let l = lent (a .r) (a .place) (a .matrices .now) (a .words .now) (a .out .now) (rw (c .before .before .before .if1 .left) at (c .before .before .before .before .refusal .ensures)) in l .room
-
-same-length : tie.Need-same-length
-same-length c = search needs
+put-requires c κs = let a = c .before .before .before .before .before .before .before .before .args in let l = lent (a .r) (a .place)
+    (a .matrices .now) (a .words .now) (a .out .now)
+    (rw (c .before .before .before .if1 .left) at (c .before .before .before .before .refusal .ensures)) in l .room
 
 returns-2 : tie.Need-returns-2
-returns-2 c = let a = c .before .before .before .before .before .before .before .before .before .before .before .args in answered (a .r) (a .place) (a .matrices .now) (a .words .now) (a .out .now) (rw (c .before .before .before .before .before .before .if1 .left) at (c .before .before .before .before .before .before .before .refusal .ensures)) (c .before .before .before .before .compare .result) (c .before .before .before .before .compare .ensures) (c .before .before .put .result) _ (c .before .before .put .ensures)
+returns-2 c = let a = c .before .before .before .before .before .before .before .before .before .before .before .args in answered (a .r) (a .place)
+    (a .matrices .now) (a .words .now) (a .out .now) (rw (c .before .before .before .before .before .before .if1 .left) at
+    (c .before .before .before .before .before .before .before .refusal .ensures)) (c .before .before .before .before .compare .result)
+    (c .before .before .before .before .compare .ensures) (c .before .before .put .result) _ (c .before .before .put .ensures)
 
 pub compare-spec : {M : Type 1} → statement M
 compare-spec =
     tie.close
     (tie.spec
-    refusal-requires
-    returns
-    mul-from
-    mul-compare
-    sub-compare
-    part-compare-start
-    part-compare-end
-    compare-requires
-    put-requires
-    same-length
-    returns-2)
+    (λ c κs. search needs) returns mul-from mul-compare sub-compare part-compare-start (λ c. search needs) (λ c κs. search needs)
+    put-requires (λ c. search needs) returns-2)

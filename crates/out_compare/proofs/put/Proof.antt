@@ -7,41 +7,14 @@ use borrow.Author.Needs.{needs}
 use Rattle.out_compare.proofs.put.Statement.{statement}
 use Rattle.out_compare.proofs.put.Tie as tie
 
-enum-told : tie.Need-enum-told
-enum-told c = search needs
-
-slice-write-out : tie.Need-slice-write-out
-slice-write-out c = search needs
-
 slice-write-out-2 : tie.Need-slice-write-out-2
 slice-write-out-2 c = simp length-set (omega arith)
-
-enum-known-answer : tie.Need-enum-known-answer
-enum-known-answer c = search needs
-
-slice-write-out-3 : tie.Need-slice-write-out-3
-slice-write-out-3 c = search needs
-
-cast-out : tie.Need-cast-out
-cast-out c = search needs
 
 slice-write-out-4 : tie.Need-slice-write-out-4
 slice-write-out-4 c = simp length-set (omega arith)
 
-enum-known-answer-2 : tie.Need-enum-known-answer-2
-enum-known-answer-2 c = search needs
-
-cast-result : tie.Need-cast-result
-cast-result c = search needs
-
-same-length : tie.Need-same-length
-same-length c = search needs
-
 returns : tie.Need-returns
 returns c = rw (c .enum-told .given .1) (refl, refl)
-
-same-length-2 : tie.Need-same-length-2
-same-length-2 c = search needs
 
 returns-2 : tie.Need-returns-2
 returns-2 c = rw (c .before .before .answer .given .1) (refl, refl)
@@ -53,17 +26,5 @@ pub put-spec : {M : Type 1} → statement M
 put-spec =
     tie.close
     (tie.spec
-    enum-told
-    slice-write-out
-    slice-write-out-2
-    enum-known-answer
-    slice-write-out-3
-    cast-out
-    slice-write-out-4
-    enum-known-answer-2
-    cast-result
-    same-length
-    returns
-    same-length-2
-    returns-2
-    returns-3)
+    (λ c. search needs) (λ c. search needs) slice-write-out-2 (λ c. search needs) (λ c. search needs) (λ c. search needs) slice-write-out-4
+    (λ c. search needs) (λ c. search needs) (λ c. search needs) returns (λ c. search needs) returns-2 returns-3)

@@ -19,23 +19,15 @@ returns-3 c = let a = c .before .before .before .args in gives-out (a .r) (a .pl
 returns-4 : tie.Need-returns-4
 returns-4 c = let a = c .before .before .before .before .args in gives-words (a .r) (a .place) (a .matrices) (a .words) (a .out) (omega arith) (omega arith) (omega arith) (omega arith)
 
-div-places : tie.Need-div-places
-div-places c = search needs
-
 returns-5 : tie.Need-returns-5
 returns-5 c = let a = c .before .before .before .before .before .args in gives-matrices (a .r) (a .place) (a .matrices) (a .words) (a .out) (omega arith) (omega arith) (omega arith) (c .if5 .taken)
 
 returns-6 : tie.Need-returns-6
-returns-6 c = let a = c .before .before .before .before .before .args in gives-none (a .r) (a .place) (a .matrices) (a .words) (a .out) (omega arith) (omega arith) (omega arith) (omega arith) (c .if5 .left)
+returns-6 c = let a = c .before .before .before .before .before .args in gives-none (a .r) (a .place) (a .matrices) (a .words) (a .out) (omega arith)
+    (omega arith) (omega arith) (omega arith) (c .if5 .left)
 
 pub refusal-spec : {M : Type 1} → statement M
 refusal-spec =
     tie.close
     (tie.spec
-    returns
-    returns-2
-    returns-3
-    returns-4
-    div-places
-    returns-5
-    returns-6)
+    returns returns-2 returns-3 returns-4 (λ c. search needs) returns-5 returns-6)

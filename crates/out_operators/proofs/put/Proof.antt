@@ -6,23 +6,8 @@ use mathlib.Core.Path.{refl}
 use Rattle.out_operators.proofs.put.Statement.{statement}
 use Rattle.out_operators.proofs.put.Tie as tie
 
-enum-known-answer : tie.Need-enum-known-answer
-enum-known-answer c = search needs
-
 returns : tie.Need-returns
 returns c = rw (c .before .before .answer .given .1) (inl (c .if1 .taken, refl, refl))
-
-slice-write-out : tie.Need-slice-write-out
-slice-write-out c = search needs
-
-enum-known-answer-2 : tie.Need-enum-known-answer-2
-enum-known-answer-2 c = search needs
-
-cast-result : tie.Need-cast-result
-cast-result c = search needs
-
-same-length : tie.Need-same-length
-same-length c = search needs
 
 returns-2 : tie.Need-returns-2
 returns-2 c = rw (c .before .before .answer .given .1) (inr (c .if1 .left, refl, refl))
@@ -34,11 +19,4 @@ pub put-spec : {M : Type 1} → statement M
 put-spec =
     tie.close
     (tie.spec
-    enum-known-answer
-    returns
-    slice-write-out
-    enum-known-answer-2
-    cast-result
-    same-length
-    returns-2
-    returns-3)
+    (λ c. search needs) returns (λ c. search needs) (λ c. search needs) (λ c. search needs) (λ c. search needs) returns-2 returns-3)

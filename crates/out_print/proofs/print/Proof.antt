@@ -5,39 +5,20 @@ use Rattle.out_print.proofs.Printing.{print-fits, print-short, print-lo
 use Rattle.out_print.proofs.print.Statement.{statement}
 use Rattle.out_print.proofs.print.Tie as tie
 
-unanswered-requires : tie.Need-unanswered-requires
-unanswered-requires c κs = search needs
-
 returns : tie.Need-returns
 returns c = print-short _ _ _ _ _ (c .before .if1 .taken) _ (c .unanswered .ensures)
-
-print-requires : tie.Need-print-requires
-print-requires c κs = search needs
-
-put-requires : tie.Need-put-requires
-put-requires c κs = search needs
 
 number-requires : tie.Need-number-requires
 number-requires c κs = print-fits _ _ _ _ _ _ (c .before .before .before .before .before .before .print .ensures)
 
-same-length : tie.Need-same-length
-same-length c = search needs
-
-same-length-2 : tie.Need-same-length-2
-same-length-2 c = search needs
-
 returns-2 : tie.Need-returns-2
-returns-2 c = rw (c .number .ensures) (print-long _ _ _ _ _ (c .before .before .before .before .before .before .before .before .before .if1 .left) (c .before .before .before .before .before .before .before .print .result) _ _ (c .before .before .before .before .before .before .before .print .ensures) (c .before .before .before .put .ensures))
+returns-2 c = rw (c .number .ensures) (print-long _ _ _ _ _ (c .before .before .before .before .before .before .before .before .before .if1 .left)
+    (c .before .before .before .before .before .before .before .print .result) _ _
+    (c .before .before .before .before .before .before .before .print .ensures) (c .before .before .before .put .ensures))
 
 pub print-spec : {M : Type 1} → statement M
 print-spec =
     tie.close
     (tie.spec
-    unanswered-requires
-    returns
-    print-requires
-    put-requires
-    number-requires
-    same-length
-    same-length-2
+    (λ c κs. search needs) returns (λ c κs. search needs) (λ c κs. search needs) number-requires (λ c. search needs) (λ c. search needs)
     returns-2)

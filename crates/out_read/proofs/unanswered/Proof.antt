@@ -6,39 +6,17 @@ use Rattle.out_read.proofs.Reading.{read-fits, unanswered}
 use Rattle.out_read.proofs.unanswered.Statement.{statement}
 use Rattle.out_read.proofs.unanswered.Tie as tie
 
-slice-aggregate-read : tie.Need-slice-aggregate-read
-slice-aggregate-read c = search needs
-
-slice-aggregate-read-2 : tie.Need-slice-aggregate-read-2
-slice-aggregate-read-2 c = search needs
-
-slice-aggregate-read-3 : tie.Need-slice-aggregate-read-3
-slice-aggregate-read-3 c = search needs
-
-slice-aggregate-read-4 : tie.Need-slice-aggregate-read-4
-slice-aggregate-read-4 c = search needs
-
-slice-aggregate-read-5 : tie.Need-slice-aggregate-read-5
-slice-aggregate-read-5 c = search needs
-
-read-requires : tie.Need-read-requires
-read-requires c κs = search needs
-
 number-requires : tie.Need-number-requires
 number-requires c κs = read-fits _ _ _ (c .before .before .before .before .before .read .ensures)
 
 returns : tie.Need-returns
-returns c = rw (c .number .ensures) (unanswered _ (λ i. omega (arith, c .before .before .before .before .before .before .before .before .before .before .before .before .shared-slice-known .given i)) _ (c .before .before .before .before .before .before .read .ensures))
+returns c = rw (c .number .ensures) (unanswered _ (λ i. omega
+    (arith, c .before .before .before .before .before .before .before .before .before .before .before .before .shared-slice-known .given i)) _
+    (c .before .before .before .before .before .before .read .ensures))
 
 pub unanswered-spec : {M : Type 1} → statement M
 unanswered-spec =
     tie.close
     (tie.spec
-    slice-aggregate-read
-    slice-aggregate-read-2
-    slice-aggregate-read-3
-    slice-aggregate-read-4
-    slice-aggregate-read-5
-    read-requires
-    number-requires
-    returns)
+    (λ c. search needs) (λ c. search needs) (λ c. search needs) (λ c. search needs) (λ c. search needs) (λ c κs. search needs)
+    number-requires returns)

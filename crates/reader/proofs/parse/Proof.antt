@@ -7,36 +7,6 @@ use borrow.Author.Needs.{needs}
 use Rattle.reader.proofs.parse.Statement.{statement}
 use Rattle.reader.proofs.parse.Tie as tie
 
-slice-aggregate-judge : tie.Need-slice-aggregate-judge
-slice-aggregate-judge c = search needs
-
-judge-requires : tie.Need-judge-requires
-judge-requires c κs = search needs
-
-enum-known-j : tie.Need-enum-known-j
-enum-known-j c = search needs
-
-enum-told : tie.Need-enum-told
-enum-told c = search needs
-
-enum-told-2 : tie.Need-enum-told-2
-enum-told-2 c = search needs
-
-enum-known-j-2 : tie.Need-enum-known-j-2
-enum-known-j-2 c = search needs
-
-enum-known-j-3 : tie.Need-enum-known-j-3
-enum-known-j-3 c = search needs
-
-enum-told-3 : tie.Need-enum-told-3
-enum-told-3 c = search needs
-
-enum-known-j-4 : tie.Need-enum-known-j-4
-enum-known-j-4 c = search needs
-
-least-requires : tie.Need-least-requires
-least-requires c κs = search needs
-
 returns : tie.Need-returns
 returns c =
     let a = c .before .before .before .before .before .before in
@@ -44,9 +14,6 @@ returns c =
     answer-short (s .args .names .now) (s .args .text .now) (columns (s .args .codes .now) (s .args .lefts .now) (s .args .rights .now) (s .args .sizes .now)) _ _ (a .judge .ensures)
     (c .before .before .before .j4 .given .1)
     (omega (arith, c .before .least .ensures, c .if1 .taken))
-
-slice-aggregate-write : tie.Need-slice-aggregate-write
-slice-aggregate-write c = search needs
 
 write-requires : tie.Need-write-requires
 write-requires c κs =
@@ -99,18 +66,6 @@ returns-7 c =
     answer-large (s .args .names .now) (s .args .text .now) (columns (s .args .codes .now) (s .args .lefts .now) (s .args .rights .now) (s .args .sizes .now)) _ _ (a .judge .ensures)
     (c .enum-told3 .given .1)
 
-same-length : tie.Need-same-length
-same-length c = search needs
-
-same-length-2 : tie.Need-same-length-2
-same-length-2 c = search needs
-
-same-length-3 : tie.Need-same-length-3
-same-length-3 c = search needs
-
-same-length-4 : tie.Need-same-length-4
-same-length-4 c = search needs
-
 returns-8 : tie.Need-returns-8
 returns-8 c =
     let w = c .before .before .before .before .before .before .before .before in
@@ -125,27 +80,7 @@ pub parse-spec : {M : Type 1} → statement M
 parse-spec =
     tie.close
     (tie.spec
-    slice-aggregate-judge
-    judge-requires
-    enum-known-j
-    enum-told
-    enum-told-2
-    enum-known-j-2
-    enum-known-j-3
-    enum-told-3
-    enum-known-j-4
-    least-requires
-    returns
-    slice-aggregate-write
-    write-requires
-    returns-2
-    returns-3
-    returns-4
-    returns-5
-    returns-6
-    returns-7
-    same-length
-    same-length-2
-    same-length-3
-    same-length-4
+    (λ c. search needs) (λ c κs. search needs) (λ c. search needs) (λ c. search needs) (λ c. search needs) (λ c. search needs)
+    (λ c. search needs) (λ c. search needs) (λ c. search needs) (λ c κs. search needs) returns (λ c. search needs) write-requires returns-2
+    returns-3 returns-4 returns-5 returns-6 returns-7 (λ c. search needs) (λ c. search needs) (λ c. search needs) (λ c. search needs)
     returns-8)

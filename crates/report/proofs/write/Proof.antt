@@ -19,12 +19,6 @@ places-under-requires c κs =
           (nodeOf (a .root)) (c .before .before .before .before .before .before .before .before .pre),
     )
 
-slice-aggregate-put-sessions : tie.Need-slice-aggregate-put-sessions
-slice-aggregate-put-sessions c = search needs
-
-slice-aggregate-put-sessions-2 : tie.Need-slice-aggregate-put-sessions-2
-slice-aggregate-put-sessions-2 c = search needs
-
 put-sessions-requires : tie.Need-put-sessions-requires
 put-sessions-requires c κs = (c .before .before .before .before .before .before .before .before .before .before .before .pre, c .before .before .places-under .ensures)
 
@@ -50,12 +44,6 @@ slice-aggregate-put c =
     (a .text .now) (c .before .before .before .before .before .before .before .before .before .before .before .before .before .before .before .before .pre)
     (c .before .before .before .before .put-sessions .ensures) .0))
 
-put-requires : tie.Need-put-requires
-put-requires c κs = search needs
-
-same-length : tie.Need-same-length
-same-length c = search needs
-
 returns-2 : tie.Need-returns-2
 returns-2 c =
     let a = c .before .before .before .before .before .before .before .before .before .before .before .before .before .before .before .before .before .before .before .args in
@@ -67,13 +55,5 @@ pub write-spec : {M : Type 1} → statement M
 write-spec =
     tie.close
     (tie.spec
-    places-under-requires
-    slice-aggregate-put-sessions
-    slice-aggregate-put-sessions-2
-    put-sessions-requires
-    returns
-    array-share-prefix-whole
-    slice-aggregate-put
-    put-requires
-    same-length
-    returns-2)
+    places-under-requires (λ c. search needs) (λ c. search needs) put-sessions-requires returns array-share-prefix-whole slice-aggregate-put
+    (λ c κs. search needs) (λ c. search needs) returns-2)

@@ -16,9 +16,6 @@ Inv-loop budget r m bound room marks lengths words unary binary codes₀ lefts�
 abbrev μ-loop : tie.MeasureT-loop
 μ-loop budget r m bound room marks lengths words unary binary codes₀ lefts₀ rights₀ sizes₀ matrices₀ state₀ turn₀ t a b d e codes lefts rights sizes matrices state turn = 100000 - turn
 
-fresh-requires : tie.Need-fresh-requires Inv-loop μ-loop
-fresh-requires c κs = search needs
-
 loop-holds : tie.Need-loop-holds Inv-loop μ-loop
 loop-holds c = (omega arith, refl, refl, refl, refl, refl, refl, refl, refl, refl, refl)
 
@@ -47,60 +44,32 @@ slice-aggregate-resume-5 c =
     let c₆ = c .before .before .before .before .before .before in
     sym (c₆ .loop .inv .5)
 
-resume-requires : tie.Need-resume-requires Inv-loop μ-loop
-resume-requires c κs = search needs
-
 add-turn : tie.Need-add-turn Inv-loop μ-loop
 add-turn c =
     let c₁₂ = c .before .before .before .before .before .before .before .before .before .before .before .before in
     omega (arith, c₁₂ .loop .inv .0)
-
-enum-known-answer : tie.Need-enum-known-answer Inv-loop μ-loop
-enum-known-answer c = search needs
-
-enum-told : tie.Need-enum-told Inv-loop μ-loop
-enum-told c = search needs
 
 slice-aggregate-say : tie.Need-slice-aggregate-say Inv-loop μ-loop
 slice-aggregate-say c =
     let c₁₅ = c .before .before .before .before .before .before .before .before .before .before .before .before .before .before .before in
     sym (c₁₅ .loop .inv .6)
 
-say-requires : tie.Need-say-requires Inv-loop μ-loop
-say-requires c κs = search needs
-
-returns : tie.Need-returns Inv-loop μ-loop
-returns c = search needs
-
 slice-aggregate-say-number : tie.Need-slice-aggregate-say-number Inv-loop μ-loop
 slice-aggregate-say-number c =
     let c₁₈ = c .before .before .before .before .before .before .before .before .before .before .before .before .before .before .before .before .before .before in
     sym (c₁₈ .loop .inv .7)
-
-say-number-requires : tie.Need-say-number-requires Inv-loop μ-loop
-say-number-requires c κs = search needs
 
 slice-aggregate-say-number-2 : tie.Need-slice-aggregate-say-number-2 Inv-loop μ-loop
 slice-aggregate-say-number-2 c =
     let c₂₀ = c .before .before .before .before .before .before .before .before .before .before .before .before .before .before .before .before .before .before .before .before in
     sym (c₂₀ .loop .inv .8)
 
-say-number-requires-2 : tie.Need-say-number-requires-2 Inv-loop μ-loop
-say-number-requires-2 c κs = search needs
-
-say-end-requires : tie.Need-say-end-requires Inv-loop μ-loop
-say-end-requires c κs = search needs
-
 slice-aggregate-say-2 : tie.Need-slice-aggregate-say-2 Inv-loop μ-loop
 slice-aggregate-say-2 c =
-    let c₂₃ = c .before .before .before .before .before .before .before .before .before .before .before .before .before .before .before .before .before .before .before .before .before .before .before in
+    let c₂₃ =
+    c .before .before .before .before .before .before .before .before .before .before .before .before .before .before .before .before .before .before .before .before .before .before
+    .before in
     sym (c₂₃ .loop .inv .9)
-
-say-requires-2 : tie.Need-say-requires-2 Inv-loop μ-loop
-say-requires-2 c κs = search needs
-
-returns-2 : tie.Need-returns-2 Inv-loop μ-loop
-returns-2 c = search needs
 
 loop-less : tie.Need-loop-less Inv-loop μ-loop
 loop-less c =
@@ -130,42 +99,12 @@ slice-aggregate-say-3 c =
     let c₂ = c .before .before in
     sym (c₂ .loop .inv .10)
 
-say-requires-3 : tie.Need-say-requires-3 Inv-loop μ-loop
-say-requires-3 c κs = search needs
-
-returns-3 : tie.Need-returns-3 Inv-loop μ-loop
-returns-3 c = search needs
-
 pub in-slices-spec : {M : Type 1} → statement M
 in-slices-spec =
     tie.close
     (tie.spec
-    Inv-loop
-    μ-loop
-    fresh-requires
-    loop-holds
-    slice-aggregate-resume
-    slice-aggregate-resume-2
-    slice-aggregate-resume-3
-    slice-aggregate-resume-4
-    slice-aggregate-resume-5
-    resume-requires
-    add-turn
-    enum-known-answer
-    enum-told
-    slice-aggregate-say
-    say-requires
-    returns
-    slice-aggregate-say-number
-    say-number-requires
-    slice-aggregate-say-number-2
-    say-number-requires-2
-    say-end-requires
-    slice-aggregate-say-2
-    say-requires-2
-    returns-2
-    loop-less
-    loop-again
-    slice-aggregate-say-3
-    say-requires-3
-    returns-3)
+    Inv-loop μ-loop (λ c κs. search needs) loop-holds slice-aggregate-resume slice-aggregate-resume-2 slice-aggregate-resume-3
+    slice-aggregate-resume-4 slice-aggregate-resume-5 (λ c κs. search needs) add-turn (λ c. search needs) (λ c. search needs)
+    slice-aggregate-say (λ c κs. search needs) (λ c. search needs) slice-aggregate-say-number (λ c κs. search needs)
+    slice-aggregate-say-number-2 (λ c κs. search needs) (λ c κs. search needs) slice-aggregate-say-2 (λ c κs. search needs)
+    (λ c. search needs) loop-less loop-again slice-aggregate-say-3 (λ c κs. search needs) (λ c. search needs))

@@ -17,7 +17,8 @@ same-length : tie.Need-same-length
 same-length c = search needs
 
 returns : tie.Need-returns
-returns c = subst (λ (s : State). StateDone s (c .before .before .before .before .before .before .args .words .now) (c .before .before .put .result) (c .before .before .put .last .1 .0)) (c .before .before .before .before .fresh .ensures) (c .before .before .put .ensures)
+returns c = subst (λ (s : State). StateDone s (c .before .before .before .before .before .before .args .words .now) (c .before .before .put .result)
+    (c .before .before .put .last .1 .0)) (c .before .before .before .before .fresh .ensures) (c .before .before .put .ensures)
 
 pub fresh-spec : {M : Type 1} → statement M
 fresh-spec = tie.close (tie.spec fresh-requires put-requires same-length returns)

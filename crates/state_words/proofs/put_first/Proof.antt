@@ -6,9 +6,6 @@ use borrow.Author.Needs.{needs}
 use Rattle.state_words.proofs.put_first.Statement.{statement}
 use Rattle.state_words.proofs.put_first.Tie as tie
 
-slice-write-words : tie.Need-slice-write-words
-slice-write-words c = search needs
-
 slice-write-words-2 : tie.Need-slice-write-words-2
 slice-write-words-2 c = simp length-set (omega arith)
 
@@ -27,14 +24,8 @@ slice-write-words-6 c = simp length-set (omega arith)
 slice-write-words-7 : tie.Need-slice-write-words-7
 slice-write-words-7 c = simp length-set (omega arith)
 
-mark-word-requires : tie.Need-mark-word-requires
-mark-word-requires c κs = search needs
-
 slice-write-words-8 : tie.Need-slice-write-words-8
 slice-write-words-8 c = simp length-set (omega arith)
-
-same-length : tie.Need-same-length
-same-length c = search needs
 
 returns : tie.Need-returns
 returns c = rw (c .mark-word .ensures)
@@ -43,14 +34,5 @@ pub put-first-spec : {M : Type 1} → statement M
 put-first-spec =
     tie.close
     (tie.spec
-    slice-write-words
-    slice-write-words-2
-    slice-write-words-3
-    slice-write-words-4
-    slice-write-words-5
-    slice-write-words-6
-    slice-write-words-7
-    mark-word-requires
-    slice-write-words-8
-    same-length
-    returns)
+    (λ c. search needs) slice-write-words-2 slice-write-words-3 slice-write-words-4 slice-write-words-5 slice-write-words-6
+    slice-write-words-7 (λ c κs. search needs) slice-write-words-8 (λ c. search needs) returns)

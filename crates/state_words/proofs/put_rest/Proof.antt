@@ -6,29 +6,14 @@ use borrow.Author.Needs.{needs}
 use Rattle.state_words.proofs.put_rest.Statement.{statement}
 use Rattle.state_words.proofs.put_rest.Tie as tie
 
-slice-write-words : tie.Need-slice-write-words
-slice-write-words c = search needs
-
-cast-words : tie.Need-cast-words
-cast-words c = search needs
-
 slice-write-words-2 : tie.Need-slice-write-words-2
 slice-write-words-2 c = simp length-set (omega arith)
-
-cast-words-2 : tie.Need-cast-words-2
-cast-words-2 c = search needs
 
 slice-write-words-3 : tie.Need-slice-write-words-3
 slice-write-words-3 c = simp length-set (omega arith)
 
-cast-words-3 : tie.Need-cast-words-3
-cast-words-3 c = search needs
-
 slice-write-words-4 : tie.Need-slice-write-words-4
 slice-write-words-4 c = simp length-set (omega arith)
-
-cast-words-4 : tie.Need-cast-words-4
-cast-words-4 c = search needs
 
 slice-write-words-5 : tie.Need-slice-write-words-5
 slice-write-words-5 c = simp length-set (omega arith)
@@ -42,27 +27,10 @@ slice-write-words-7 c = simp length-set (omega arith)
 slice-write-words-8 : tie.Need-slice-write-words-8
 slice-write-words-8 c = simp length-set (omega arith)
 
-same-length : tie.Need-same-length
-same-length c = search needs
-
-returns : tie.Need-returns
-returns c = search needs
-
 pub put-rest-spec : {M : Type 1} → statement M
 put-rest-spec =
     tie.close
     (tie.spec
-    slice-write-words
-    cast-words
-    slice-write-words-2
-    cast-words-2
-    slice-write-words-3
-    cast-words-3
-    slice-write-words-4
-    cast-words-4
-    slice-write-words-5
-    slice-write-words-6
-    slice-write-words-7
-    slice-write-words-8
-    same-length
-    returns)
+    (λ c. search needs) (λ c. search needs) slice-write-words-2 (λ c. search needs) slice-write-words-3 (λ c. search needs)
+    slice-write-words-4 (λ c. search needs) slice-write-words-5 slice-write-words-6 slice-write-words-7 slice-write-words-8
+    (λ c. search needs) (λ c. search needs))

@@ -8,24 +8,12 @@ use borrow.Author.Needs.{needs}
 use Rattle.text.proofs.print.Statement.{statement}
 use Rattle.text.proofs.print.Tie as tie
 
-judge-requires : tie.Need-judge-requires
-judge-requires c κs = search needs
-
-enum-known-judged : tie.Need-enum-known-judged
-enum-known-judged c = search needs
-
-refusal-requires : tie.Need-refusal-requires
-refusal-requires c κs = search needs
-
 returns : tie.Need-returns
 returns c = let a = c .before .before .before .before .before .before .before .before .before .before .before .before .args in
     let n = names-good (a .names .now) (c .before .before .before .before .before .judge .result) (c .before .before .before .before .before .judge .ensures)
     (c .before .before .before .judged .given .1) in
     prints-nine (a .names .now) (n .0) (nodes (a .codes .now) (a .lefts .now) (a .rights .now) (a .sizes .now)) (nodeOf (a .root)) (a .room .now) (n .1) (c .before .refusal .result)
     (c .before .refusal .ensures) (c .if1 .taken)
-
-count-requires : tie.Need-count-requires
-count-requires c κs = search needs
 
 length-requires : tie.Need-length-requires
 length-requires c κs = let a = c .before .before .before .before .before .before .before .before .before .before .before .before .before .args in
@@ -55,12 +43,6 @@ write-requires c κs = let a = c .before .before .before .before .before .before
     (c .before .before .before .count .ensures ∙ sym (length-nodes (a .codes .now) (a .lefts .now) (a .rights .now) (a .sizes .now))) in
     p
 
-enum-known-judged-2 : tie.Need-enum-known-judged-2
-enum-known-judged-2 c = search needs
-
-same-length : tie.Need-same-length
-same-length c = search needs
-
 returns-3 : tie.Need-returns-3
 returns-3 c = let a = c .before .before .before .before .before .before .before .before .before .before .before .before .before .before .before .before .before .before .before .args in
     let n = names-good (a .names .now) (c .before .before .before .before .before .before .before .before .before .before .before .before .judge .result)
@@ -84,15 +66,5 @@ pub print-spec : {M : Type 1} → statement M
 print-spec =
     tie.close
     (tie.spec
-    judge-requires
-    enum-known-judged
-    refusal-requires
-    returns
-    count-requires
-    length-requires
-    returns-2
-    write-requires
-    enum-known-judged-2
-    same-length
-    returns-3
-    returns-4)
+    (λ c κs. search needs) (λ c. search needs) (λ c κs. search needs) returns (λ c κs. search needs) length-requires returns-2
+    write-requires (λ c. search needs) (λ c. search needs) returns-3 returns-4)

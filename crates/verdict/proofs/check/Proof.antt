@@ -14,9 +14,6 @@ use Rattle.verdict.proofs.Checking.{decided-list, checkable, verdict-an
 use Rattle.verdict.proofs.check.Statement.{statement}
 use Rattle.verdict.proofs.check.Tie as tie
 
-test-requires : tie.Need-test-requires
-test-requires c κs = search needs
-
 returns : tie.Need-returns
 returns c = let a = c .before .before .before .before .before .before .before .before .before .args in
     record {
@@ -27,9 +24,6 @@ returns c = let a = c .before .before .before .before .before .before .before .b
       refused = λ n. refl;
       passed = λ e. absurd (c .if1 .taken e);
     }
-
-refusal-requires : tie.Need-refusal-requires
-refusal-requires c κs = search needs
 
 returns-2 : tie.Need-returns-2
 returns-2 c = let a = c .before .before .before .before .before .before .before .before .before .before .before .args in
@@ -79,10 +73,4 @@ pub check-spec : {M : Type 1} → statement M
 check-spec =
     tie.close
     (tie.spec
-    test-requires
-    returns
-    refusal-requires
-    returns-2
-    first-disagreeing-requires
-    verdict-on-requires
-    returns-3)
+    (λ c κs. search needs) returns (λ c κs. search needs) returns-2 first-disagreeing-requires verdict-on-requires returns-3)

@@ -20,9 +20,6 @@ use Rattle.verdict.proofs.Sequencing.{sequence-on}
 use Rattle.verdict.proofs.sequence_of.Statement.{statement}
 use Rattle.verdict.proofs.sequence_of.Tie as tie
 
-test-requires : tie.Need-test-requires
-test-requires c κs = search needs
-
 returns : tie.Need-returns
 returns c =
     let a = c .before .before .before .before .before .before .before .before .before .args in
@@ -34,9 +31,6 @@ returns c =
       carries = (let n = c .if1 .taken in omega arith);
     }
 
-refusal-requires : tie.Need-refusal-requires
-refusal-requires c κs = search needs
-
 returns-2 : tie.Need-returns-2
 returns-2 c =
     let a = c .before .before .before .before .before .before .before .before .before .before .before .args in
@@ -47,9 +41,6 @@ returns-2 c =
           (c .before .refusal .ensures);
       carries = (let n = c .if2 .taken in omega arith);
     }
-
-cast-j : tie.Need-cast-j
-cast-j c = search needs
 
 returns-3 : tie.Need-returns-3
 returns-3 c =
@@ -74,9 +65,6 @@ shared-slice-read-length c =
 
 cast-length : tie.Need-cast-length
 cast-length c = omega (arith, c .shared-slice-known8 .given (c .before .before .before .before .before .before .before .before .before .before .before .before .before .before .args .on .0))
-
-count-requires : tie.Need-count-requires
-count-requires c κs = search needs
 
 mul-eval : tie.Need-mul-eval
 mul-eval c =
@@ -124,15 +112,5 @@ pub sequence-of-spec : {M : Type 1} → statement M
 sequence-of-spec =
     tie.close
     (tie.spec
-    test-requires
-    returns
-    refusal-requires
-    returns-2
-    cast-j
-    returns-3
-    shared-slice-read-length
-    cast-length
-    count-requires
-    mul-eval
-    eval-requires
-    returns-4)
+    (λ c κs. search needs) returns (λ c κs. search needs) returns-2 (λ c. search needs) returns-3 shared-slice-read-length cast-length
+    (λ c κs. search needs) mul-eval eval-requires returns-4)

@@ -18,7 +18,8 @@ loop-holds : tie.Need-loop-holds Inv-loop μ-loop
 loop-holds c = (doubled-first, omega arith)
 
 returns : tie.Need-returns Inv-loop μ-loop
-returns c = let s = c .before .before .before .args in until-on (s .x) (s .y) (s .mask) (until-stopped (and-means {x = s .y} {y = s .mask} (wide (omega arith)) (wide (omega arith)) .wf) (omega arith) (omega arith) (c .before .before .loop .inv .0))
+returns c = let s = c .before .before .before .args in until-on (s .x) (s .y) (s .mask) (until-stopped
+    (and-means {x = s .y} {y = s .mask} (wide (omega arith)) (wide (omega arith)) .wf) (omega arith) (omega arith) (c .before .before .loop .inv .0))
 
 shr-y : tie.Need-shr-y Inv-loop μ-loop
 shr-y c = omega arith
@@ -36,7 +37,8 @@ loop-again : tie.Need-loop-again Inv-loop μ-loop
 loop-again c = (doubled-next _ (c .before .before .loop .inv .0), omega arith)
 
 returns-2 : tie.Need-returns-2 Inv-loop μ-loop
-returns-2 c = let s = c .before .before .args in until-on (s .x) (s .y) (s .mask) (until-whole (and-means {x = s .y} {y = s .mask} (wide (omega arith)) (wide (omega arith)) .wf) (omega arith) (c .before .loop .inv .0))
+returns-2 c = let s = c .before .before .args in until-on (s .x) (s .y) (s .mask)
+    (until-whole (and-means {x = s .y} {y = s .mask} (wide (omega arith)) (wide (omega arith)) .wf) (omega arith) (c .before .loop .inv .0))
 
 pub until-spec : {M : Type 1} → statement M
 until-spec =

@@ -23,20 +23,8 @@ same-length c = let l = c .before .before in let a = l .before .args in same-roo
 returns : tie.Need-returns Inv-loop μ-loop
 returns c = let l = c .before .before in let a = l .before .args in cut-off (a .text .now) (a .at) (a .bytes .now) (l .loop .inv) (c .if1 .taken)
 
-shared-slice-read-text : tie.Need-shared-slice-read-text Inv-loop μ-loop
-shared-slice-read-text c = search needs
-
-slice-write-text : tie.Need-slice-write-text Inv-loop μ-loop
-slice-write-text c = search needs
-
 add-p : tie.Need-add-p Inv-loop μ-loop
 add-p c = let l = c .before .before .before in let a = l .before .args in omega (arith, same-room (a .text .now) (a .at) (a .bytes .now) (l .loop .inv))
-
-add-i : tie.Need-add-i Inv-loop μ-loop
-add-i c = search needs
-
-loop-less : tie.Need-loop-less Inv-loop μ-loop
-loop-less c = search needs
 
 loop-again : tie.Need-loop-again Inv-loop μ-loop
 loop-again c =
@@ -54,16 +42,5 @@ pub put-spec : {M : Type 1} → statement M
 put-spec =
     tie.close
     (tie.spec
-    Inv-loop
-    μ-loop
-    loop-holds
-    same-length
-    returns
-    shared-slice-read-text
-    slice-write-text
-    add-p
-    add-i
-    loop-less
-    loop-again
-    same-length-2
-    returns-2)
+    Inv-loop μ-loop loop-holds same-length returns (λ c. search needs) (λ c. search needs) add-p (λ c. search needs) (λ c. search needs)
+    loop-again same-length-2 returns-2)

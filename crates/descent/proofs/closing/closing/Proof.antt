@@ -8,15 +8,6 @@ use borrow.Author.Needs.{needs}
 use Rattle.descent.proofs.closing.closing.Statement.{statement}
 use Rattle.descent.proofs.closing.closing.Tie as tie
 
-operator-requires : tie.Need-operator-requires
-operator-requires c κs = search needs
-
-enum-known-o : tie.Need-enum-known-o
-enum-known-o c = search needs
-
-byte-requires : tie.Need-byte-requires
-byte-requires c κs = search needs
-
 add-t10 : tie.Need-add-t10
 add-t10 c =
     let s = c .before .before .before .before .before .before .before in
@@ -27,12 +18,6 @@ returns c =
     let a = c .before .before .before .before .before in
     let s = a .before .before in
     closed _ (s .args .at) (s .pre) (c .before .before .before .o .given .1) (a .operator .ensures) (sym (c .before .byte .ensures) ∙ c .if1 .taken)
-
-enum-known-o-2 : tie.Need-enum-known-o-2
-enum-known-o-2 c = search needs
-
-enum-known-o-3 : tie.Need-enum-known-o-3
-enum-known-o-3 c = search needs
 
 returns-2 : tie.Need-returns-2
 returns-2 c =
@@ -56,13 +41,5 @@ pub closing-spec : {M : Type 1} → statement M
 closing-spec =
     tie.close
     (tie.spec
-    operator-requires
-    enum-known-o
-    byte-requires
-    add-t10
-    returns
-    enum-known-o-2
-    enum-known-o-3
-    returns-2
-    returns-3
-    returns-4)
+    (λ c κs. search needs) (λ c. search needs) (λ c κs. search needs) add-t10 returns (λ c. search needs) (λ c. search needs) returns-2
+    returns-3 returns-4)

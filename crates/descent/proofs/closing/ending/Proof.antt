@@ -5,23 +5,11 @@ use borrow.Author.Needs.{needs}
 use Rattle.descent.proofs.closing.ending.Statement.{statement}
 use Rattle.descent.proofs.closing.ending.Tie as tie
 
-operator-requires : tie.Need-operator-requires
-operator-requires c κs = search needs
-
-enum-known-o : tie.Need-enum-known-o
-enum-known-o c = search needs
-
 returns : tie.Need-returns
 returns c =
     let a = c .before .before .before .before in
     let s = a .before .before in
     ended _ (s .args .at) (s .pre) (c .before .before .o .given .1) (a .operator .ensures) (c .if1 .taken)
-
-enum-known-o-2 : tie.Need-enum-known-o-2
-enum-known-o-2 c = search needs
-
-enum-known-o-3 : tie.Need-enum-known-o-3
-enum-known-o-3 c = search needs
 
 returns-2 : tie.Need-returns-2
 returns-2 c =
@@ -45,11 +33,4 @@ pub ending-spec : {M : Type 1} → statement M
 ending-spec =
     tie.close
     (tie.spec
-    operator-requires
-    enum-known-o
-    returns
-    enum-known-o-2
-    enum-known-o-3
-    returns-2
-    returns-3
-    returns-4)
+    (λ c κs. search needs) (λ c. search needs) returns (λ c. search needs) (λ c. search needs) returns-2 returns-3 returns-4)

@@ -25,12 +25,6 @@ slice-write-to c = omega (arith, c .before .before .loop .inv .long, c .before .
 add-p : tie.Need-add-p Inv-loop μ-loop
 add-p c = omega (arith, strides-next _ _ _ _ _ (c .before .before .loop .inv) (c .before .loop-test .taken))
 
-add-i : tie.Need-add-i Inv-loop μ-loop
-add-i c = search needs
-
-loop-less : tie.Need-loop-less Inv-loop μ-loop
-loop-less c = search needs
-
 loop-again : tie.Need-loop-again Inv-loop μ-loop
 loop-again c = strides-turn _ _ _ _ _ (c .before .before .loop .inv) (c .before .loop-test .taken)
 
@@ -44,14 +38,5 @@ pub fill-bytes-spec : {M : Type 1} → statement M
 fill-bytes-spec =
     tie.close
     (tie.spec
-    Inv-loop
-    μ-loop
-    loop-holds
-    shared-slice-read-to
-    slice-write-to
-    add-p
-    add-i
-    loop-less
-    loop-again
-    same-length
+    Inv-loop μ-loop loop-holds shared-slice-read-to slice-write-to add-p (λ c. search needs) (λ c. search needs) loop-again same-length
     returns)

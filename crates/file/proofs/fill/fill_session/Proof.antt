@@ -16,9 +16,6 @@ abbrev μ-loop : tie.MeasureT-loop
 loop-holds : tie.Need-loop-holds Inv-loop μ-loop
 loop-holds c = words-start _ _ _ _ _ (c .before .before .pre .1)
 
-word-from-requires : tie.Need-word-from-requires Inv-loop μ-loop
-word-from-requires c κs = search needs
-
 add-to : tie.Need-add-to Inv-loop μ-loop
 add-to c = omega (arith, c .before .before .loop .inv .upto, c .before .before .before .before .before .pre .0, c .before .before .before .before .before .good)
 
@@ -34,9 +31,6 @@ add-p c = omega (arith, c .before .before .loop .inv .room)
 add-i : tie.Need-add-i Inv-loop μ-loop
 add-i c = omega arith
 
-loop-less : tie.Need-loop-less Inv-loop μ-loop
-loop-less c = search needs
-
 loop-again : tie.Need-loop-again Inv-loop μ-loop
 loop-again c = words-turn _ _ _ _ _ (c .before .before .loop .inv) (c .before .loop-test .taken) _ (c .word-from .ensures .0 (omega (arith, c .before .before .loop .inv .room)))
 
@@ -50,16 +44,5 @@ pub fill-session-spec : {M : Type 1} → statement M
 fill-session-spec =
     tie.close
     (tie.spec
-    Inv-loop
-    μ-loop
-    loop-holds
-    word-from-requires
-    add-to
-    mul-to
-    slice-write-to
-    add-p
-    add-i
-    loop-less
-    loop-again
-    same-length
+    Inv-loop μ-loop loop-holds (λ c κs. search needs) add-to mul-to slice-write-to add-p add-i (λ c. search needs) loop-again same-length
     returns)

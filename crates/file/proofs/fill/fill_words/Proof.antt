@@ -74,17 +74,5 @@ pub fill-words-spec : {M : Type 1} → statement M
 fill-words-spec =
     tie.close
     (tie.spec
-    Inv-loop
-    μ-loop
-    loop-holds
-    add-fill-session
-    fill-session-requires
-    add-p
-    mul-p
-    add-p-2
-    add-k
-    add-i
-    loop-less
-    loop-again
-    same-length
+    Inv-loop μ-loop loop-holds add-fill-session fill-session-requires add-p mul-p add-p-2 add-k add-i loop-less loop-again same-length
     returns)

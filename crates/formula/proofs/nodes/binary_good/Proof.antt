@@ -8,32 +8,11 @@ use borrow.Author.Needs.{needs}
 use Rattle.formula.proofs.nodes.binary_good.Statement.{statement}
 use Rattle.formula.proofs.nodes.binary_good.Tie as tie
 
-cast-left : tie.Need-cast-left
-cast-left c = search needs
-
 returns : tie.Need-returns
 returns c = leftPlace (c .before .before .before .before .before .before .pre .1) (c .if1 .taken)
 
-cast-right : tie.Need-cast-right
-cast-right c = search needs
-
 returns-2 : tie.Need-returns-2
 returns-2 c = rightPlace (c .before .before .before .before .before .before .before .before .pre .1) (c .if2 .taken)
-
-size-at-requires : tie.Need-size-at-requires
-size-at-requires c κs = search needs
-
-size-at-requires-2 : tie.Need-size-at-requires-2
-size-at-requires-2 c κs = search needs
-
-cast-size : tie.Need-cast-size
-cast-size c = search needs
-
-add-if3 : tie.Need-add-if3
-add-if3 c = search needs
-
-add-if3-2 : tie.Need-add-if3-2
-add-if3-2 c = search needs
 
 returns-3 : tie.Need-returns-3
 returns-3 c =
@@ -53,15 +32,5 @@ pub binary-good-spec : {M : Type 1} → statement M
 binary-good-spec =
     tie.close
     (tie.spec
-    cast-left
-    returns
-    cast-right
-    returns-2
-    size-at-requires
-    size-at-requires-2
-    cast-size
-    add-if3
-    add-if3-2
-    returns-3
-    returns-4
-    returns-5)
+    (λ c. search needs) returns (λ c. search needs) returns-2 (λ c κs. search needs) (λ c κs. search needs) (λ c. search needs)
+    (λ c. search needs) (λ c. search needs) returns-3 returns-4 returns-5)

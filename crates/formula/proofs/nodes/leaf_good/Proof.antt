@@ -22,9 +22,6 @@ returns-3 c = rightUnused (c .before .before .before .before .before .before .pr
 returns-4 : tie.Need-returns-4
 returns-4 c = leafSize (is-leaf _ (omega arith) (omega arith)) (c .if4 .taken)
 
-cast-if6 : tie.Need-cast-if6
-cast-if6 c = search needs
-
 returns-5 : tie.Need-returns-5
 returns-5 c =
     leaf (proposition (c .before .before .before .before .before .before .before .before .before .before .before .before .args .node .left .0)) (c .before .before .if5 .taken) refl
@@ -43,12 +40,4 @@ pub leaf-good-spec : {M : Type 1} → statement M
 leaf-good-spec =
     tie.close
     (tie.spec
-    returns
-    returns-2
-    returns-3
-    returns-4
-    cast-if6
-    returns-5
-    returns-6
-    returns-7
-    returns-8)
+    returns returns-2 returns-3 returns-4 (λ c. search needs) returns-5 returns-6 returns-7 returns-8)

@@ -18,17 +18,8 @@ abbrev μ-loop : tie.MeasureT-loop
 loop-holds : tie.Need-loop-holds Inv-loop μ-loop
 loop-holds c = (omega arith, λ p h. absurd (omega arith))
 
-node-at-requires : tie.Need-node-at-requires Inv-loop μ-loop
-node-at-requires c κs = search needs
-
 node-good-requires : tie.Need-node-good-requires Inv-loop μ-loop
 node-good-requires c κs = omega arith
-
-add-i : tie.Need-add-i Inv-loop μ-loop
-add-i c = search needs
-
-loop-less : tie.Need-loop-less Inv-loop μ-loop
-loop-less c = search needs
 
 loop-again : tie.Need-loop-again Inv-loop μ-loop
 loop-again c = (omega arith, fit-more _ _ (c .before .before .before .before .loop .inv .1) (c .before .before .node-at .ensures) (c .before .node-good .ensures) (c .if1 .taken))
@@ -43,13 +34,5 @@ pub nodes-good-spec : {M : Type 1} → statement M
 nodes-good-spec =
     tie.close
     (tie.spec
-    Inv-loop
-    μ-loop
-    loop-holds
-    node-at-requires
-    node-good-requires
-    add-i
-    loop-less
-    loop-again
-    returns
+    Inv-loop μ-loop loop-holds (λ c κs. search needs) node-good-requires (λ c. search needs) (λ c. search needs) loop-again returns
     returns-2)

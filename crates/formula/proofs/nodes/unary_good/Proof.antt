@@ -9,23 +9,11 @@ use borrow.Author.Needs.{needs}
 use Rattle.formula.proofs.nodes.unary_good.Statement.{statement}
 use Rattle.formula.proofs.nodes.unary_good.Tie as tie
 
-cast-left : tie.Need-cast-left
-cast-left c = search needs
-
 returns : tie.Need-returns
 returns c = unaryPlace (c .before .before .before .before .before .before .pre .1) (c .if1 .taken)
 
 returns-2 : tie.Need-returns-2
 returns-2 c = rightUnused (not-both _ (c .before .before .before .before .before .before .before .before .pre .1)) (c .if2 .taken)
-
-size-at-requires : tie.Need-size-at-requires
-size-at-requires c κs = search needs
-
-cast-size : tie.Need-cast-size
-cast-size c = search needs
-
-add-if3 : tie.Need-add-if3
-add-if3 c = search needs
 
 returns-3 : tie.Need-returns-3
 returns-3 c = unarySize (c .before .before .before .before .before .before .before .before .before .before .before .pre .1) (λ e. c .if3 .taken (omega (arith, c .before .before .size-at .ensures .0)))
@@ -42,12 +30,4 @@ pub unary-good-spec : {M : Type 1} → statement M
 unary-good-spec =
     tie.close
     (tie.spec
-    cast-left
-    returns
-    returns-2
-    size-at-requires
-    cast-size
-    add-if3
-    returns-3
-    returns-4
-    returns-5)
+    (λ c. search needs) returns returns-2 (λ c κs. search needs) (λ c. search needs) (λ c. search needs) returns-3 returns-4 returns-5)

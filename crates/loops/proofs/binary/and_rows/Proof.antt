@@ -32,9 +32,6 @@ mul-and-2 c = omega arith
 shared-slice-read-and-2 : tie.Need-shared-slice-read-and-2 Inv-loop μ-loop
 shared-slice-read-and-2 c = omega arith
 
-and-requires : tie.Need-and-requires Inv-loop μ-loop
-and-requires c κs = search needs
-
 mul-rows : tie.Need-mul-rows Inv-loop μ-loop
 mul-rows c = omega arith
 
@@ -60,18 +57,5 @@ pub and-rows-spec : {M : Type 1} → statement M
 and-rows-spec =
     tie.close
     (tie.spec
-    Inv-loop
-    μ-loop
-    loop-holds
-    mul-and
-    shared-slice-read-and
-    mul-and-2
-    shared-slice-read-and-2
-    and-requires
-    mul-rows
-    slice-write-rows
-    add-j
-    loop-less
-    loop-again
-    same-length
-    returns)
+    Inv-loop μ-loop loop-holds mul-and shared-slice-read-and mul-and-2 shared-slice-read-and-2 (λ c κs. search needs) mul-rows
+    slice-write-rows add-j loop-less loop-again same-length returns)

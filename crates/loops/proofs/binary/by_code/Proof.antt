@@ -111,26 +111,6 @@ pub by-code-spec : {M : Type 1} → statement M
 by-code-spec =
     tie.close
     (tie.spec
-    returns
-    returns-2
-    returns-3
-    returns-4
-    or-rows-requires
-    and-rows-requires
-    until-rows-requires
-    release-rows-requires
-    implies-rows-requires
-    equiv-rows-requires
-    same-length
-    returns-5
-    same-length-2
-    returns-6
-    same-length-3
-    returns-7
-    same-length-4
-    returns-8
-    same-length-5
-    returns-9
-    same-length-6
-    returns-10
-    returns-11)
+    returns returns-2 returns-3 returns-4 or-rows-requires and-rows-requires until-rows-requires release-rows-requires implies-rows-requires
+    equiv-rows-requires same-length returns-5 same-length-2 returns-6 same-length-3 returns-7 same-length-4 returns-8 same-length-5
+    returns-9 same-length-6 returns-10 returns-11)

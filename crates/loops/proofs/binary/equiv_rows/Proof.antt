@@ -37,9 +37,6 @@ mul-equiv-3 c = omega arith
 shared-slice-read-equiv-3 : tie.Need-shared-slice-read-equiv-3 Inv-loop μ-loop
 shared-slice-read-equiv-3 c = omega arith
 
-equiv-requires : tie.Need-equiv-requires Inv-loop μ-loop
-equiv-requires c κs = search needs
-
 mul-rows : tie.Need-mul-rows Inv-loop μ-loop
 mul-rows c = omega arith
 
@@ -65,20 +62,5 @@ pub equiv-rows-spec : {M : Type 1} → statement M
 equiv-rows-spec =
     tie.close
     (tie.spec
-    Inv-loop
-    μ-loop
-    loop-holds
-    mul-equiv
-    shared-slice-read-equiv
-    mul-equiv-2
-    shared-slice-read-equiv-2
-    mul-equiv-3
-    shared-slice-read-equiv-3
-    equiv-requires
-    mul-rows
-    slice-write-rows
-    add-j
-    loop-less
-    loop-again
-    same-length
-    returns)
+    Inv-loop μ-loop loop-holds mul-equiv shared-slice-read-equiv mul-equiv-2 shared-slice-read-equiv-2 mul-equiv-3 shared-slice-read-equiv-3
+    (λ c κs. search needs) mul-rows slice-write-rows add-j loop-less loop-again same-length returns)

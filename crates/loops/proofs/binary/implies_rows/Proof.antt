@@ -37,9 +37,6 @@ mul-implies-3 c = omega arith
 shared-slice-read-implies-3 : tie.Need-shared-slice-read-implies-3 Inv-loop μ-loop
 shared-slice-read-implies-3 c = omega arith
 
-implies-requires : tie.Need-implies-requires Inv-loop μ-loop
-implies-requires c κs = search needs
-
 mul-rows : tie.Need-mul-rows Inv-loop μ-loop
 mul-rows c = omega arith
 
@@ -65,20 +62,5 @@ pub implies-rows-spec : {M : Type 1} → statement M
 implies-rows-spec =
     tie.close
     (tie.spec
-    Inv-loop
-    μ-loop
-    loop-holds
-    mul-implies
-    shared-slice-read-implies
-    mul-implies-2
-    shared-slice-read-implies-2
-    mul-implies-3
-    shared-slice-read-implies-3
-    implies-requires
-    mul-rows
-    slice-write-rows
-    add-j
-    loop-less
-    loop-again
-    same-length
-    returns)
+    Inv-loop μ-loop loop-holds mul-implies shared-slice-read-implies mul-implies-2 shared-slice-read-implies-2 mul-implies-3
+    shared-slice-read-implies-3 (λ c κs. search needs) mul-rows slice-write-rows add-j loop-less loop-again same-length returns)

@@ -32,9 +32,6 @@ mul-or-2 c = omega arith
 shared-slice-read-or-2 : tie.Need-shared-slice-read-or-2 Inv-loop μ-loop
 shared-slice-read-or-2 c = omega arith
 
-or-requires : tie.Need-or-requires Inv-loop μ-loop
-or-requires c κs = search needs
-
 mul-rows : tie.Need-mul-rows Inv-loop μ-loop
 mul-rows c = omega arith
 
@@ -60,18 +57,5 @@ pub or-rows-spec : {M : Type 1} → statement M
 or-rows-spec =
     tie.close
     (tie.spec
-    Inv-loop
-    μ-loop
-    loop-holds
-    mul-or
-    shared-slice-read-or
-    mul-or-2
-    shared-slice-read-or-2
-    or-requires
-    mul-rows
-    slice-write-rows
-    add-j
-    loop-less
-    loop-again
-    same-length
-    returns)
+    Inv-loop μ-loop loop-holds mul-or shared-slice-read-or mul-or-2 shared-slice-read-or-2 (λ c κs. search needs) mul-rows slice-write-rows
+    add-j loop-less loop-again same-length returns)

@@ -37,9 +37,6 @@ mul-release-3 c = omega arith
 shared-slice-read-release-3 : tie.Need-shared-slice-read-release-3 Inv-loop μ-loop
 shared-slice-read-release-3 c = omega arith
 
-release-requires : tie.Need-release-requires Inv-loop μ-loop
-release-requires c κs = search needs
-
 mul-rows : tie.Need-mul-rows Inv-loop μ-loop
 mul-rows c = omega arith
 
@@ -65,20 +62,5 @@ pub release-rows-spec : {M : Type 1} → statement M
 release-rows-spec =
     tie.close
     (tie.spec
-    Inv-loop
-    μ-loop
-    loop-holds
-    mul-release
-    shared-slice-read-release
-    mul-release-2
-    shared-slice-read-release-2
-    mul-release-3
-    shared-slice-read-release-3
-    release-requires
-    mul-rows
-    slice-write-rows
-    add-j
-    loop-less
-    loop-again
-    same-length
-    returns)
+    Inv-loop μ-loop loop-holds mul-release shared-slice-read-release mul-release-2 shared-slice-read-release-2 mul-release-3
+    shared-slice-read-release-3 (λ c κs. search needs) mul-rows slice-write-rows add-j loop-less loop-again same-length returns)

@@ -37,9 +37,6 @@ mul-until-3 c = omega arith
 shared-slice-read-until-3 : tie.Need-shared-slice-read-until-3 Inv-loop μ-loop
 shared-slice-read-until-3 c = omega arith
 
-until-requires : tie.Need-until-requires Inv-loop μ-loop
-until-requires c κs = search needs
-
 mul-rows : tie.Need-mul-rows Inv-loop μ-loop
 mul-rows c = omega arith
 
@@ -65,20 +62,5 @@ pub until-rows-spec : {M : Type 1} → statement M
 until-rows-spec =
     tie.close
     (tie.spec
-    Inv-loop
-    μ-loop
-    loop-holds
-    mul-until
-    shared-slice-read-until
-    mul-until-2
-    shared-slice-read-until-2
-    mul-until-3
-    shared-slice-read-until-3
-    until-requires
-    mul-rows
-    slice-write-rows
-    add-j
-    loop-less
-    loop-again
-    same-length
-    returns)
+    Inv-loop μ-loop loop-holds mul-until shared-slice-read-until mul-until-2 shared-slice-read-until-2 mul-until-3 shared-slice-read-until-3
+    (λ c κs. search needs) mul-rows slice-write-rows add-j loop-less loop-again same-length returns)

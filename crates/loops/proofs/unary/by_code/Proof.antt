@@ -94,22 +94,6 @@ pub by-code-spec : {M : Type 1} → statement M
 by-code-spec =
     tie.close
     (tie.spec
-    returns
-    returns-2
-    returns-3
-    not-rows-requires
-    weak-next-rows-requires
-    strong-next-rows-requires
-    finally-rows-requires
-    globally-rows-requires
-    same-length
-    returns-4
-    same-length-2
-    returns-5
-    same-length-3
-    returns-6
-    same-length-4
-    returns-7
-    same-length-5
-    returns-8
-    returns-9)
+    returns returns-2 returns-3 not-rows-requires weak-next-rows-requires strong-next-rows-requires finally-rows-requires
+    globally-rows-requires same-length returns-4 same-length-2 returns-5 same-length-3 returns-6 same-length-4 returns-7 same-length-5
+    returns-8 returns-9)

@@ -31,9 +31,6 @@ mul-finally-2 c = omega arith
 shared-slice-read-finally-2 : tie.Need-shared-slice-read-finally-2 Inv-loop μ-loop
 shared-slice-read-finally-2 c = omega arith
 
-finally-requires : tie.Need-finally-requires Inv-loop μ-loop
-finally-requires c κs = search needs
-
 mul-rows : tie.Need-mul-rows Inv-loop μ-loop
 mul-rows c = omega arith
 
@@ -59,18 +56,5 @@ pub finally-rows-spec : {M : Type 1} → statement M
 finally-rows-spec =
     tie.close
     (tie.spec
-    Inv-loop
-    μ-loop
-    loop-holds
-    mul-finally
-    shared-slice-read-finally
-    mul-finally-2
-    shared-slice-read-finally-2
-    finally-requires
-    mul-rows
-    slice-write-rows
-    add-j
-    loop-less
-    loop-again
-    same-length
-    returns)
+    Inv-loop μ-loop loop-holds mul-finally shared-slice-read-finally mul-finally-2 shared-slice-read-finally-2 (λ c κs. search needs)
+    mul-rows slice-write-rows add-j loop-less loop-again same-length returns)

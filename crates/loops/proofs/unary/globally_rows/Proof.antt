@@ -31,9 +31,6 @@ mul-globally-2 c = omega arith
 shared-slice-read-globally-2 : tie.Need-shared-slice-read-globally-2 Inv-loop μ-loop
 shared-slice-read-globally-2 c = omega arith
 
-globally-requires : tie.Need-globally-requires Inv-loop μ-loop
-globally-requires c κs = search needs
-
 mul-rows : tie.Need-mul-rows Inv-loop μ-loop
 mul-rows c = omega arith
 
@@ -59,18 +56,5 @@ pub globally-rows-spec : {M : Type 1} → statement M
 globally-rows-spec =
     tie.close
     (tie.spec
-    Inv-loop
-    μ-loop
-    loop-holds
-    mul-globally
-    shared-slice-read-globally
-    mul-globally-2
-    shared-slice-read-globally-2
-    globally-requires
-    mul-rows
-    slice-write-rows
-    add-j
-    loop-less
-    loop-again
-    same-length
-    returns)
+    Inv-loop μ-loop loop-holds mul-globally shared-slice-read-globally mul-globally-2 shared-slice-read-globally-2 (λ c κs. search needs)
+    mul-rows slice-write-rows add-j loop-less loop-again same-length returns)

@@ -31,9 +31,6 @@ mul-not-2 c = omega arith
 shared-slice-read-not-2 : tie.Need-shared-slice-read-not-2 Inv-loop μ-loop
 shared-slice-read-not-2 c = omega arith
 
-not-requires : tie.Need-not-requires Inv-loop μ-loop
-not-requires c κs = search needs
-
 mul-rows : tie.Need-mul-rows Inv-loop μ-loop
 mul-rows c = omega arith
 
@@ -59,18 +56,5 @@ pub not-rows-spec : {M : Type 1} → statement M
 not-rows-spec =
     tie.close
     (tie.spec
-    Inv-loop
-    μ-loop
-    loop-holds
-    mul-not
-    shared-slice-read-not
-    mul-not-2
-    shared-slice-read-not-2
-    not-requires
-    mul-rows
-    slice-write-rows
-    add-j
-    loop-less
-    loop-again
-    same-length
-    returns)
+    Inv-loop μ-loop loop-holds mul-not shared-slice-read-not mul-not-2 shared-slice-read-not-2 (λ c κs. search needs) mul-rows
+    slice-write-rows add-j loop-less loop-again same-length returns)

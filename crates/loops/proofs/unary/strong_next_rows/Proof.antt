@@ -26,9 +26,6 @@ mul-strong-next c = omega arith
 shared-slice-read-strong-next : tie.Need-shared-slice-read-strong-next Inv-loop μ-loop
 shared-slice-read-strong-next c = omega arith
 
-strong-next-requires : tie.Need-strong-next-requires Inv-loop μ-loop
-strong-next-requires c κs = search needs
-
 mul-rows : tie.Need-mul-rows Inv-loop μ-loop
 mul-rows c = omega arith
 
@@ -54,16 +51,5 @@ pub strong-next-rows-spec : {M : Type 1} → statement M
 strong-next-rows-spec =
     tie.close
     (tie.spec
-    Inv-loop
-    μ-loop
-    loop-holds
-    mul-strong-next
-    shared-slice-read-strong-next
-    strong-next-requires
-    mul-rows
-    slice-write-rows
-    add-j
-    loop-less
-    loop-again
-    same-length
-    returns)
+    Inv-loop μ-loop loop-holds mul-strong-next shared-slice-read-strong-next (λ c κs. search needs) mul-rows slice-write-rows add-j
+    loop-less loop-again same-length returns)

@@ -31,9 +31,6 @@ mul-weak-next-2 c = omega arith
 shared-slice-read-weak-next-2 : tie.Need-shared-slice-read-weak-next-2 Inv-loop μ-loop
 shared-slice-read-weak-next-2 c = omega arith
 
-weak-next-requires : tie.Need-weak-next-requires Inv-loop μ-loop
-weak-next-requires c κs = search needs
-
 mul-rows : tie.Need-mul-rows Inv-loop μ-loop
 mul-rows c = omega arith
 
@@ -59,18 +56,5 @@ pub weak-next-rows-spec : {M : Type 1} → statement M
 weak-next-rows-spec =
     tie.close
     (tie.spec
-    Inv-loop
-    μ-loop
-    loop-holds
-    mul-weak-next
-    shared-slice-read-weak-next
-    mul-weak-next-2
-    shared-slice-read-weak-next-2
-    weak-next-requires
-    mul-rows
-    slice-write-rows
-    add-j
-    loop-less
-    loop-again
-    same-length
-    returns)
+    Inv-loop μ-loop loop-holds mul-weak-next shared-slice-read-weak-next mul-weak-next-2 shared-slice-read-weak-next-2
+    (λ c κs. search needs) mul-rows slice-write-rows add-j loop-less loop-again same-length returns)

@@ -19,17 +19,11 @@ abbrev μ-loop : tie.MeasureT-loop
 returns : tie.Need-returns Inv-loop μ-loop
 returns c = let a = c .before .before .before .args in nothing-there (a .section .now) (a .word .now) (c .if1 .taken)
 
-shared-slice-read-count : tie.Need-shared-slice-read-count Inv-loop μ-loop
-shared-slice-read-count c = search needs
-
 cast-count : tie.Need-cast-count Inv-loop μ-loop
 cast-count c = omega (arith, c .shared-slice-known3 .given 0)
 
 loop-holds : tie.Need-loop-holds Inv-loop μ-loop
 loop-holds c = missed-start _ _ _
-
-letters-requires : tie.Need-letters-requires Inv-loop μ-loop
-letters-requires c κs = search needs
 
 sub-same : tie.Need-sub-same Inv-loop μ-loop
 sub-same c =
@@ -49,9 +43,6 @@ part-same-end c =
     let o = span-order (at-loop .before .before .before .before .before .args .section .now) (at-loop .loop .j) (c .letters .ensures) in
     omega (arith, o .0, o .1)
 
-same-requires : tie.Need-same-requires Inv-loop μ-loop
-same-requires c κs = search needs
-
 returns-2 : tie.Need-returns-2 Inv-loop μ-loop
 returns-2 c =
     let at-letters = c .before .before .before in
@@ -62,9 +53,6 @@ returns-2 c =
 
 add-j : tie.Need-add-j Inv-loop μ-loop
 add-j c = omega (arith, c .before .before .before .before .before .before .shared-slice-known3 .given 0)
-
-loop-less : tie.Need-loop-less Inv-loop μ-loop
-loop-less c = search needs
 
 loop-again : tie.Need-loop-again Inv-loop μ-loop
 loop-again c =
@@ -84,19 +72,5 @@ pub find-spec : {M : Type 1} → statement M
 find-spec =
     tie.close
     (tie.spec
-    Inv-loop
-    μ-loop
-    returns
-    shared-slice-read-count
-    cast-count
-    loop-holds
-    letters-requires
-    sub-same
-    part-same-start
-    part-same-end
-    same-requires
-    returns-2
-    add-j
-    loop-less
-    loop-again
-    returns-3)
+    Inv-loop μ-loop returns (λ c. search needs) cast-count loop-holds (λ c κs. search needs) sub-same part-same-start part-same-end
+    (λ c κs. search needs) returns-2 add-j (λ c. search needs) loop-again returns-3)

@@ -41,7 +41,11 @@ array-read-counts : tie.Need-array-read-counts Inv-loop μ-loop
 array-read-counts c = omega arith
 
 add-counts-2 : tie.Need-add-counts-2 Inv-loop μ-loop
-add-counts-2 c = omega (arith, counted-few _ (c .before .before .before .loop .inv .1) (omega arith) (getD (c .before .before .before .before .args .sizes .now) (c .before .before .before .loop .p) 0) (omega arith))
+add-counts-2 c = omega (
+  arith,
+  counted-few _ (c .before .before .before .loop .inv .1) (omega arith)
+      (getD (c .before .before .before .before .args .sizes .now) (c .before .before .before .loop .p) 0) (omega arith),
+)
 
 array-write-counts : tie.Need-array-write-counts Inv-loop μ-loop
 array-write-counts c = omega arith
@@ -53,7 +57,11 @@ loop-less : tie.Need-loop-less Inv-loop μ-loop
 loop-less c = omega arith
 
 loop-again : tie.Need-loop-again Inv-loop μ-loop
-loop-again c = (omega arith, ⊎-elim (λ w. rw (w .1) (counted-more _ (c .before .before .before .loop .inv .1) (omega arith) (w .0 .taken))) (λ w. rw (w .1) (counted-out _ (c .before .before .before .loop .inv .1) (omega arith) (w .0 .left))) (c .if1 .came))
+loop-again c = (
+  omega arith,
+  ⊎-elim (λ w. rw (w .1) (counted-more _ (c .before .before .before .loop .inv .1) (omega arith) (w .0 .taken)))
+      (λ w. rw (w .1) (counted-out _ (c .before .before .before .loop .inv .1) (omega arith) (w .0 .left))) (c .if1 .came),
+)
 
 returns : tie.Need-returns Inv-loop μ-loop
 returns c = let e : c .before .loop .p ≡ c .before .before .args .n = omega arith in rw e at (c .before .loop .inv .1)
@@ -62,19 +70,5 @@ pub counts-spec : {M : Type 1} → statement M
 counts-spec =
     tie.close
     (tie.spec
-    Inv-loop
-    μ-loop
-    loop-holds
-    cast-t
-    shared-slice-read-t
-    cast-t-2
-    sub-if1
-    add-counts
-    mul-counts
-    array-read-counts
-    add-counts-2
-    array-write-counts
-    add-p
-    loop-less
-    loop-again
-    returns)
+    Inv-loop μ-loop loop-holds cast-t shared-slice-read-t cast-t-2 sub-if1 add-counts mul-counts array-read-counts add-counts-2
+    array-write-counts add-p loop-less loop-again returns)

@@ -14,9 +14,6 @@ Inv-loop sizes kept starts₀ t₀ starts t = (1 ≤ t) × (t ≤ 33) × Summed 
 abbrev μ-loop : tie.MeasureT-loop
 μ-loop sizes kept starts₀ t₀ starts t = 33 - t
 
-fewer-requires : tie.Need-fewer-requires Inv-loop μ-loop
-fewer-requires c κs = search needs
-
 counts-requires : tie.Need-counts-requires Inv-loop μ-loop
 counts-requires c κs = omega (arith, c .fewer .ensures)
 
@@ -39,7 +36,13 @@ array-read-starts-2 : tie.Need-array-read-starts-2 Inv-loop μ-loop
 array-read-starts-2 c = omega arith
 
 add-starts : tie.Need-add-starts Inv-loop μ-loop
-add-starts c = omega (arith, summed-few (c .before .loop .inv .2) (omega arith) (omega arith), length-take (min (c .before .before .before .before .before .args .kept) (length (c .before .before .before .before .before .args .sizes .now))) (c .before .before .before .before .before .args .sizes .now))
+add-starts c = omega (
+  arith,
+  summed-few (c .before .loop .inv .2) (omega arith) (omega arith),
+  length-take
+      (min (c .before .before .before .before .before .args .kept) (length (c .before .before .before .before .before .args .sizes .now)))
+      (c .before .before .before .before .before .args .sizes .now),
+)
 
 array-write-starts : tie.Need-array-write-starts Inv-loop μ-loop
 array-write-starts c = omega arith
@@ -60,19 +63,5 @@ pub of-table-spec : {M : Type 1} → statement M
 of-table-spec =
     tie.close
     (tie.spec
-    Inv-loop
-    μ-loop
-    fewer-requires
-    counts-requires
-    loop-holds
-    sub-starts
-    mul-starts
-    array-read-starts
-    mul-starts-2
-    array-read-starts-2
-    add-starts
-    array-write-starts
-    add-t
-    loop-less
-    loop-again
-    returns)
+    Inv-loop μ-loop (λ c κs. search needs) counts-requires loop-holds sub-starts mul-starts array-read-starts mul-starts-2
+    array-read-starts-2 add-starts array-write-starts add-t loop-less loop-again returns)

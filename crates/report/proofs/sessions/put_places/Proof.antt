@@ -21,9 +21,6 @@ Inv-loop r m marks lengths words codes lefts rights sizes under on text₀ at n 
 abbrev μ-loop : tie.MeasureT-loop
 μ-loop r m marks lengths words codes lefts rights sizes under on text₀ at n p₀ b₀ text p b = n - p
 
-count-requires : tie.Need-count-requires Inv-loop μ-loop
-count-requires c κs = search needs
-
 cast-n : tie.Need-cast-n Inv-loop μ-loop
 cast-n c =
     let a = c .before .before .before .before .before .before .before .before .before .before .args in
@@ -83,14 +80,4 @@ pub put-places-spec : {M : Type 1} → statement M
 put-places-spec =
     tie.close
     (tie.spec
-    Inv-loop
-    μ-loop
-    count-requires
-    cast-n
-    loop-holds
-    put-listed-requires
-    add-p
-    loop-less
-    loop-again
-    same-length
-    returns)
+    Inv-loop μ-loop (λ c κs. search needs) cast-n loop-holds put-listed-requires add-p loop-less loop-again same-length returns)

@@ -74,13 +74,4 @@ pub put-sessions-spec : {M : Type 1} → statement M
 put-sessions-spec =
     tie.close
     (tie.spec
-    Inv-loop
-    μ-loop
-    cast-n
-    loop-holds
-    put-session-requires
-    add-j
-    loop-less
-    loop-again
-    same-length
-    returns)
+    Inv-loop μ-loop cast-n loop-holds put-session-requires add-j loop-less loop-again same-length returns)

@@ -30,7 +30,9 @@ same-length c = search needs
 returns-2 : tie.Need-returns-2
 returns-2 c =
     let a = c .before .before .before .before .before .before .before .before .before .before .before .before .args in
-    subst (λ (n : Node). MarksBelow (a .marks .now) (a .q) n (c .before .before .mark-children .last .0)) (c .before .before .before .before .node-at .ensures) (below-marked (a .marks .now) _ (a .q) (c .before .before .before .before .before .if1 .left) (c .before .before .mark-children .ensures))
+    subst (λ (n : Node). MarksBelow (a .marks .now) (a .q) n (c .before .before .mark-children .last .0))
+    (c .before .before .before .before .node-at .ensures)
+    (below-marked (a .marks .now) _ (a .q) (c .before .before .before .before .before .if1 .left) (c .before .before .mark-children .ensures))
 
 pub mark-below-spec : {M : Type 1} → statement M
 mark-below-spec =

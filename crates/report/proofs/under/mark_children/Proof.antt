@@ -10,38 +10,11 @@ use borrow.Author.Needs.{needs}
 use Rattle.report.proofs.under.mark_children.Statement.{statement}
 use Rattle.report.proofs.under.mark_children.Tie as tie
 
-operator-of-requires : tie.Need-operator-of-requires
-operator-of-requires c κs = search needs
-
-enum-told : tie.Need-enum-told
-enum-told c = search needs
-
-mark-requires : tie.Need-mark-requires
-mark-requires c κs = search needs
-
-enum-told-2 : tie.Need-enum-told-2
-enum-told-2 c = search needs
-
-mark-requires-2 : tie.Need-mark-requires-2
-mark-requires-2 c κs = search needs
-
-mark-requires-3 : tie.Need-mark-requires-3
-mark-requires-3 c κs = search needs
-
-enum-told-3 : tie.Need-enum-told-3
-enum-told-3 c = search needs
-
-same-length : tie.Need-same-length
-same-length c = search needs
-
 returns : tie.Need-returns
 returns c =
     let a = c .before .before .before .before .before .before .before .before .args in
     let f = c .before .before .before .before .before .before .operator-of in
     marks-left (a .marks .now) (nodeOf (a .node)) (in-unary _ (f .result) (f .ensures) (c .before .before .before .before .enum-told .given .1)) (c .before .before .mark .ensures)
-
-same-length-2 : tie.Need-same-length-2
-same-length-2 c = search needs
 
 returns-2 : tie.Need-returns-2
 returns-2 c =
@@ -61,15 +34,5 @@ pub mark-children-spec : {M : Type 1} → statement M
 mark-children-spec =
     tie.close
     (tie.spec
-    operator-of-requires
-    enum-told
-    mark-requires
-    enum-told-2
-    mark-requires-2
-    mark-requires-3
-    enum-told-3
-    same-length
-    returns
-    same-length-2
-    returns-2
-    returns-3)
+    (λ c κs. search needs) (λ c. search needs) (λ c κs. search needs) (λ c. search needs) (λ c κs. search needs) (λ c κs. search needs)
+    (λ c. search needs) (λ c. search needs) returns (λ c. search needs) returns-2 returns-3)

@@ -19,15 +19,6 @@ Inv-loop codes lefts rights sizes marks₀ q₀ marks q =
 abbrev μ-loop : tie.MeasureT-loop
 μ-loop codes lefts rights sizes marks₀ q₀ marks q = q
 
-slice-aggregate-mark-children : tie.Need-slice-aggregate-mark-children Inv-loop μ-loop
-slice-aggregate-mark-children c = search needs
-
-mark-children-requires : tie.Need-mark-children-requires Inv-loop μ-loop
-mark-children-requires c κs = search needs
-
-count-requires : tie.Need-count-requires Inv-loop μ-loop
-count-requires c κs = search needs
-
 loop-holds : tie.Need-loop-holds Inv-loop μ-loop
 loop-holds c =
     let a = c .before .before .before .before .before .before .before .before .args in
@@ -91,15 +82,5 @@ pub places-under-spec : {M : Type 1} → statement M
 places-under-spec =
     tie.close
     (tie.spec
-    Inv-loop
-    μ-loop
-    slice-aggregate-mark-children
-    mark-children-requires
-    count-requires
-    loop-holds
-    sub-q
-    slice-aggregate-mark-below
-    mark-below-requires
-    loop-less
-    loop-again
-    returns)
+    Inv-loop μ-loop (λ c. search needs) (λ c κs. search needs) (λ c κs. search needs) loop-holds sub-q slice-aggregate-mark-below
+    mark-below-requires loop-less loop-again returns)

@@ -10,9 +10,6 @@ use Rattle.rows.proofs.Products.{at-most}
 use Rattle.rows.proofs.binary.rows_of.Statement.{statement}
 use Rattle.rows.proofs.binary.rows_of.Tie as tie
 
-cast-one : tie.Need-cast-one
-cast-one c = search needs
-
 mul-one : tie.Need-mul-one
 mul-one c = let a = c .before .before .before .before .args in omega (arith, at-most (a .left .0) 65535 (a .r) mostSessions (omega arith) (omega arith))
 
@@ -21,9 +18,6 @@ add-if1 c = let a = c .before .before .before .before .args in omega (arith, at-
 
 returns : tie.Need-returns
 returns c = (λ h. omega (arith, h .0), refl)
-
-cast-other : tie.Need-cast-other
-cast-other c = search needs
 
 mul-other : tie.Need-mul-other
 mul-other c = let a = c .before .before .before .before .before .before .args in omega (arith, at-most (a .right .0) 65535 (a .r) mostSessions (omega arith) (omega arith))
@@ -34,35 +28,17 @@ add-if2 c = let a = c .before .before .before .before .before .before .args in o
 returns-2 : tie.Need-returns-2
 returns-2 c = (λ h. omega (arith, h .1), refl)
 
-mul-by-code : tie.Need-mul-by-code
-mul-by-code c = search needs
-
 sub-by-code : tie.Need-sub-by-code
 sub-by-code c = omega arith
 
 part-by-code-start : tie.Need-part-by-code-start
 part-by-code-start c = omega arith
 
-part-by-code-end : tie.Need-part-by-code-end
-part-by-code-end c = search needs
-
-mul-by-code-2 : tie.Need-mul-by-code-2
-mul-by-code-2 c = search needs
-
 sub-by-code-2 : tie.Need-sub-by-code-2
 sub-by-code-2 c = omega arith
 
 part-by-code-start-2 : tie.Need-part-by-code-start-2
 part-by-code-start-2 c = omega arith
-
-part-by-code-end-2 : tie.Need-part-by-code-end-2
-part-by-code-end-2 c = search needs
-
-by-code-requires : tie.Need-by-code-requires
-by-code-requires c κs = search needs
-
-same-length : tie.Need-same-length
-same-length c = search needs
 
 returns-3 : tie.Need-returns-3
 returns-3 c =
@@ -84,22 +60,6 @@ pub rows-of-spec : {M : Type 1} → statement M
 rows-of-spec =
     tie.close
     (tie.spec
-    cast-one
-    mul-one
-    add-if1
-    returns
-    cast-other
-    mul-other
-    add-if2
-    returns-2
-    mul-by-code
-    sub-by-code
-    part-by-code-start
-    part-by-code-end
-    mul-by-code-2
-    sub-by-code-2
-    part-by-code-start-2
-    part-by-code-end-2
-    by-code-requires
-    same-length
-    returns-3)
+    (λ c. search needs) mul-one add-if1 returns (λ c. search needs) mul-other add-if2 returns-2 (λ c. search needs) sub-by-code
+    part-by-code-start (λ c. search needs) (λ c. search needs) sub-by-code-2 part-by-code-start-2 (λ c. search needs) (λ c κs. search needs)
+    (λ c. search needs) returns-3)

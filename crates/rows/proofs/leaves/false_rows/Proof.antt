@@ -42,13 +42,4 @@ pub false-rows-spec : {M : Type 1} → statement M
 false-rows-spec =
     tie.close
     (tie.spec
-    Inv-loop
-    μ-loop
-    loop-holds
-    mul-rows
-    slice-write-rows
-    add-j
-    loop-less
-    loop-again
-    same-length
-    returns)
+    Inv-loop μ-loop loop-holds mul-rows slice-write-rows add-j loop-less loop-again same-length returns)

@@ -19,9 +19,6 @@ Inv-loop r m words rows₀ j₀ at₀ rows j at = (j ≤ r) × Filled j rows₀ 
 abbrev μ-loop : tie.MeasureT-loop
 μ-loop r m words rows₀ j₀ at₀ rows j at = r - j
 
-cast-at : tie.Need-cast-at Inv-loop μ-loop
-cast-at c = search needs
-
 loop-holds : tie.Need-loop-holds Inv-loop μ-loop
 loop-holds c = (omega arith, filled-none _, omega (arith, zero-mul (c .before .args .m)))
 
@@ -71,17 +68,5 @@ pub proposition-rows-spec : {M : Type 1} → statement M
 proposition-rows-spec =
     tie.close
     (tie.spec
-    Inv-loop
-    μ-loop
-    cast-at
-    loop-holds
-    mul-rows
-    shared-slice-read-rows
-    mul-rows-2
-    slice-write-rows
-    add-at
-    add-j
-    loop-less
-    loop-again
-    same-length
-    returns)
+    Inv-loop μ-loop (λ c. search needs) loop-holds mul-rows shared-slice-read-rows mul-rows-2 slice-write-rows add-at add-j loop-less
+    loop-again same-length returns)

@@ -26,9 +26,6 @@ mul-places c = omega arith
 shared-slice-read-places : tie.Need-shared-slice-read-places Inv-loop μ-loop
 shared-slice-read-places c = omega arith
 
-places-requires : tie.Need-places-requires Inv-loop μ-loop
-places-requires c κs = search needs
-
 mul-rows : tie.Need-mul-rows Inv-loop μ-loop
 mul-rows c = omega arith
 
@@ -54,16 +51,5 @@ pub true-rows-spec : {M : Type 1} → statement M
 true-rows-spec =
     tie.close
     (tie.spec
-    Inv-loop
-    μ-loop
-    loop-holds
-    mul-places
-    shared-slice-read-places
-    places-requires
-    mul-rows
-    slice-write-rows
-    add-j
-    loop-less
-    loop-again
-    same-length
-    returns)
+    Inv-loop μ-loop loop-holds mul-places shared-slice-read-places (λ c κs. search needs) mul-rows slice-write-rows add-j loop-less
+    loop-again same-length returns)

@@ -24,9 +24,6 @@ shared-slice-read-mask c = omega arith
 cast-mask : tie.Need-cast-mask Inv-loop μ-loop
 cast-mask c = omega (arith, c .shared-slice-known2 .given (c .before .before .loop .j))
 
-mask-requires : tie.Need-mask-requires Inv-loop μ-loop
-mask-requires c κs = search needs
-
 mul-masks : tie.Need-mul-masks Inv-loop μ-loop
 mul-masks c = omega arith
 
@@ -52,16 +49,5 @@ pub fill-spec : {M : Type 1} → statement M
 fill-spec =
     tie.close
     (tie.spec
-    Inv-loop
-    μ-loop
-    loop-holds
-    shared-slice-read-mask
-    cast-mask
-    mask-requires
-    mul-masks
-    slice-write-masks
-    add-j
-    loop-less
-    loop-again
-    same-length
-    returns)
+    Inv-loop μ-loop loop-holds shared-slice-read-mask cast-mask (λ c κs. search needs) mul-masks slice-write-masks add-j loop-less
+    loop-again same-length returns)

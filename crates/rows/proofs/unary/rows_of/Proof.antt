@@ -10,9 +10,6 @@ use Rattle.rows.proofs.Products.{at-most}
 use Rattle.rows.proofs.unary.rows_of.Statement.{statement}
 use Rattle.rows.proofs.unary.rows_of.Tie as tie
 
-cast-from : tie.Need-cast-from
-cast-from c = search needs
-
 mul-from : tie.Need-mul-from
 mul-from c = let a = c .before .before .before .before .args in omega (arith, at-most (a .left .0) 65535 (a .r) mostSessions (omega arith) (omega arith))
 
@@ -22,23 +19,11 @@ add-if1 c = let a = c .before .before .before .before .args in omega (arith, at-
 returns : tie.Need-returns
 returns c = (λ h. omega arith, refl)
 
-mul-by-code : tie.Need-mul-by-code
-mul-by-code c = search needs
-
 sub-by-code : tie.Need-sub-by-code
 sub-by-code c = omega arith
 
 part-by-code-start : tie.Need-part-by-code-start
 part-by-code-start c = omega arith
-
-part-by-code-end : tie.Need-part-by-code-end
-part-by-code-end c = search needs
-
-by-code-requires : tie.Need-by-code-requires
-by-code-requires c κs = search needs
-
-same-length : tie.Need-same-length
-same-length c = search needs
 
 returns-2 : tie.Need-returns-2
 returns-2 c =
@@ -58,14 +43,5 @@ pub rows-of-spec : {M : Type 1} → statement M
 rows-of-spec =
     tie.close
     (tie.spec
-    cast-from
-    mul-from
-    add-if1
-    returns
-    mul-by-code
-    sub-by-code
-    part-by-code-start
-    part-by-code-end
-    by-code-requires
-    same-length
-    returns-2)
+    (λ c. search needs) mul-from add-if1 returns (λ c. search needs) sub-by-code part-by-code-start (λ c. search needs)
+    (λ c κs. search needs) (λ c. search needs) returns-2)

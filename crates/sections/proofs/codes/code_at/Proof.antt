@@ -10,20 +10,8 @@ use borrow.Author.Needs.{needs}
 use Rattle.sections.proofs.codes.code_at.Statement.{statement}
 use Rattle.sections.proofs.codes.code_at.Tie as tie
 
-add-at : tie.Need-add-at
-add-at c = search needs
-
 returns : tie.Need-returns
 returns c = let a = c .before .before .args in code-ends (groupOf (a .unary)) (take (a .count) (drop (a .from) (a .file .now))) (a .file .now) (a .from + a .count) (c .if1 .taken)
-
-shared-slice-read-c : tie.Need-shared-slice-read-c
-shared-slice-read-c c = search needs
-
-in-group-requires : tie.Need-in-group-requires
-in-group-requires c κs = search needs
-
-seen-code-requires : tie.Need-seen-code-requires
-seen-code-requires c κs = search needs
 
 returns-2 : tie.Need-returns-2
 returns-2 c =
@@ -39,9 +27,6 @@ cast-t14 c =
       c .before .before .before .before .shared-slice-known2 .given
           (c .before .before .before .before .before .before .before .args .from + c .before .before .before .before .before .before .before .args .count),
     )
-
-add-t15 : tie.Need-add-t15
-add-t15 c = search needs
 
 returns-3 : tie.Need-returns-3
 returns-3 c =
@@ -61,13 +46,5 @@ pub code-at-spec : {M : Type 1} → statement M
 code-at-spec =
     tie.close
     (tie.spec
-    add-at
-    returns
-    shared-slice-read-c
-    in-group-requires
-    seen-code-requires
-    returns-2
-    cast-t14
-    add-t15
-    returns-3
-    returns-4)
+    (λ c. search needs) returns (λ c. search needs) (λ c κs. search needs) (λ c κs. search needs) returns-2 cast-t14 (λ c. search needs)
+    returns-3 returns-4)

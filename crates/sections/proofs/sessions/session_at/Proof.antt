@@ -8,26 +8,8 @@ use borrow.Author.Needs.{needs}
 use Rattle.sections.proofs.sessions.session_at.Statement.{statement}
 use Rattle.sections.proofs.sessions.session_at.Tie as tie
 
-byte-within-requires : tie.Need-byte-within-requires
-byte-within-requires c κs = search needs
-
-enum-known-mark : tie.Need-enum-known-mark
-enum-known-mark c = search needs
-
-byte-within-requires-2 : tie.Need-byte-within-requires-2
-byte-within-requires-2 c κs = search needs
-
-enum-known-length : tie.Need-enum-known-length
-enum-known-length c = search needs
-
 words-from-requires : tie.Need-words-from-requires
 words-from-requires c κs = within-high 0 64 _ (byte-sound _ _ _ (byte-read _ _ (c .before .before .before .byte-within2 .ensures) (c .before .length .given .1)) .0)
-
-enum-known-length-2 : tie.Need-enum-known-length-2
-enum-known-length-2 c = search needs
-
-enum-known-mark-2 : tie.Need-enum-known-mark-2
-enum-known-mark-2 c = search needs
 
 returns : tie.Need-returns
 returns c =
@@ -52,13 +34,5 @@ pub session-at-spec : {M : Type 1} → statement M
 session-at-spec =
     tie.close
     (tie.spec
-    byte-within-requires
-    enum-known-mark
-    byte-within-requires-2
-    enum-known-length
-    words-from-requires
-    enum-known-length-2
-    enum-known-mark-2
-    returns
-    returns-2
-    returns-3)
+    (λ c κs. search needs) (λ c. search needs) (λ c κs. search needs) (λ c. search needs) words-from-requires (λ c. search needs)
+    (λ c. search needs) returns returns-2 returns-3)

@@ -5,18 +5,6 @@ use borrow.Author.Needs.{needs}
 use Rattle.sections.proofs.sessions.sessions_section.Statement.{statement}
 use Rattle.sections.proofs.sessions.sessions_section.Tie as tie
 
-byte-within-requires : tie.Need-byte-within-requires
-byte-within-requires c κs = search needs
-
-enum-known-c : tie.Need-enum-known-c
-enum-known-c c = search needs
-
-sessions-from-requires : tie.Need-sessions-from-requires
-sessions-from-requires c κs = search needs
-
-enum-known-c-2 : tie.Need-enum-known-c-2
-enum-known-c-2 c = search needs
-
 returns : tie.Need-returns
 returns c = section-read _ _ 1 32 _ _ (c .before .before .before .before .byte-within .ensures) _ (c .before .before .c .given .1) (c .sessions-from .ensures)
 
@@ -27,9 +15,4 @@ pub sessions-section-spec : {M : Type 1} → statement M
 sessions-section-spec =
     tie.close
     (tie.spec
-    byte-within-requires
-    enum-known-c
-    sessions-from-requires
-    enum-known-c-2
-    returns
-    returns-2)
+    (λ c κs. search needs) (λ c. search needs) (λ c κs. search needs) (λ c. search needs) returns returns-2)

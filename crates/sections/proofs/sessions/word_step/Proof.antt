@@ -5,39 +5,27 @@ use lib.ListN.{length}
 use native.Mathlib.Omega.{arith}
 use borrow.Author.Tests.{lt-leb, le-leb}
 use mathlib.Core.Path.{sym, _∙_}
-use Rattle.sections.specs.Sections.{word}
+use Rattle.sections.specs.Sections.{eightBytes}
 use borrow.Author.Needs.{needs}
 use Rattle.sections.proofs.sessions.word_step.Statement.{statement}
 use Rattle.sections.proofs.sessions.word_step.Tie as tie
 
-bytes-left-requires : tie.Need-bytes-left-requires
-bytes-left-requires c κs = search needs
-
 returns : tie.Need-returns
-unfolding word
+unfolding eightBytes
 returns c =
     let a = c .before .before .before .args in
     let short : length (a .file .now) < a .at + 8 = omega (arith, c .before .bytes-left .ensures) in
     simp (lt-leb _ _ short)
 
-word-at-requires : tie.Need-word-at-requires
-word-at-requires c κs = search needs
-
-is-clear-requires : tie.Need-is-clear-requires
-is-clear-requires c κs = search needs
-
-add-t10 : tie.Need-add-t10
-add-t10 c = search needs
-
 returns-2 : tie.Need-returns-2
-unfolding word
+unfolding eightBytes
 returns-2 c =
     let a = c .before .before .before .before .before .before .args in
     let long : a .at + 8 ≤ length (a .file .now) = omega (arith, c .before .before .before .before .bytes-left .ensures) in
     simp (le-leb _ _ long, sym (c .before .before .word-at .ensures), sym (c .before .is-clear .ensures) ∙ c .if2 .taken)
 
 returns-3 : tie.Need-returns-3
-unfolding word
+unfolding eightBytes
 returns-3 c =
     let a = c .before .before .before .before .before .before .args in
     let long : a .at + 8 ≤ length (a .file .now) = omega (arith, c .before .before .before .before .bytes-left .ensures) in
@@ -47,10 +35,4 @@ pub word-step-spec : {M : Type 1} → statement M
 word-step-spec =
     tie.close
     (tie.spec
-    bytes-left-requires
-    returns
-    word-at-requires
-    is-clear-requires
-    add-t10
-    returns-2
-    returns-3)
+    (λ c κs. search needs) returns (λ c κs. search needs) (λ c κs. search needs) (λ c. search needs) returns-2 returns-3)

@@ -1,7 +1,7 @@
 -- `words_from` meets its contract: a loop over the words of a session.
 -- Assumes nothing.
 use Prim.Native.Nat.{_-_}
-use Rattle.sections.specs.Sections.{word}
+use Rattle.sections.specs.Sections.{eightBytes}
 use Rattle.sections.specs.Inner.{nothing}
 use Rattle.reading.proofs.Steps.{step-read, step-broken, Loop, start, turn, broken, done}
 use borrow.Author.Needs.{needs}
@@ -9,7 +9,7 @@ use Rattle.sections.proofs.sessions.words_from.Statement.{statement}
 use Rattle.sections.proofs.sessions.words_from.Tie as tie
 
 abbrev Inv-loop : tie.InvT-loop
-Inv-loop file at n m i₀ p₀ i p = Loop (λ _. word n) file at m i p
+Inv-loop file at n m i₀ p₀ i p = Loop (λ _. eightBytes n) file at m i p
 
 abbrev μ-loop : tie.MeasureT-loop
 μ-loop file at n m i₀ p₀ i p = m - i
@@ -17,25 +17,10 @@ abbrev μ-loop : tie.MeasureT-loop
 loop-holds : tie.Need-loop-holds Inv-loop μ-loop
 loop-holds c = start _ _ _ _
 
-word-step-requires : tie.Need-word-step-requires Inv-loop μ-loop
-word-step-requires c κs = search needs
-
-enum-known-s : tie.Need-enum-known-s Inv-loop μ-loop
-enum-known-s c = search needs
-
-enum-known-s-2 : tie.Need-enum-known-s-2 Inv-loop μ-loop
-enum-known-s-2 c = search needs
-
 returns : tie.Need-returns Inv-loop μ-loop
 returns c =
     broken _ _ (c .before .before .before .before .before .loop .inv) (c .before .before .before .before .loop-test .taken)
     (step-broken nothing _ _ (c .before .before .before .word-step .ensures) (c .before .s2 .given .1))
-
-add-i : tie.Need-add-i Inv-loop μ-loop
-add-i c = search needs
-
-loop-less : tie.Need-loop-less Inv-loop μ-loop
-loop-less c = search needs
 
 loop-again : tie.Need-loop-again Inv-loop μ-loop
 loop-again c =
@@ -49,14 +34,5 @@ pub words-from-spec : {M : Type 1} → statement M
 words-from-spec =
     tie.close
     (tie.spec
-    Inv-loop
-    μ-loop
-    loop-holds
-    word-step-requires
-    enum-known-s
-    enum-known-s-2
-    returns
-    add-i
-    loop-less
-    loop-again
-    returns-2)
+    Inv-loop μ-loop loop-holds (λ c κs. search needs) (λ c. search needs) (λ c. search needs) returns (λ c. search needs)
+    (λ c. search needs) loop-again returns-2)

@@ -28,7 +28,11 @@ returns-3 : tie.Need-returns-3
 unfolding Decided
 returns-3 c =
     let s = c .before .before .before .before .args .self in
-    inr (λ h. omega arith, ⊎-elim (λ t. inl (t, refl)) (λ w. absurd (true≢false (sym (c .before .is-well-formed .ensures .1 w) ∙ c .if2 .left))) (wf-or-above {n = places (s .length)} {x = s .values} (omega arith) (omega arith)))
+    inr (
+      λ h. omega arith,
+      ⊎-elim (λ t. inl (t, refl)) (λ w. absurd (true≢false (sym (c .before .is-well-formed .ensures .1 w) ∙ c .if2 .left)))
+          (wf-or-above {n = places (s .length)} {x = s .values} (omega arith) (omega arith)),
+    )
 
 pub refusal-spec : {M : Type 1} → statement M
 refusal-spec = tie.close (tie.spec returns is-well-formed-requires returns-2 returns-3)

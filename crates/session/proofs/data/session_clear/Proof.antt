@@ -30,15 +30,6 @@ mul-word c = omega (arith, c .before .before .before .pre .1, c .before .before 
 shared-slice-read-word : tie.Need-shared-slice-read-word Inv-loop μ-loop
 shared-slice-read-word c = omega (arith, c .before .before .before .before .pre .1)
 
-recorded-requires : tie.Need-recorded-requires Inv-loop μ-loop
-recorded-requires c κs = search needs
-
-enum-told : tie.Need-enum-told Inv-loop μ-loop
-enum-told c = search needs
-
-enum-told-2 : tie.Need-enum-told-2 Inv-loop μ-loop
-enum-told-2 c = search needs
-
 returns : tie.Need-returns Inv-loop μ-loop
 returns c =
     let at-recorded = c .before .before in
@@ -50,12 +41,6 @@ returns c =
     let p = at-loop .loop .p in
     ⊎-elim (λ t. (p, in-loop .loop-test .taken, t .0, t .1, t .2)) (λ w. absurd (recorded-refused (at-recorded .recorded .ensures) (c .enum-told2 .given .1) w))
     (wf-or-above {n = a .n} {x = getD (a .words .now) (a .from + p) 0} (at-start .pre .0) (omega (arith, at-known .shared-slice-known2 .given (a .from + p))))
-
-add-p : tie.Need-add-p Inv-loop μ-loop
-add-p c = search needs
-
-loop-less : tie.Need-loop-less Inv-loop μ-loop
-loop-less c = search needs
 
 loop-again : tie.Need-loop-again Inv-loop μ-loop
 loop-again c =
@@ -71,17 +56,5 @@ pub session-clear-spec : {M : Type 1} → statement M
 session-clear-spec =
     tie.close
     (tie.spec
-    Inv-loop
-    μ-loop
-    loop-holds
-    add-word
-    mul-word
-    shared-slice-read-word
-    recorded-requires
-    enum-told
-    enum-told-2
-    returns
-    add-p
-    loop-less
-    loop-again
-    returns-2)
+    Inv-loop μ-loop loop-holds add-word mul-word shared-slice-read-word (λ c κs. search needs) (λ c. search needs) (λ c. search needs)
+    returns (λ c. search needs) (λ c. search needs) loop-again returns-2)

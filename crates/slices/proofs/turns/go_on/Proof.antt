@@ -14,28 +14,21 @@ use Rattle.slices.proofs.turns.go_on.Statement.{statement}
 use Rattle.slices.proofs.turns.go_on.Tie as tie
 
 abbrev Inv-loop : tie.InvT-loop
-Inv-loop r m bound room constants marks lengths words unary binary budget codes₀ lefts₀ rights₀ sizes₀ matrices₀ masks rows₀ s₀ at₀ counts₀ left₀ starts₀ codes lefts rights sizes matrices rows s at counts left starts =
+Inv-loop r m bound room constants marks lengths words unary binary budget codes₀ lefts₀ rights₀ sizes₀ matrices₀ masks rows₀ s₀ at₀ counts₀ left₀
+    starts₀ codes lefts rights sizes matrices rows s at counts left starts =
     (length rows ≡ 32)
     × Loop (inputOf r m bound room constants marks lengths words unary binary) budget s₀ at₀ counts₀
     (cols codes₀ lefts₀ rights₀ sizes₀ matrices₀) (cols codes lefts rights sizes matrices) starts s at counts left
 
 abbrev μ-loop : tie.MeasureT-loop
-μ-loop r m bound room constants marks lengths words unary binary budget codes₀ lefts₀ rights₀ sizes₀ matrices₀ masks rows₀ s₀ at₀ counts₀ left₀ starts₀ codes lefts rights sizes matrices rows s at counts left starts =
+μ-loop r m bound room constants marks lengths words unary binary budget codes₀ lefts₀ rights₀ sizes₀ matrices₀ masks rows₀ s₀ at₀ counts₀ left₀
+    starts₀ codes lefts rights sizes matrices rows s at counts left starts =
     todo (inputOf r m bound room constants marks lengths words unary binary) starts s at
-
-slice-aggregate-masks-of : tie.Need-slice-aggregate-masks-of Inv-loop μ-loop
-slice-aggregate-masks-of c = search needs
-
-masks-of-requires : tie.Need-masks-of-requires Inv-loop μ-loop
-masks-of-requires c κs = search needs
 
 cast-of-table : tie.Need-cast-of-table Inv-loop μ-loop
 cast-of-table c =
     let c₁₇ = c .before .before .before .before .before .before .before .before .before .before .before .before .before .before .before .before .before in
     omega (arith, c₁₇ .pre .state-in .kept-in, c₁₇ .pre .room-in)
-
-of-table-requires : tie.Need-of-table-requires Inv-loop μ-loop
-of-table-requires c κs = search needs
 
 loop-holds : tie.Need-loop-holds Inv-loop μ-loop
 loop-holds c =
@@ -51,18 +44,6 @@ cast-next : tie.Need-cast-next Inv-loop μ-loop
 cast-next c =
     let c₂₀ = c .before .before .before .before .before .before .before .before .before .before .before .before .before .before .before .before .before .before .before .before in
     omega (arith, c₂₀ .pre .propositions-in)
-
-next-requires : tie.Need-next-requires Inv-loop μ-loop
-next-requires c κs = search needs
-
-enum-known-step : tie.Need-enum-known-step Inv-loop μ-loop
-enum-known-step c = search needs
-
-enum-told : tie.Need-enum-told Inv-loop μ-loop
-enum-told c = search needs
-
-none-requires : tie.Need-none-requires Inv-loop μ-loop
-none-requires c κs = search needs
 
 same-length : tie.Need-same-length Inv-loop μ-loop
 same-length c =
@@ -100,7 +81,9 @@ returns c =
 
 add-s : tie.Need-add-s Inv-loop μ-loop
 add-s c =
-    let c₂₄ = c .before .before .before .before .before .before .before .before .before .before .before .before .before .before .before .before .before .before .before .before .before .before .before .before in
+    let c₂₄ =
+    c .before .before .before .before .before .before .before .before .before .before .before .before .before .before .before .before .before .before .before .before .before .before
+    .before .before in
     omega (arith, c .if1 .left, c₂₄ .pre .bound-in)
 
 begin-requires : tie.Need-begin-requires Inv-loop μ-loop
@@ -128,9 +111,6 @@ loop-again c =
     let c₉ = c₇ .before .before in
     let c₂₈ = c₉ .before .before .before .before .before .before .before .before .before .before .before .before .before .before .before .before .before .before .before in
     (c₉ .loop .inv .0, rw (c₂ .begin .ensures) (turn-size (c₂₈ .pre) (c₉ .loop .inv .1) (ended-step (c₇ .next .result) (c₆ .match .keys2) (c₇ .next .ensures)) (c₄ .if1 .left)))
-
-more-requires : tie.Need-more-requires Inv-loop μ-loop
-more-requires c κs = search needs
 
 same-length-6 : tie.Need-same-length-6 Inv-loop μ-loop
 same-length-6 c =
@@ -185,18 +165,6 @@ slice-aggregate-judge-2 c =
     let c₈ = c .before .before .before .before .before .before .before .before in
     sym (c₈ .loop .inv .0)
 
-judge-requires : tie.Need-judge-requires Inv-loop μ-loop
-judge-requires c κs = search needs
-
-count-requires : tie.Need-count-requires Inv-loop μ-loop
-count-requires c κs = search needs
-
-ends-walk-requires : tie.Need-ends-walk-requires Inv-loop μ-loop
-ends-walk-requires c κs = search needs
-
-over-requires : tie.Need-over-requires Inv-loop μ-loop
-over-requires c κs = search needs
-
 same-length-11 : tie.Need-same-length-11 Inv-loop μ-loop
 same-length-11 c =
     let c₁₅ = c .before .before .before .before .before .before .before .before .before .before .before .before .before .before .before in
@@ -244,7 +212,9 @@ returns-3 c =
 
 loop-less-2 : tie.Need-loop-less-2 Inv-loop μ-loop
 loop-less-2 c =
-    let c₂₄ = c .before .before .before .before .before .before .before .before .before .before .before .before .before .before .before .before .before .before .before .before .before .before .before .before in
+    let c₂₄ =
+    c .before .before .before .before .before .before .before .before .before .before .before .before .before .before .before .before .before .before .before .before .before .before
+    .before .before in
     let c₂₆ = c₂₄ .before .before in
     let c₂₈ = c₂₆ .before .before in
     let c₄₇ = c₂₈ .before .before .before .before .before .before .before .before .before .before .before .before .before .before .before .before .before .before .before in
@@ -279,49 +249,9 @@ pub go-on-spec : {M : Type 1} → statement M
 go-on-spec =
     tie.close
     (tie.spec
-    Inv-loop
-    μ-loop
-    slice-aggregate-masks-of
-    masks-of-requires
-    cast-of-table
-    of-table-requires
-    loop-holds
-    slice-aggregate-next
-    cast-next
-    next-requires
-    enum-known-step
-    enum-told
-    none-requires
-    same-length
-    same-length-2
-    same-length-3
-    same-length-4
-    same-length-5
-    returns
-    add-s
-    begin-requires
-    loop-less
-    loop-again
-    more-requires
-    same-length-6
-    same-length-7
-    same-length-8
-    same-length-9
-    same-length-10
-    returns-2
-    sub-left
-    cast-t42
-    slice-aggregate-judge
-    slice-aggregate-judge-2
-    judge-requires
-    count-requires
-    ends-walk-requires
-    over-requires
-    same-length-11
-    same-length-12
-    same-length-13
-    same-length-14
-    same-length-15
-    returns-3
-    loop-less-2
-    loop-again-2)
+    Inv-loop μ-loop (λ c. search needs) (λ c κs. search needs) cast-of-table (λ c κs. search needs) loop-holds slice-aggregate-next
+    cast-next (λ c κs. search needs) (λ c. search needs) (λ c. search needs) (λ c κs. search needs) same-length same-length-2 same-length-3
+    same-length-4 same-length-5 returns add-s begin-requires loop-less loop-again (λ c κs. search needs) same-length-6 same-length-7
+    same-length-8 same-length-9 same-length-10 returns-2 sub-left cast-t42 slice-aggregate-judge slice-aggregate-judge-2
+    (λ c κs. search needs) (λ c κs. search needs) (λ c κs. search needs) (λ c κs. search needs) same-length-11 same-length-12 same-length-13
+    same-length-14 same-length-15 returns-3 loop-less-2 loop-again-2)

@@ -23,7 +23,13 @@ returns-4 : tie.Need-returns-4
 returns-4 c = simp (sym (c .before .before .before .before .is-letter .ensures) ∙ c .before .before .before .if1 .left, le-leb 48 _ (c .before .if3 .left), le-leb _ 57 (c .if4 .taken))
 
 returns-5 : tie.Need-returns-5
-returns-5 c = simp (sym (c .before .before .before .before .is-letter .ensures) ∙ c .before .before .before .if1 .left, ne-eqb _ _ (c .before .before .if2 .left), le-leb 48 _ (c .before .if3 .left), lt-leb _ 57 (c .if4 .left))
+returns-5 c = simp (
+  sym (c .before .before .before .before .is-letter .ensures) ∙ c .before .before .before .if1 .left,
+  ne-eqb _ _
+      (c .before .before .if2 .left),
+  le-leb 48 _ (c .before .if3 .left),
+  lt-leb _ 57 (c .if4 .left),
+)
 
 pub is-name-byte-spec : {M : Type 1} → statement M
 is-name-byte-spec =

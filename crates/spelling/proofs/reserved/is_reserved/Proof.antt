@@ -20,17 +20,11 @@ abbrev μ-loop : tie.MeasureT-loop
 loop-holds : tie.Need-loop-holds Inv-loop μ-loop
 loop-holds c = unlike-start reserved _
 
-word-at-requires : tie.Need-word-at-requires Inv-loop μ-loop
-word-at-requires c κs = search needs
-
 array-share-prefix-letters : tie.Need-array-share-prefix-letters Inv-loop μ-loop
 array-share-prefix-letters c = c .before .word-at .ensures .short
 
 slice-aggregate-same : tie.Need-slice-aggregate-same Inv-loop μ-loop
 slice-aggregate-same c = let w = c .before .before .word-at in sym (length-take-le (w .result .bytes) (w .result .letters) (w .ensures .short))
-
-same-requires : tie.Need-same-requires Inv-loop μ-loop
-same-requires c κs = search needs
 
 returns : tie.Need-returns Inv-loop μ-loop
 returns c =
@@ -39,12 +33,6 @@ returns c =
     let name = at-loop .before .before .args .name .now in
     unlike-here reserved name (at-loop .loop .inv) (omega (arith, seven, at-word .before .loop-test .taken))
     (ap (sameBytes name) (sym (at-word .word-at .ensures .is)) ∙ sym (c .before .same .ensures) ∙ c .if1 .taken)
-
-add-i : tie.Need-add-i Inv-loop μ-loop
-add-i c = search needs
-
-loop-less : tie.Need-loop-less Inv-loop μ-loop
-loop-less c = search needs
 
 loop-again : tie.Need-loop-again Inv-loop μ-loop
 loop-again c =
@@ -63,15 +51,5 @@ pub is-reserved-spec : {M : Type 1} → statement M
 is-reserved-spec =
     tie.close
     (tie.spec
-    Inv-loop
-    μ-loop
-    loop-holds
-    word-at-requires
-    array-share-prefix-letters
-    slice-aggregate-same
-    same-requires
-    returns
-    add-i
-    loop-less
-    loop-again
-    returns-2)
+    Inv-loop μ-loop loop-holds (λ c κs. search needs) array-share-prefix-letters slice-aggregate-same (λ c κs. search needs) returns
+    (λ c. search needs) (λ c. search needs) loop-again returns-2)

@@ -14,35 +14,8 @@ use Rattle.suspicion.proofs.Typed.{take-replicate}
 use Rattle.suspicion.proofs.caret.pointed.Statement.{statement}
 use Rattle.suspicion.proofs.caret.pointed.Tie as tie
 
-put-requires : tie.Need-put-requires
-put-requires c κs = search needs
-
-slice-aggregate-put : tie.Need-slice-aggregate-put
-slice-aggregate-put c = search needs
-
-put-requires-2 : tie.Need-put-requires-2
-put-requires-2 c κs = search needs
-
-array-share-prefix-blank : tie.Need-array-share-prefix-blank
-array-share-prefix-blank c = search needs
-
 slice-aggregate-put-2 : tie.Need-slice-aggregate-put-2
 slice-aggregate-put-2 c = sym (length-take-le _ _ (omega (arith, length-replicate {A = ℕ} 4096 32)))
-
-put-requires-3 : tie.Need-put-requires-3
-put-requires-3 c κs = search needs
-
-slice-aggregate-put-3 : tie.Need-slice-aggregate-put-3
-slice-aggregate-put-3 c = search needs
-
-put-requires-4 : tie.Need-put-requires-4
-put-requires-4 c κs = search needs
-
-refused-at-requires : tie.Need-refused-at-requires
-refused-at-requires c κs = search needs
-
-same-length : tie.Need-same-length
-same-length c = search needs
 
 returns : tie.Need-returns
 returns c = let a = (c .before .before .before .before .before .before .before .before .before .before .before .before .before .before .before .before .before .before
@@ -59,14 +32,5 @@ pub pointed-spec : {M : Type 1} → statement M
 pointed-spec =
     tie.close
     (tie.spec
-    put-requires
-    slice-aggregate-put
-    put-requires-2
-    array-share-prefix-blank
-    slice-aggregate-put-2
-    put-requires-3
-    slice-aggregate-put-3
-    put-requires-4
-    refused-at-requires
-    same-length
-    returns)
+    (λ c κs. search needs) (λ c. search needs) (λ c κs. search needs) (λ c. search needs) slice-aggregate-put-2 (λ c κs. search needs)
+    (λ c. search needs) (λ c κs. search needs) (λ c κs. search needs) (λ c. search needs) returns)

@@ -37,9 +37,6 @@ sub-compare-at c = let a = c .before .before .before .before .args in omega (ari
 part-compare-at-start : tie.Need-part-compare-at-start Inv-loop μ-loop
 part-compare-at-start c = let a = c .before .before .before .before .args in omega (arith, place-end (c .before .loop .p) (a .kept) (a .r) (c .loop-test .taken))
 
-part-compare-at-end : tie.Need-part-compare-at-end Inv-loop μ-loop
-part-compare-at-end c = search needs
-
 compare-at-requires : tie.Need-compare-at-requires Inv-loop μ-loop
 compare-at-requires c κs =
     let a = c .before .before .before .before .before .args in
@@ -50,9 +47,6 @@ compare-at-requires c κs =
       },
       search needs,
     )
-
-enum-known-compared : tie.Need-enum-known-compared Inv-loop μ-loop
-enum-known-compared c = search needs
 
 returns : tie.Need-returns Inv-loop μ-loop
 returns c =
@@ -97,19 +91,5 @@ pub first-equal-spec : {M : Type 1} → statement M
 first-equal-spec =
     tie.close
     (tie.spec
-    Inv-loop
-    μ-loop
-    loop-holds
-    cast-t10
-    mul-compare-at
-    sub-compare-at
-    part-compare-at-start
-    part-compare-at-end
-    compare-at-requires
-    enum-known-compared
-    returns
-    add-from
-    add-p
-    loop-less
-    loop-again
-    returns-2)
+    Inv-loop μ-loop loop-holds cast-t10 mul-compare-at sub-compare-at part-compare-at-start (λ c. search needs) compare-at-requires
+    (λ c. search needs) returns add-from add-p loop-less loop-again returns-2)

@@ -13,9 +13,6 @@ returns c = λ f. omega arith
 returns-2 : tie.Need-returns-2
 returns-2 c = λ f. omega arith
 
-cast-at : tie.Need-cast-at
-cast-at c = search needs
-
 returns-3 : tie.Need-returns-3
 returns-3 c = λ f. omega arith
 
@@ -53,14 +50,4 @@ pub fits-spec : {M : Type 1} → statement M
 fits-spec =
     tie.close
     (tie.spec
-    returns
-    returns-2
-    cast-at
-    returns-3
-    returns-4
-    returns-5
-    returns-6
-    mul-if7
-    add-if7
-    returns-7
-    returns-8)
+    returns returns-2 (λ c. search needs) returns-3 returns-4 returns-5 returns-6 mul-if7 add-if7 returns-7 returns-8)

@@ -58,16 +58,5 @@ pub put-spec : {M : Type 1} → statement M
 put-spec =
     tie.close
     (tie.spec
-    Inv-loop
-    μ-loop
-    loop-holds
-    mul-matrices
-    shared-slice-read-matrices
-    add-matrices
-    mul-matrices-2
-    slice-write-matrices
-    add-j
-    loop-less
-    loop-again
-    same-length
-    returns)
+    Inv-loop μ-loop loop-holds mul-matrices shared-slice-read-matrices add-matrices mul-matrices-2 slice-write-matrices add-j loop-less
+    loop-again same-length returns)

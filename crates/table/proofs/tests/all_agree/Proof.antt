@@ -30,9 +30,6 @@ shared-slice-read-agrees-at c = omega arith
 shared-slice-read-agrees-at-2 : tie.Need-shared-slice-read-agrees-at-2 Inv-loop μ-loop
 shared-slice-read-agrees-at-2 c = omega arith
 
-agrees-at-requires : tie.Need-agrees-at-requires Inv-loop μ-loop
-agrees-at-requires c κs = search needs
-
 add-j : tie.Need-add-j Inv-loop μ-loop
 add-j c = omega arith
 
@@ -62,15 +59,5 @@ pub all-agree-spec : {M : Type 1} → statement M
 all-agree-spec =
     tie.close
     (tie.spec
-    Inv-loop
-    μ-loop
-    loop-holds
-    mul-agrees-at
-    shared-slice-read-agrees-at
-    shared-slice-read-agrees-at-2
-    agrees-at-requires
-    add-j
-    loop-less
-    loop-again
-    returns
-    returns-2)
+    Inv-loop μ-loop loop-holds mul-agrees-at shared-slice-read-agrees-at shared-slice-read-agrees-at-2 (λ c κs. search needs) add-j
+    loop-less loop-again returns returns-2)

@@ -9,30 +9,12 @@ use borrow.Author.Needs.{needs}
 use Rattle.tokens.proofs.front.word.Statement.{statement}
 use Rattle.tokens.proofs.front.word.Tie as tie
 
-add-run : tie.Need-add-run
-add-run c = search needs
-
-run-requires : tie.Need-run-requires
-run-requires c κs = search needs
-
-byte-requires : tie.Need-byte-requires
-byte-requires c κs = search needs
-
-is-name-byte-requires : tie.Need-is-name-byte-requires
-is-name-byte-requires c κs = search needs
-
 returns : tie.Need-returns
 returns c =
     let i = c .before in
     let s = i .before .before .before .before in
     word-long _ (s .args .at) (s .args .b) (s .pre .0) (s .pre .1) (s .pre .2) (i .before .before .run .ensures)
     (of-byte isNameByte (i .is-name-byte .ensures) (c .if1 .taken) (i .before .byte .ensures))
-
-add-if2 : tie.Need-add-if2
-add-if2 c = search needs
-
-add-strong : tie.Need-add-strong
-add-strong c = search needs
 
 strong-requires : tie.Need-strong-requires
 strong-requires c κs =
@@ -105,19 +87,5 @@ pub word-spec : {M : Type 1} → statement M
 word-spec =
     tie.close
     (tie.spec
-    add-run
-    run-requires
-    byte-requires
-    is-name-byte-requires
-    returns
-    add-if2
-    add-strong
-    strong-requires
-    returns-2
-    returns-3
-    returns-4
-    returns-5
-    returns-6
-    returns-7
-    returns-8
-    returns-9)
+    (λ c. search needs) (λ c κs. search needs) (λ c κs. search needs) (λ c κs. search needs) returns (λ c. search needs) (λ c. search needs)
+    strong-requires returns-2 returns-3 returns-4 returns-5 returns-6 returns-7 returns-8 returns-9)

@@ -145,7 +145,11 @@ operator-returns-10 t c =
     let y = c .before .before .before .before .before .before .before in
     let s = y .before .before .before in
     op-none _ (y .before .if1 .left)
-    (λ e. c .before .before .before .before .before .before .if2 .left (y .byte .ensures ∙ e)) (λ e. c .before .before .before .before .before .if3 .left (y .byte .ensures ∙ e)) (λ e. c .before .before .before .before .if4 .left (y .byte .ensures ∙ e)) (λ e. c .before .before .before .if5 .left (y .byte .ensures ∙ e)) (λ e. c .before .before .if6 .left (y .byte .ensures ∙ e)) (λ e. c .before .if8 .left (y .byte .ensures ∙ e)) (λ e. c .if9 .left (y .byte .ensures ∙ e))
+    (λ e. c .before .before .before .before .before .before .if2 .left (y .byte .ensures ∙ e))
+    (λ e. c .before .before .before .before .before .if3 .left (y .byte .ensures ∙ e))
+    (λ e. c .before .before .before .before .if4 .left (y .byte .ensures ∙ e)) (λ e. c .before .before .before .if5 .left (y .byte .ensures ∙ e))
+    (λ e. c .before .before .if6 .left (y .byte .ensures ∙ e)) (λ e. c .before .if8 .left (y .byte .ensures ∙ e))
+    (λ e. c .if9 .left (y .byte .ensures ∙ e))
 
 pub +operator-spec : {M : Type 1} → statement M
 +operator-spec = close μ-operator λ t. operator-lts.spec (calls t)

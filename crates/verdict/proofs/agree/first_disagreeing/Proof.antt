@@ -20,9 +20,6 @@ Inv-loop r m marks lengths words codes lefts rights sizes root below j₀ from�
 abbrev μ-loop : tie.MeasureT-loop
 μ-loop r m marks lengths words codes lefts rights sizes root below j₀ from₀ j from = r - j
 
-count-requires : tie.Need-count-requires Inv-loop μ-loop
-count-requires c κs = search needs
-
 loop-holds : tie.Need-loop-holds Inv-loop μ-loop
 loop-holds c = (omega arith, omega arith, λ t s h l. absurd (omega arith))
 
@@ -42,9 +39,6 @@ eval-requires c κs =
 
 shared-slice-read-agrees : tie.Need-shared-slice-read-agrees Inv-loop μ-loop
 shared-slice-read-agrees c = omega (arith, c .before .before .before .before .before .before .before .before .before .before .before .before .before .pre .marks-there)
-
-agrees-requires : tie.Need-agrees-requires Inv-loop μ-loop
-agrees-requires c κs = search needs
 
 add-from : tie.Need-add-from Inv-loop μ-loop
 add-from c = let s = c .before .before .before .before .before .before .before .before .before .before .before .before .before .before .before in
@@ -68,7 +62,10 @@ loop-again c = let a = c .before .before .before .before .before .before .before
       next-from (l .loop .j) (a .m) (l .loop .inv .1),
       one-more (recording (a .r) (a .m) (a .marks .now) (a .lengths .now) (a .words .now)) (nodes (a .codes .now) (a .lefts .now) (a .rights .now) (a .sizes .now)) (nodeOf (a .root))
           (l .loop .j) (l .loop .inv .2)
-          (λ t s. agrees-seq (recording (a .r) (a .m) (a .marks .now) (a .lengths .now) (a .words .now)) (nodes (a .codes .now) (a .lefts .now) (a .rights .now) (a .sizes .now)) (nodeOf (a .root)) (l .loop .j) (l .loop .from) (c .before .before .before .eval .result) (c .before .agrees .result) (l .loop .inv .1) (c .before .before .before .eval .ensures) (c .before .agrees .ensures) t s .0 (c .if1 .taken)),
+          (λ t s. agrees-seq (recording (a .r) (a .m) (a .marks .now) (a .lengths .now) (a .words .now))
+          (nodes (a .codes .now) (a .lefts .now) (a .rights .now) (a .sizes .now)) (nodeOf (a .root)) (l .loop .j) (l .loop .from)
+          (c .before .before .before .eval .result) (c .before .agrees .result) (l .loop .inv .1) (c .before .before .before .eval .ensures)
+          (c .before .agrees .ensures) t s .0 (c .if1 .taken)),
     )
 
 returns : tie.Need-returns Inv-loop μ-loop
@@ -78,7 +75,10 @@ returns c = let a = c .before .before .before .before .before .before .before .b
       upto = l .loop .inv .0;
       before = l .loop .inv .2;
       here =
-          λ t s h g. true≢false (sym (agrees-seq (recording (a .r) (a .m) (a .marks .now) (a .lengths .now) (a .words .now)) (nodes (a .codes .now) (a .lefts .now) (a .rights .now) (a .sizes .now)) (nodeOf (a .root)) (l .loop .j) (l .loop .from) (c .before .before .before .eval .result) (c .before .agrees .result) (l .loop .inv .1) (c .before .before .before .eval .ensures) (c .before .agrees .ensures) t s .1 g) ∙ c .if1 .left);
+          λ t s h g. true≢false (sym (agrees-seq (recording (a .r) (a .m) (a .marks .now) (a .lengths .now) (a .words .now))
+          (nodes (a .codes .now) (a .lefts .now) (a .rights .now) (a .sizes .now)) (nodeOf (a .root)) (l .loop .j) (l .loop .from)
+          (c .before .before .before .eval .result) (c .before .agrees .result) (l .loop .inv .1) (c .before .before .before .eval .ensures)
+          (c .before .agrees .ensures) t s .1 g) ∙ c .if1 .left);
     }
 
 returns-2 : tie.Need-returns-2 Inv-loop μ-loop
@@ -89,18 +89,5 @@ pub first-disagreeing-spec : {M : Type 1} → statement M
 first-disagreeing-spec =
     tie.close
     (tie.spec
-    Inv-loop
-    μ-loop
-    count-requires
-    loop-holds
-    shared-slice-read-length
-    cast-length
-    eval-requires
-    shared-slice-read-agrees
-    agrees-requires
-    add-from
-    add-j
-    loop-less
-    loop-again
-    returns
-    returns-2)
+    Inv-loop μ-loop (λ c κs. search needs) loop-holds shared-slice-read-length cast-length eval-requires shared-slice-read-agrees
+    (λ c κs. search needs) add-from add-j loop-less loop-again returns returns-2)

@@ -13,18 +13,6 @@ use borrow.Author.Needs.{needs}
 use Rattle.verdict.proofs.evaluate.leaf.Statement.{statement}
 use Rattle.verdict.proofs.evaluate.leaf.Tie as tie
 
-from-left-requires : tie.Need-from-left-requires
-from-left-requires c κs = search needs
-
-cast-p : tie.Need-cast-p
-cast-p c = search needs
-
-add-word : tie.Need-add-word
-add-word c = search needs
-
-mul-word : tie.Need-mul-word
-mul-word c = search needs
-
 shared-slice-read-word : tie.Need-shared-slice-read-word
 shared-slice-read-word c = let s = c .before .before .before .before .before .before .before .before .before .before in
     let a = s .args in
@@ -37,7 +25,8 @@ returns c = let s = c .before .before .before .before .before .before .before .b
     let r = s .pre .0 in
     let h = proposition-under (r .propositions) _ (a .below) (nodeOf (a .node)) (r .fits) (c .before .before .before .if1 .taken) in
     let e : c .before .before .from-left .result .0 ≡ a .node .left .0 = omega (arith, r .few) in
-    subst (λ (p : ℕ). Evaluated (a .length) (a .words .now) (a .from) (nodes (a .codes .now) (a .lefts .now) (a .rights .now) (a .sizes .now)) (nodeOf (a .node)) (seq (a .length) (getD (a .words .now) (a .from + p) 0))) (sym e)
+    subst (λ (p : ℕ). Evaluated (a .length) (a .words .now) (a .from) (nodes (a .codes .now) (a .lefts .now) (a .rights .now) (a .sizes .now))
+    (nodeOf (a .node)) (seq (a .length) (getD (a .words .now) (a .from + p) 0))) (sym e)
     (word-of-proposition (a .length) (a .words .now) (a .from) (nodes (a .codes .now) (a .lefts .now) (a .rights .now) (a .sizes .now)) (nodeOf (a .node)) (a .below) r
     (c .before .before .before .if1 .taken))
 
@@ -46,12 +35,6 @@ returns-2 c =
     let a = c .before .before .before .before .before .before .before .before .before .args in
     word-of-false (a .length) (a .words .now) (a .from) (nodes (a .codes .now) (a .lefts .now) (a .rights .now) (a .sizes .now)) (nodeOf (a .node))
     (c .before .before .before .before .before .before .before .before .before .pre .0 .short) (c .if2 .taken)
-
-mask-requires : tie.Need-mask-requires
-mask-requires c κs = search needs
-
-places-requires : tie.Need-places-requires
-places-requires c κs = search needs
 
 returns-3 : tie.Need-returns-3
 returns-3 c = let s = c .before .before .before .before .before .before .before .before .before .before .before in
@@ -64,13 +47,5 @@ pub leaf-spec : {M : Type 1} → statement M
 leaf-spec =
     tie.close
     (tie.spec
-    from-left-requires
-    cast-p
-    add-word
-    mul-word
-    shared-slice-read-word
-    returns
-    returns-2
-    mask-requires
-    places-requires
-    returns-3)
+    (λ c κs. search needs) (λ c. search needs) (λ c. search needs) (λ c. search needs) shared-slice-read-word returns returns-2
+    (λ c κs. search needs) (λ c κs. search needs) returns-3)
