@@ -14,10 +14,10 @@ abbrev pub padded : List ℕ → List ℕ
 padded t = take 4 (t ++ (0 ∷ 0 ∷ 0 ∷ 0 ∷ []))
 
 -- "a constant table with token and commuting mark"
-abbrev pub unaryRow : ops.Unary → Operator
+abbrev pub unaryListed : ops.Unary → Operator
 unaryListed op = record { token = padded (ops.unaryToken op); bytes = length (ops.unaryToken op); group = Unary; commutes = false }
 
-abbrev pub binaryRow : ops.Binary → Operator
+abbrev pub binaryListed : ops.Binary → Operator
 binaryListed op = record { token = padded (ops.binaryToken op); bytes = length (ops.binaryToken op); group = Binary; commutes = ops.commutes op }
 
 -- "Leaves: 16 proposition, 17 false, 18 true", and every other code: in no group

@@ -13,7 +13,7 @@ pub record Spelt (i : ℕ) (word : Word) : Type 0 where
   pub is : take (word .bytes) (word .letters) ≡ getD reserved i []
 
 -- the rows as the code has them
-abbrev row : List ℕ → ℕ → Word
+abbrev wordRow : List ℕ → ℕ → Word
 wordRow letters bytes = record { letters = letters; bytes = bytes }
 
 abbrev pub words : List Word
