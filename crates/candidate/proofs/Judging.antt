@@ -17,7 +17,7 @@ use Rattle.formula.specs.Nodes as nodes
 use Rattle.walk.specs.Walk.{Candidate, going, judge, consider}
 use Rattle.walk.specs.Walk as walk
 use Rattle.walk.specs.Input.{Input, separating, offer}
-use Rattle.walk.specs.Promises.{Table}
+use Rattle.walk.specs.Kept.{Table}
 use Rattle.table.specs.declared.Known.{Known}
 use Rattle.table.specs.declared.Known.the-variants.{At, New}
 use Rattle.table.specs.Slices.{Cols}

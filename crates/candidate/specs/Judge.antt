@@ -9,7 +9,7 @@ use Rattle.formula.specs.declared.kinds.Node.{Node}
 use Rattle.formula.specs.Kinds.{nodeOf}
 use Rattle.walk.specs.Walk.{Candidate, found, full, Tally, oneTried, oneDropped, State, going, ended, kept, consider}
 use Rattle.walk.specs.Input.{Input, Passes, offer, inputOf}
-use Rattle.walk.specs.Promises.{Table}
+use Rattle.walk.specs.Kept.{Table}
 use Rattle.rows.specs.Formulas.{Makes, made, Masks}
 use Rattle.table.specs.Slices.{Cols}
 use Rattle.table.specs.Formulas.{HoldsKept, RoomAt}

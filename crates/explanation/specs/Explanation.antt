@@ -9,7 +9,7 @@ use Rattle.file.specs.Offence.{wholeFile}
 use Rattle.formula.specs.Nodes.{Node}
 use Rattle.walk.specs.Walk.{Tally, found, ended}
 use Rattle.walk.specs.Input.{Input, search}
-use Rattle.walk.specs.Promises.{Table, nodes}
+use Rattle.walk.specs.Kept.{Table, nodes}
 use Rattle.writing.specs.Writing.{Wrote}
 use Rattle.lines.specs.Bench.{inputOf, Says}
 use Rattle.report.specs.Lines.{ReportText}

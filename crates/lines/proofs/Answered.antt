@@ -12,7 +12,7 @@ use Rattle.formula.specs.Nodes.{Spells, codes}
 use Rattle.formula.specs.Nodes as walk
 use Rattle.walk.specs.Walk.{found}
 use Rattle.walk.specs.Input.{Input}
-use Rattle.walk.specs.Promises as promises
+use Rattle.walk.specs.Kept as tables
 use Rattle.formula.specs.declared.kinds.Node.{Node}
 use Rattle.formula.specs.Kinds.{nodeOf, nodes}
 use Rattle.formula.specs.Rule.{Broken}
@@ -77,7 +77,7 @@ module _ {p : Parts} {g : Good p} {room : ℕ} {t : Cols} {roomy : Roomy t} {u :
   abbrev pub lent : List walk.Node
   lent = nodes (take n (u .codes)) (take n (u .lefts)) (take n (u .rights)) (take n (u .sizes))
 
-  pub kept-nodes : lent ≡ promises.nodes (this .table)
+  pub kept-nodes : lent ≡ tables.nodes (this .table)
   kept-nodes =
       let k = this .table in
       let b = part-is (map (λ c. c .node .code) k) (t .codes) (u .codes) n (ap (λ (x : Cols). x .codes) (this .holds)) (long (λ x. x .code)) in

@@ -13,7 +13,7 @@ use Rattle.formula.specs.Formula.{Formula, size}
 use Rattle.formula.proofs.Spelled.{one-formula}
 use Rattle.walk.specs.Walk.{Ending, found, none, full, Tally, ended}
 use Rattle.walk.specs.Input.{Input, Passes, search}
-use Rattle.walk.specs.Promises.{Table, nodes}
+use Rattle.walk.specs.Kept.{Table, nodes}
 use Rattle.walk.proofs.Promises as walk
 use Rattle.walk.proofs.Position.{tried-is-position}
 use Rattle.walk.proofs.Dropped.{tried-adds-up}

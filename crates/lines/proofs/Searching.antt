@@ -17,7 +17,7 @@ use Rattle.file.proofs.Theorems.{handed-out-passes, unary-pass, binary-pass, un
 use Rattle.rules.specs.Lists.{_∈_}
 use Rattle.walk.specs.Walk.{State, found, none, full, ended, kept}
 use Rattle.walk.specs.Input.{Input, offer, search}
-use Rattle.walk.specs.Promises.{Table, nodes}
+use Rattle.walk.specs.Kept.{Table, nodes}
 use Rattle.walk.proofs.Promises as walk
 use Rattle.walk.proofs.Reading.{lawful}
 use Rattle.formula.specs.declared.kinds.Node.{Node}

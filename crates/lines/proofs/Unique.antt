@@ -15,7 +15,7 @@ use Rattle.file.specs.Offence.{wholeFile}
 use Rattle.rules.specs.Answers.{over}
 use Rattle.formula.specs.Formula.{Formula}
 use Rattle.walk.specs.Walk.{Ending, found, none, full, Tally, ended}
-use Rattle.walk.specs.Promises.{Table, nodes}
+use Rattle.walk.specs.Kept.{Table, nodes}
 use Rattle.text.specs.Text.{text}
 use Rattle.formula.proofs.Spelled.{one-formula}
 use Rattle.line.specs.Line.{newline, foundLine}

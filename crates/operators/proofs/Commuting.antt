@@ -12,7 +12,8 @@ use Rattle.words.proofs.At.{lt-wf, means-unique}
 use Rattle.operators.specs.declared.Operator.{Operator}
 use Rattle.sequence.specs.Operators.{Binary, or, and, until, release, implies, equiv, commutes}
 use Rattle.operators.specs.Table.{unary, binary, neither}
-use Rattle.operators.specs.Commuting.{Differs, Marked, MarksRight}
+use Rattle.operators.specs.Commuting.{Differs, Marked}
+use Rattle.operators.specs.Promises.{MarksRight}
 use Rattle.sequence.proofs.Groups.{unary-below, binary-between}
 use Rattle.sequence.proofs.Computed.{binaryAt, binary-at-means}
 use Rattle.sequence.proofs.Unique.{binary-one}

@@ -4,9 +4,7 @@ use mathlib.Core.Path.{_≡_}
 use mathlib.Core.Bool.{Bool, true, false}
 use Prim.Native.Nat.{ℕ}
 use Rattle.words.specs.Word.{At, WfComputed, Means}
-use Rattle.operators.specs.declared.Operator.{Operator}
-use Rattle.sequence.specs.Operators.{Binary, binaryCode, binaryReading}
-use Rattle.operators.specs.Table.{Listed}
+use Rattle.sequence.specs.Operators.{Binary, binaryReading}
 
 -- a marked operator: on all sequences of equal length both orders give one word
 abbrev pub Commutes : Binary → Type 0
@@ -29,7 +27,3 @@ pub record Differs (op : Binary) : Type 0 where
 abbrev pub Marked : Bool → Binary → Type 0
 Marked true op = Commutes op
 Marked false op = Differs op
-
--- the rule over the whole table: whatever the row of a code, its mark is right of the binary operator with that code
-abbrev pub MarksRight : Type 0
-MarksRight = (code : ℕ) (r : Operator) → Listed code r → (op : Binary) → binaryCode op ≡ code → Marked (r .commutes) op

@@ -2,3 +2,4 @@
 pub mod Table
 pub mod Commuting
 pub mod Settled
+pub mod Promises

@@ -13,7 +13,7 @@ use Rattle.rules.proofs.Refusals.{decided-unique}
 use Rattle.walk.specs.Walk.{found, none, full}
 use Rattle.walk.specs.Input.{Input}
 use Rattle.walk.specs.Cut.{Cut, more, over}
-use Rattle.walk.specs.Promises.{begun, goOn}
+use Rattle.walk.specs.Kept.{begun, goOn}
 use Rattle.checks.specs.Promises.{RoomThere}
 use Rattle.table.specs.Slices.{Cols}
 use Rattle.slices.specs.declared.Resumed.the-variants.{Goes}

@@ -7,7 +7,7 @@ use mathlib.Core.List.{List}
 use Prim.Native.Nat.{ℕ, _+_, _≤_, _<_}
 use Rattle.walk.specs.Walk.{tried}
 use Rattle.walk.specs.Input.{Input, Passes, search}
-use Rattle.walk.specs.Promises.{begun, goOn}
+use Rattle.walk.specs.Kept.{begun, goOn}
 use Rattle.checks.specs.Promises.{RoomThere}
 use Rattle.table.specs.Slices.{Cols, tableOver}
 use Rattle.slices.specs.Said.{walkSaid}

@@ -9,7 +9,8 @@ use lib.ListN.{getD}
 use Rattle.formula.specs.Nodes.{Node}
 use Rattle.walk.specs.Walk.{found, none, full}
 use Rattle.walk.specs.Input.{Input}
-use Rattle.walk.specs.Promises.{Table, FoundAs, Full, NoneBelow}
+use Rattle.walk.specs.Kept.{Table}
+use Rattle.walk.specs.Promises.{FoundAs, Full, NoneBelow}
 use Rattle.candidate.specs.declared.counts.Counts.{Counts}
 use Rattle.table.specs.Slices.{Cols}
 use Rattle.search.specs.Promises.{Holding, CountedTo}

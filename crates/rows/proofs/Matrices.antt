@@ -20,7 +20,7 @@ use Rattle.rules.specs.Lists.{count}
 use Rattle.walk.specs.Rows.{unaryRow, binaryRow, constantRow}
 use Rattle.walk.specs.Input.{Input, Passes, row, rows, leafRow}
 use Rattle.session.specs.Recording.{lengthOf, wordOf}
-use Rattle.walk.specs.Promises.{Table}
+use Rattle.walk.specs.Kept.{Table}
 use Rattle.walk.proofs.Reading.{row-rows}
 use Rattle.walk.proofs.Rows.{unary-row-means, binary-row-means, constant-row-means, unary-row-only, binary-row-only}
 use Rattle.loops.specs.Loops.{Filled}

@@ -11,7 +11,7 @@ use Rattle.rules.proofs.Refusals.{decided-unique}
 use Rattle.rules.specs.Answers.{Said}
 use Rattle.walk.specs.Walk.{Ending, found, full, none, Tally, tally, State, ended, kept}
 use Rattle.walk.specs.Input.{Input, Passes, search}
-use Rattle.walk.specs.Promises.{Table}
+use Rattle.walk.specs.Kept.{Table}
 use Rattle.walk.proofs.Promises as walk
 use Rattle.walk.proofs.Same.{same-where-read as walk-same}
 use Rattle.walk.proofs.Steady.{found-stays}

@@ -10,7 +10,8 @@ use Rattle.rules.specs.Refusals.{Row, Decided}
 use Rattle.walk.specs.Walk.{found, none, full, State, kept}
 use Rattle.walk.specs.Input.{Input}
 use Rattle.walk.specs.Cut.{Cut, more, over}
-use Rattle.walk.specs.Promises.{begun, goOn, CutOf}
+use Rattle.walk.specs.Kept.{begun, goOn}
+use Rattle.walk.specs.Promises.{CutOf}
 use Rattle.walk.proofs.Resume.{cut-resume}
 use Rattle.checks.specs.Refusals.{searchRows}
 use Rattle.checks.proofs.Passing.{search-passes, room-there}

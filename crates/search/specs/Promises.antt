@@ -9,7 +9,8 @@ use Rattle.formula.specs.declared.kinds.Node.{Node}
 use Rattle.formula.specs.Kinds.{nodeOf}
 use Rattle.walk.specs.Walk.{Ending, found, none, full, trail}
 use Rattle.walk.specs.Input.{Input, separating, offer}
-use Rattle.walk.specs.Promises.{Table, NoneBelow, Kept, DecidedAt, AgreeWhereRead, Wider}
+use Rattle.walk.specs.Kept.{Table}
+use Rattle.walk.specs.Promises.{NoneBelow, Kept, DecidedAt, AgreeWhereRead, Wider}
 use Rattle.walk.specs.Promises as walk
 use Rattle.candidate.specs.declared.counts.Counts.{Counts}
 use Rattle.search.specs.declared.SearchAnswer.{SearchAnswer}

@@ -21,7 +21,7 @@ use Rattle.walk.specs.Walk.{found, none, full, Tally, tally, layer, seed}
 use Rattle.walk.specs.Input as walk
 use Rattle.walk.specs.Input.{Input, Passes, offer}
 use Rattle.walk.specs.Cut.{Cut, more, over}
-use Rattle.walk.specs.Promises.{Table, begun, goOn}
+use Rattle.walk.specs.Kept.{Table, begun, goOn}
 use Rattle.walk.proofs.Resume.{turns-add}
 use Rattle.order.specs.Size.{cand, leaves, constantsIf}
 use Rattle.order.specs.Ahead.{ahead, first, leafCursor, codesOf, cursorAfter}

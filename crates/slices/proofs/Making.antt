@@ -16,7 +16,7 @@ use Rattle.walk.specs.Walk.{Candidate, seed, unaryOn, binaryOn}
 use Rattle.rules.specs.Lists.{count, _∈_}
 use Rattle.walk.specs.Input as walk
 use Rattle.walk.specs.Input.{Input, Passes, offer}
-use Rattle.walk.specs.Promises.{Table}
+use Rattle.walk.specs.Kept.{Table}
 use Rattle.walk.proofs.Places.{sizeAt, placed}
 use Rattle.order.specs.Size.{Cand, cand, Layer, start, commuting, leaves, constantsIf}
 use Rattle.order.specs.Steps.{Listed, Safe}

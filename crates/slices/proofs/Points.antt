@@ -11,7 +11,7 @@ use lib.Seq.{getD-append-seam}
 use Rattle.rules.specs.declared.kinds.Place.{Place}
 use Rattle.walk.specs.Walk.{Candidate, going, kept, layer}
 use Rattle.walk.specs.Input.{Input, Passes, offer}
-use Rattle.walk.specs.Promises.{Table}
+use Rattle.walk.specs.Kept.{Table}
 use Rattle.walk.proofs.Places.{sizeAt, split-push}
 use Rattle.order.specs.declared.Cursor.{Cursor}
 use Rattle.order.specs.declared.Step.the-variants.{Candidate as Told, End}

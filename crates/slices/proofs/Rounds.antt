@@ -19,7 +19,7 @@ use Rattle.formula.specs.Nodes as nodes
 use Rattle.walk.specs.Walk.{Candidate, none, found, full, Tally, tally, oneTried, State, going, ended, kept, layer, consider}
 use Rattle.walk.specs.Input.{Input, Passes, offer, inputOf}
 use Rattle.walk.specs.Cut.{Cut, more, over}
-use Rattle.walk.specs.Promises.{Table, goOn}
+use Rattle.walk.specs.Kept.{Table, goOn}
 use Rattle.walk.proofs.Places.{sizeAt, Split}
 use Rattle.order.specs.declared.Cursor.{Cursor}
 use Rattle.order.specs.declared.Step.{Step}

@@ -9,7 +9,7 @@ use borrow.Author.Tests.{lt-ltb, le-ltb}
 use Rattle.walk.specs.Walk.{Candidate, Ending, none, Tally, tally, State, going, ended, layer, consider}
 use Rattle.walk.specs.Cut.{Cut, more, over, settle, start, step, turn}
 use Rattle.walk.specs.Input.{Input, offer}
-use Rattle.walk.specs.Promises.{Table, begun, goOn}
+use Rattle.walk.specs.Kept.{Table, begun, goOn}
 use Rattle.slices.specs.Inner.{settled}
 
 module _ (i : Input) where

@@ -9,7 +9,8 @@ use lib.ListN.{length}
 use Rattle.walk.specs.Walk.{found, none, full, State, ended, kept, tried}
 use Rattle.walk.specs.Input.{Input, search}
 use Rattle.walk.specs.Cut.{Cut, more, over}
-use Rattle.walk.specs.Promises.{begun, goOn, CutOf}
+use Rattle.walk.specs.Kept.{begun, goOn}
+use Rattle.walk.specs.Promises.{CutOf}
 use Rattle.walk.proofs.Resume.{cut-resume, turns-add}
 use Rattle.slices.specs.declared.state.State as value
 use Rattle.table.specs.Slices.{Cols, tableOver}

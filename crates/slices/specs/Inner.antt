@@ -15,7 +15,7 @@ use Rattle.formula.specs.Formula.{Leaf, proposition, constant}
 use Rattle.walk.specs.Walk.{Candidate, State, going}
 use Rattle.walk.specs.Input.{Input, Passes, offer}
 use Rattle.walk.specs.Cut.{Cut, settle}
-use Rattle.walk.specs.Promises.{Table, goOn}
+use Rattle.walk.specs.Kept.{Table, goOn}
 use Rattle.walk.proofs.Places.{sizeAt, Split}
 use Rattle.order.specs.declared.Cursor.{Cursor}
 use Rattle.order.specs.Size.{Cand, start}

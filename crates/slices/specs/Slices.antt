@@ -18,7 +18,7 @@ use Rattle.formula.specs.Nodes as nodes
 use Rattle.walk.specs.Walk.{found, none, full, Tally, layer}
 use Rattle.walk.specs.Input.{Input, offer}
 use Rattle.walk.specs.Cut.{Cut, more, over}
-use Rattle.walk.specs.Promises.{Table, begun, goOn}
+use Rattle.walk.specs.Kept.{Table, begun, goOn}
 use Rattle.walk.proofs.Places.{sizeAt}
 use Rattle.order.specs.declared.Cursor.{Cursor}
 use Rattle.order.specs.Size.{Layer, layerOf}

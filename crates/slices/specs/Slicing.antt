@@ -9,7 +9,7 @@ use Prim.Native.Nat.{ℕ, _+_, _≤_, _<_}
 use lib.ListN.{length}
 use Rattle.walk.specs.Walk.{tried, kept}
 use Rattle.walk.specs.Input.{Input, Passes, search}
-use Rattle.walk.specs.Promises.{begun, goOn}
+use Rattle.walk.specs.Kept.{begun, goOn}
 use Rattle.checks.specs.Promises.{RoomThere}
 use Rattle.slices.specs.declared.Resumed.the-variants.{Goes}
 use Rattle.slices.specs.declared.state.State as value

@@ -11,7 +11,8 @@ use Rattle.rules.specs.declared.kinds.Place.{Place}
 use Rattle.walk.specs.Walk.{Candidate}
 use Rattle.walk.specs.Walk as walk
 use Rattle.walk.specs.Input.{Input, sameRows, offer}
-use Rattle.walk.specs.Promises.{Table, SuperfluousBy}
+use Rattle.walk.specs.Kept.{Table}
+use Rattle.walk.specs.Promises.{SuperfluousBy}
 use Rattle.walk.proofs.Promises.{kept-distinct}
 use Rattle.walk.proofs.Dropped.{drops-front, dropped-by}
 use Rattle.walk.proofs.Reading.{lawful}

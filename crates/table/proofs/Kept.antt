@@ -13,7 +13,7 @@ use lib.Seq.{paste, drop-cons, set-append-seam, append-snoc, take-at, drop-appen
 use Rattle.rules.specs.Answers.{over}
 use Rattle.walk.specs.Walk.{Candidate}
 use Rattle.walk.specs.Input.{Input, row}
-use Rattle.walk.specs.Promises.{Table}
+use Rattle.walk.specs.Kept.{Table}
 use Rattle.table.specs.Slices.{Cols, tableOver}
 use Rattle.table.specs.Keep.{KeepAsk, keptAt}
 use Rattle.rows.specs.Formulas.{nothing, matrixAt, Fine}

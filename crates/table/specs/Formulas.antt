@@ -4,7 +4,7 @@ use mathlib.Core.Path.{_≡_}
 use Prim.Native.Nat.{ℕ, _+_, _*_, _≤_, _<_}
 use lib.ListN.{length}
 use Rattle.walk.specs.Input.{Input}
-use Rattle.walk.specs.Promises.{Table}
+use Rattle.walk.specs.Kept.{Table}
 use Rattle.rows.specs.Formulas.{matrixAt, Fine}
 use Rattle.table.specs.Slices.{Cols, tableOver}
 

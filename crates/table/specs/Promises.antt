@@ -10,7 +10,8 @@ use Rattle.rules.specs.declared.kinds.Place.{Place}
 use Rattle.walk.specs.Walk.{Candidate, Ending, Tally, ended}
 use Rattle.walk.specs.Walk as walk
 use Rattle.walk.specs.Input.{Input, Passes, separating, offer, search}
-use Rattle.walk.specs.Promises.{Table, Drops, SuperfluousBy}
+use Rattle.walk.specs.Kept.{Table}
+use Rattle.walk.specs.Promises.{Drops, SuperfluousBy}
 use Rattle.rows.specs.Formulas.{Fine, Stored}
 use Rattle.table.specs.declared.Known.{Known}
 use Rattle.table.specs.declared.Known.the-variants.{At, New}

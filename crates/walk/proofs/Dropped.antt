@@ -38,7 +38,8 @@ use Rattle.walk.specs.Walk.{
 }
 use Rattle.walk.specs.Input.{Input, offer, search}
 use Rattle.walk.specs.Cut.{Cut, more, over}
-use Rattle.walk.specs.Promises.{Table, deciding, AddsUp, TriedAddsUp, CutOf, CutSum, CutAddsUp, goOn, begun, Drops, SuperfluousBy, DroppedBy}
+use Rattle.walk.specs.Kept.{Table, goOn, begun}
+use Rattle.walk.specs.Promises.{deciding, AddsUp, TriedAddsUp, CutOf, CutSum, CutAddsUp, Drops, SuperfluousBy, DroppedBy}
 use Rattle.walk.proofs.Trees.{Lawful}
 use Rattle.walk.proofs.Layers.{layer-fits}
 use Rattle.walk.proofs.Pass.{kept-finish, Distinct, grown, Tidy, tidy}

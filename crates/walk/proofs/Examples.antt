@@ -38,7 +38,8 @@ use Rattle.rules.specs.Limits.{mostSize, mostRoom}
 use Rattle.walk.specs.Rows.{word, someOf, allOf, unaryRow, binaryRow, constantRow}
 use Rattle.walk.specs.Input.{Input, Passes, sameRows, every, separating, search, inputOf}
 use Rattle.session.specs.Recording.{markOf, lengthOf, wordOf}
-use Rattle.walk.specs.Promises.{NoneBelow, FoundAs, Full, begun, goOn}
+use Rattle.walk.specs.Kept.{begun, goOn}
+use Rattle.walk.specs.Promises.{NoneBelow, FoundAs, Full}
 use Rattle.walk.specs.Cut.{more, over, settle, start, step, turn}
 use Rattle.walk.proofs.Promises.{found-smallest, none-means-none, full-needs-room}
 

@@ -16,7 +16,8 @@ use Rattle.formula.proofs.Trees.{spells-size}
 use Rattle.formula.specs.Nodes.{Node, codes}
 use Rattle.walk.specs.Walk.{Candidate, Ending, found, full, none, Tally, State, going, ended, finish, after, walk}
 use Rattle.walk.specs.Input.{Input, Passes, language, row, separating, offer, search}
-use Rattle.walk.specs.Promises.{Table, nodes, NoneBelow, Alike, Apart, FoundAs, KeepsNext, Full, Keeps, KeepsAll, Kept, FoundSmallest, NoneMeansNone, FullNeedsRoom, KeptDistinct, WalkEnds}
+use Rattle.walk.specs.Kept.{Table, nodes}
+use Rattle.walk.specs.Promises.{NoneBelow, Alike, Apart, FoundAs, KeepsNext, Full, Keeps, KeepsAll, Kept, FoundSmallest, NoneMeansNone, FullNeedsRoom, KeptDistinct, WalkEnds}
 use Rattle.walk.proofs.Trees.{Is, is-size, Ordered}
 use Rattle.walk.proofs.Pass.{Rejected, Distinct, Tidy}
 use Rattle.walk.proofs.Smallest.{Needs, Ours, Smallest, Spills, EndsWell, Says, walk-says}

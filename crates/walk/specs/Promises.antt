@@ -19,14 +19,8 @@ use Rattle.formula.specs.Nodes.{Node, Spells, codes}
 use Rattle.walk.specs.Walk.{Candidate, Ending, found, full, none, Tally, tally, oneTried, oneDropped, going, ended, kept, tried, matrix, leftSizes, consider, trail}
 use Rattle.walk.specs.Rows.{unaryRow, binaryRow}
 use Rattle.walk.specs.Input.{Input, Passes, language, row, separating, offer, search}
-use Rattle.walk.specs.Cut.{Cut, more, over, start, turn}
-
--- what a walk keeps
-abbrev pub Table : Type 0
-Table = List (Candidate (List ℕ))
-
-abbrev pub nodes : Table → List Node
-nodes k = map (λ c. c .node) k
+use Rattle.walk.specs.Cut.{Cut, more, over}
+use Rattle.walk.specs.Kept.{Table, nodes, begun, goOn}
 
 -- the same input but for bound and room
 abbrev pub again : Input → ℕ → ℕ → Input
@@ -204,13 +198,6 @@ abbrev pub LeftSizes : Type 0
 LeftSizes = (s i j : ℕ) → i + j + 1 ≡ s → (i ∈ leftSizes s) ↔ ((1 ≤ i) × (i ≤ j))
 
 -- ---- cut and resume
-
--- the input's walk, of which nothing is tried, and n candidates more
-abbrev pub begun : Input → Cut (List ℕ)
-begun i = start (offer i) (i .room) (i .bound)
-
-abbrev pub goOn : Input → ℕ → Cut (List ℕ) → Cut (List ℕ)
-goOn i n c = turn (offer i) (i .room) (i .bound) n c
 
 -- a turn of a candidates, then one of b, is a turn of a + b
 abbrev pub TurnsAdd : Type 0
