@@ -2,10 +2,10 @@
 // Their stored output is written from 01's prose. The sample after them has the Rust's answers.
 mod sample;
 
+use candidate::counts::Counts;
 use formula::kinds::Node;
 use libc::STDOUT_FILENO;
 use search::SearchAnswer;
-use search::counts::Counts;
 
 fn say(text: &[u8]) {
     io::write_all(STDOUT_FILENO, text);

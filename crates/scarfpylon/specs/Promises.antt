@@ -10,7 +10,7 @@ use Rattle.formula.specs.Nodes.{Node}
 use Rattle.walk.specs.Walk.{found, none, full}
 use Rattle.walk.specs.Input.{Input}
 use Rattle.walk.specs.Promises.{Table, Found, Full, NoneBelow}
-use Rattle.search.specs.declared.counts.Counts.{Counts}
+use Rattle.candidate.specs.declared.counts.Counts.{Counts}
 use Rattle.search.specs.Table.{Cols}
 use Rattle.search.specs.Promises.{Holding, CountedTo}
 use Rattle.scarfpylon.specs.Search.{SearchDone}
