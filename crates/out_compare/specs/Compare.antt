@@ -5,7 +5,7 @@ use mathlib.Core.List.{List, [], _∷_}
 use Prim.Native.Nat.{ℕ}
 use Rattle.rules.specs.Refusals.{Row, Decided}
 use Rattle.rules.specs.Answers.{Said}
-use Rattle.table.specs.Compare.{compareRowsWith, Compared}
+use Rattle.table.specs.Compare.{compareRowsWith, CompareOutcome}
 use Rattle.out.specs.Out.{outShort, written, saidWords}
 
 module _ (r place : ℕ) (matrices words old : List ℕ) where
@@ -18,4 +18,4 @@ module _ (r place : ℕ) (matrices words old : List ℕ) where
   pub record CompareDone (returned : ℕ) (new : List ℕ) : Type 0 where
     pub number : Decided compareRows returned
     pub refused : (returned ≡ 0 → ⊥) → new ≡ old
-    pub passed : returned ≡ 0 → (s : Said) × Compared r place matrices words s × (new ≡ written (saidWords s) old)
+    pub passed : returned ≡ 0 → (s : Said) × CompareOutcome r place matrices words s × (new ≡ written (saidWords s) old)

@@ -67,14 +67,14 @@ module _ (r place : ℕ) (matrices rows : List ℕ) where
   compareRowsWith own = outsideSessions ∷ (own ++ (noMatrix ∷ []))
 
   -- "The comparison of matrices answers the equal kept formula's place or, for an unequal pair, the first session that differs."
-  abbrev pub Compared : Said → Type 0
-  Compared s = (Same r matrices rows place r × (s ≡ equalSaid place)) ⊎ ((j : ℕ) × FirstDiffers r matrices rows place j × (s ≡ differsSaid j))
+  abbrev pub CompareOutcome : Said → Type 0
+  CompareOutcome s = (Same r matrices rows place r × (s ≡ equalSaid place)) ⊎ ((j : ℕ) × FirstDiffers r matrices rows place j × (s ≡ differsSaid j))
 
   -- the first row that is given decides the number; "A refusal carries only its number"; else the rows decide
   pub record Compares (s : Said) : Type 0 where
     pub number : Decided (compareRowsWith []) (s .number)
     pub refused : (s .number ≡ 0 → ⊥) → s .values ≡ []
-    pub passed : s .number ≡ 0 → Compared s
+    pub passed : s .number ≡ 0 → CompareOutcome s
 
 -- there are r rows, and so many matrices of r rows
 pub record KnownAsk (r : ℕ) (matrices rows : List ℕ) (kept : ℕ) : Type 0 where
