@@ -13,42 +13,8 @@ use Rattle.grammar.specs.Token.{Atom, name, constant, Token, pre, mid, a
 use Rattle.sequence.specs.Operators.Unary.{not, weakNext, strongNext, finally, globally}
 use Rattle.sequence.specs.Operators.Binary.{or, and, until, release, implies, equiv}
 use Rattle.names.specs.Names.{sameBytes}
-use Rattle.grammar.specs.Scan.{
-  Kind,
-  wordy,
-  square,
-  sign,
-  kind,
-  Class,
-  prefixed,
-  leafy,
-  neither,
-  classify,
-  State,
-  ready,
-  apart,
-  after,
-  word,
-  rest,
-  Step,
-  dead,
-  go,
-  emit,
-  onReady,
-  onReadySign,
-  onAfter,
-  onAfterSign,
-  onWord,
-  onApart,
-  step,
-  Scan,
-  good,
-  bad,
-  finish,
-  behind,
-  follow,
-  scan,
-}
+use Rattle.grammar.specs.Scan.{Kind, wordy, square, sign, kind, Class, prefixed, leafy, neither, classify, State, ready, apart, after, word, rest, Step, dead, go, emit}
+use Rattle.grammar.specs.Scan.{onReady, onReadySign, onAfter, onAfterSign, onWord, onApart, step, Scan, good, bad, finish, behind, follow, scan}
 use Rattle.grammar.specs.Passing.{ahead}
 use Rattle.grammar.proofs.Flat.{Phase, awaits, has, Flat, done, leaves, prefixes, opened, infixes, closed}
 use Rattle.reading.proofs.Lists.{true-false}

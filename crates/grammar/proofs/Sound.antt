@@ -13,55 +13,9 @@ use Rattle.sequence.specs.Operators.Binary.{or, and, until, release, implies, e
 use Rattle.sequence.specs.Operators.{unaryToken}
 use Rattle.names.specs.Names.{isNameByte, sameBytes}
 use Rattle.grammar.specs.Token.{Token, pre, mid, atom, opens, closes, spell, isWord, Good, Apart, SpelledBy, end, gap, token}
-use Rattle.grammar.specs.Scan.{
-  Sign,
-  blank,
-  bang,
-  opener,
-  closer,
-  amp,
-  bar,
-  dash,
-  less,
-  other,
-  Kind,
-  wordy,
-  square,
-  sign,
-  kind,
-  Class,
-  prefixed,
-  leafy,
-  neither,
-  classify,
-  State,
-  ready,
-  apart,
-  after,
-  word,
-  rest,
-  Step,
-  dead,
-  go,
-  emit,
-  onReady,
-  onReadySign,
-  onAfter,
-  onAfterSign,
-  onEnded,
-  onWord,
-  onApart,
-  coming,
-  step,
-  Scan,
-  good,
-  bad,
-  finish,
-  finishWord,
-  behind,
-  follow,
-  scan,
-}
+use Rattle.grammar.specs.Scan.{Sign, blank, bang, opener, closer, amp, bar, dash, less, other, Kind, wordy, square, sign, kind, Class, prefixed, leafy, neither, classify}
+use Rattle.grammar.specs.Scan.{State, ready, apart, after, word, rest, Step, dead, go, emit, onReady, onReadySign, onAfter, onAfterSign, onEnded, onWord, onApart, coming}
+use Rattle.grammar.specs.Scan.{step, Scan, good, bad, finish, finishWord, behind, follow, scan}
 use Rattle.grammar.proofs.Flat.{awaits, has, Flat, done, leaves, prefixes, opened, infixes, closed}
 use Rattle.reading.proofs.Lists.{true-false}
 use Rattle.spelling.proofs.Same.{same-eq}

@@ -14,34 +14,8 @@ use Rattle.sequence.specs.Operators.{Unary, unaryCode}
 use Rattle.grammar.specs.Token.{Atom, pre, Apart}
 use Rattle.sequence.specs.Operators.Unary.{not, weakNext, strongNext, finally, globally}
 use Rattle.names.specs.Names.{isLetter, isNameByte, sameBytes}
-use Rattle.grammar.specs.Scan.{
-  blank,
-  bang,
-  opener,
-  closer,
-  amp,
-  bar,
-  dash,
-  less,
-  other,
-  Kind,
-  wordy,
-  square,
-  sign,
-  kind,
-  Class,
-  prefixed,
-  leafy,
-  neither,
-  classify,
-  ready,
-  word,
-  rest,
-  dead,
-  onReady,
-  step,
-  finish,
-}
+use Rattle.grammar.specs.Scan.{blank, bang, opener, closer, amp, bar, dash, less, other, Kind, wordy, square, sign, kind, Class, prefixed, leafy, neither, classify, ready, word}
+use Rattle.grammar.specs.Scan.{rest, dead, onReady, step, finish}
 use Rattle.grammar.specs.Passing.{Passes, Stops}
 use Rattle.reading.proofs.Lists.{true-false}
 use Rattle.spelling.proofs.Same.{same-eq}

@@ -10,29 +10,8 @@ use Rattle.words.specs.Word.{width, bit, Wf}
 use Rattle.words.proofs.At.{lt-wf}
 use Rattle.sequence.specs.Operators.{Unary, Binary, decode}
 use Rattle.formula.specs.Nodes.{Node}
-use Rattle.walk.specs.Walk.{
-  Candidate,
-  State,
-  found,
-  full,
-  none,
-  tally,
-  going,
-  ended,
-  ofSize,
-  leftSizes,
-  finish,
-  orders,
-  unaryCandidates,
-  pairs,
-  layer,
-  known,
-  judge,
-  consider,
-  through,
-  after,
-  walk,
-}
+use Rattle.walk.specs.Walk.{Candidate, State, found, full, none, tally, going, ended, ofSize, leftSizes, finish, orders, unaryCandidates, pairs, layer, known, judge}
+use Rattle.walk.specs.Walk.{consider, through, after, walk}
 use Rattle.rules.specs.Lists.{each, count}
 use Rattle.rules.specs.Limits.{mostSize, mostRoom}
 use Rattle.walk.specs.Rows.{word, someOf, allOf, unaryRow, binaryRow, constantRow}

@@ -6,30 +6,9 @@ use native.Mathlib.Omega.{arith}
 use mathlib.Core.Path.{refl, ap, _∙_}
 use lib.ListN.{length, length-set}
 use Rattle.descent.proofs.Scratch.{room-on}
-use Rattle.descent.proofs.Returns.{
-  infix-val,
-  prefix-val,
-  bracket-refused,
-  bracket-closed,
-  bracket-open,
-  infix-refused,
-  infix-more,
-  op-next,
-  more-low,
-  more-nothing,
-  more-cut,
-  more-refused,
-  more-on,
-  operator-next,
-  open-next,
-  word-next,
-  prefix-operator,
-  prefix-operator-refused,
-  prefix-bracket,
-  prefix-leaf,
-  leaf-small,
-  prefix-refused,
-}
+use Rattle.descent.proofs.Returns.{infix-val, prefix-val, bracket-refused, bracket-closed, bracket-open, infix-refused, infix-more, op-next, more-low, more-nothing}
+use Rattle.descent.proofs.Returns.{more-cut, more-refused, more-on, operator-next, open-next, word-next, prefix-operator, prefix-operator-refused, prefix-bracket}
+use Rattle.descent.proofs.Returns.{prefix-leaf, leaf-small, prefix-refused}
 use Prim.Native.Nat.{ℕ, _<_, _+_, _-_, _*_}
 use borrow.Fn.Kinds.{In}
 use borrow.Fn.PlainCycle.{Measures, is, falls, and}

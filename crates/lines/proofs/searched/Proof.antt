@@ -4,23 +4,8 @@ use Prim.Native.Nat.{ℕ}
 use lib.ListN.{length-replicate, replicate}
 use Rattle.search.specs.Table.{cols}
 use Rattle.lines.proofs.Searching.{Roomy}
-use Rattle.lines.proofs.Answered.{
-  this,
-  codes-in,
-  codes-part,
-  lefts-in,
-  lefts-part,
-  rights-in,
-  rights-part,
-  sizes-in,
-  sizes-part,
-  showable,
-  as-many,
-  found-returns,
-  none-returns,
-  full-returns,
-  refused-returns,
-}
+use Rattle.lines.proofs.Answered.{this, codes-in, codes-part, lefts-in, lefts-part, rights-in, rights-part, sizes-in, sizes-part, showable, as-many, found-returns}
+use Rattle.lines.proofs.Answered.{none-returns, full-returns, refused-returns}
 use borrow.Author.Needs.{needs}
 use Rattle.lines.proofs.searched.Statement.{statement}
 use Rattle.lines.proofs.searched.Tie as tie

@@ -23,77 +23,12 @@ use contract.Monad.{Fun, fact}
 use contract.Running.{givenOf, tables, tablesOf}
 use sound.Loop.{loop-rule}
 use sound.WpLaws.{FmC, fmOf, WpFn-mono}
-use types.Kit.{
-  Given,
-  Item,
-  ‵,
-  raw,
-  some,
-  later,
-  _⊛_,
-  ⋆,
-  anyQ,
-  atRet,
-  _$_,
-  _∵_,
-  !,
-  qed,
-  by,
-  move,
-  keep,
-  drop,
-  use0,
-  use1,
-  use2,
-  split,
-  join,
-  pick,
-  rewrite,
-  fsplit,
-  fjoin,
-  fjoin3,
-  feqI,
-  suffices,
-  frame,
-  await,
-  done,
-}
+use types.Kit.{Given, Item, ‵, raw, some, later, _⊛_, ⋆, anyQ, atRet, _$_, _∵_, !, qed, by, move, keep, drop, use0, use1, use2, split, join, pick, rewrite, fsplit, fjoin, fjoin3}
+use types.Kit.{feqI, suffices, frame, await, done}
 use types.Part.{whole, sub, look-in}
 use types.Share.{arr-parts}
-use types.Run.{
-  look,
-  look-raw,
-  store,
-  store-raw,
-  init,
-  forget,
-  stop,
-  hop,
-  fld,
-  from,
-  load,
-  lit,
-  of-opd,
-  bin,
-  addr,
-  and-then,
-  no-more,
-  assigns,
-  assigns-last,
-  land,
-  stays,
-  leaves-loop,
-  returns,
-  enter,
-  alloc1,
-  alloc0,
-  params1,
-  pass1,
-  pass0,
-  free1,
-  free0,
-  exec,
-}
+use types.Run.{look, look-raw, store, store-raw, init, forget, stop, hop, fld, from, load, lit, of-opd, bin, addr, and-then, no-more, assigns, assigns-last, land, stays}
+use types.Run.{leaves-loop, returns, enter, alloc1, alloc0, params1, pass1, pass0, free1, free0, exec}
 use denote.Exit.{yes}
 use denote.RattleType.{RattleType, owns}
 use denote.Laws.{Is, shows}
