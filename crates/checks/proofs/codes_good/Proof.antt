@@ -14,9 +14,6 @@ Inv-loop codes unary i₀ i = GoodBelow unary codes i
 abbrev μ-loop : tie.MeasureT-loop
 μ-loop codes unary i₀ i = length codes - i
 
-loop-holds : tie.Need-loop-holds Inv-loop μ-loop
-loop-holds c = good-none _ _
-
 returns : tie.Need-returns Inv-loop μ-loop
 returns c = let w = rw (c .if2 .taken) at (c .before .seen .ensures) in inr
     (w .0, c .before .before .before .before .before .before .loop .i, w .1, c .before .before .before .before .before .loop-test .taken, w .2)
@@ -32,8 +29,6 @@ returns-3 : tie.Need-returns-3 Inv-loop μ-loop
 returns-3 c = good-all (c .before .loop .inv) (c .loop-test .left)
 
 pub codes-good-spec : {M : Type 1} → statement M
-codes-good-spec =
-    tie.close
-    (tie.spec
-    Inv-loop μ-loop loop-holds (λ c. search needs) (λ c κs. search needs) (λ c κs. search needs) returns (λ c. search needs)
+codes-good-spec = tie.close (tie.spec
+    Inv-loop μ-loop (λ c. good-none _ _) (λ c. search needs) (λ c κs. search needs) (λ c κs. search needs) returns (λ c. search needs)
     (λ c. search needs) loop-again returns-2 returns-3)

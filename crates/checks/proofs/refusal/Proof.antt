@@ -108,8 +108,6 @@ returns-8 c =
     (rw (not-false (c .before .codes-good2 .result) (c .if7 .left)) at (c .before .codes-good2 .ensures)))
 
 pub refusal-spec : {M : Type 1} → statement M
-refusal-spec =
-    tie.close
-    (tie.spec
-    (λ c κs. search needs) returns (λ c κs. search needs) returns-2 returns-3 has-room-requires returns-4 returns-5 (λ c κs. search needs)
-    returns-6 (λ c κs. search needs) returns-7 returns-8)
+refusal-spec = tie.close (tie.spec
+    (λ c κs. search needs) returns (λ c κs. search needs) returns-2 returns-3 has-room-requires returns-4 returns-5 (λ c κs. search needs) returns-6
+    (λ c κs. search needs) returns-7 returns-8)

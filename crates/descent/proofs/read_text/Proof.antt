@@ -28,8 +28,6 @@ returns-3 c =
     (c .before .before .before .before .before .before .before .before .before .read-infix .ensures) (c .before .e2 .given .1) (c .before .before .before .ending .ensures)
 
 pub read-text-spec : {M : Type 1} → statement M
-read-text-spec =
-    tie.close
-    (tie.spec
-    (λ c κs. search needs) (λ c. search needs) (λ c. search needs) (λ c. search needs) returns ending-requires (λ c. search needs)
-    (λ c. search needs) (λ c. search needs) returns-2 (λ c. search needs) returns-3)
+read-text-spec = tie.close (tie.spec
+    (λ c κs. search needs) (λ c. search needs) (λ c. search needs) (λ c. search needs) returns ending-requires (λ c. search needs) (λ c. search needs)
+    (λ c. search needs) returns-2 (λ c. search needs) returns-3)

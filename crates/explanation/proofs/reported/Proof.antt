@@ -21,7 +21,5 @@ returns-2 c = let a = c .before .before .before .before .before .before .before 
     .before .pre .0) (c .before .before .before .before .before .before .before .before .before .before .before .before .before .before .pre .1) (c .enum-told .given .1))
 
 pub reported-spec : {M : Type 1} → statement M
-reported-spec =
-    tie.close
-    (tie.spec
+reported-spec = tie.close (tie.spec
     (λ c κs. search needs) (λ c. search needs) (λ c. search needs) (λ c. search needs) returns (λ c. search needs) returns-2)

@@ -160,11 +160,9 @@ returns-4 c = refused-stands (c .before .before .before .before .before .before 
     (c .before .before .bench3 .ensures)
 
 pub searched-spec : {M : Type 1} → statement M
-searched-spec =
-    tie.close
-    (tie.spec
-    (λ c. search needs) (λ c. search needs) (λ c. search needs) (λ c. search needs) (λ c. search needs) (λ c κs. search needs)
-    (λ c. search needs) array-share-prefix-codes slice-aggregate-reported array-share-prefix-lefts slice-aggregate-reported-2
-    array-share-prefix-rights slice-aggregate-reported-3 array-share-prefix-sizes slice-aggregate-reported-4 reported-requires
-    (λ c. search needs) (λ c κs. search needs) (λ c. search needs) (λ c κs. search needs) (λ c. search needs) (λ c κs. search needs)
-    (λ c. search needs) returns (λ c. search needs) returns-2 (λ c. search needs) returns-3 (λ c. search needs) returns-4)
+searched-spec = tie.close (tie.spec
+    (λ c. search needs) (λ c. search needs) (λ c. search needs) (λ c. search needs) (λ c. search needs) (λ c κs. search needs) (λ c. search needs)
+    array-share-prefix-codes slice-aggregate-reported array-share-prefix-lefts slice-aggregate-reported-2 array-share-prefix-rights
+    slice-aggregate-reported-3 array-share-prefix-sizes slice-aggregate-reported-4 reported-requires (λ c. search needs) (λ c κs. search needs)
+    (λ c. search needs) (λ c κs. search needs) (λ c. search needs) (λ c κs. search needs) (λ c. search needs) returns (λ c. search needs) returns-2
+    (λ c. search needs) returns-3 (λ c. search needs) returns-4)

@@ -170,10 +170,8 @@ returns-8 c =
     absurd (never-room (at-start .args .file .now) (λ i. omega (arith, at-known .shared-slice-known .given i)) _ (at-judge .judge .ensures) (c .enum-told .given .1))
 
 pub read-spec : {M : Type 1} → statement M
-read-spec =
-    tie.close
-    (tie.spec
-    (λ c κs. search needs) (λ c. search needs) returns returns-2 mul-if3 returns-3 returns-4 returns-5 mul-stride add-stride add-at
-    mul-codes add-codes fill-bytes-requires add-fill-bytes fill-bytes-requires-2 fill-words-requires add-fill-bytes-2 fill-bytes-requires-3
-    add-fill-bytes-3 add-fill-bytes-4 fill-bytes-requires-4 (λ c. search needs) (λ c. search needs) (λ c. search needs) (λ c. search needs)
-    (λ c. search needs) (λ c. search needs) (λ c. search needs) returns-6 returns-7 returns-8)
+read-spec = tie.close (tie.spec
+    (λ c κs. search needs) (λ c. search needs) returns returns-2 mul-if3 returns-3 returns-4 returns-5 mul-stride add-stride add-at mul-codes
+    add-codes fill-bytes-requires add-fill-bytes fill-bytes-requires-2 fill-words-requires add-fill-bytes-2 fill-bytes-requires-3 add-fill-bytes-3
+    add-fill-bytes-4 fill-bytes-requires-4 (λ c. search needs) (λ c. search needs) (λ c. search needs) (λ c. search needs) (λ c. search needs)
+    (λ c. search needs) (λ c. search needs) returns-6 returns-7 returns-8)

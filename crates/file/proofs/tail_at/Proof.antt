@@ -73,9 +73,7 @@ returns-5 : tie.Need-returns-5
 returns-5 c = tail-no-count _ _ _ (c .before .before .before .byte-within .ensures) (c .before .count2 .given .1)
 
 pub tail-at-spec : {M : Type 1} → statement M
-tail-at-spec =
-    tie.close
-    (tie.spec
+tail-at-spec = tie.close (tie.spec
     (λ c κs. search needs) (λ c. search needs) (λ c κs. search needs) (λ c. search needs) (λ c κs. search needs) (λ c. search needs)
-    shared-slice-read-t19 shared-slice-read-t21 (λ c. search needs) (λ c. search needs) (λ c. search needs) returns returns-2 returns-3
-    returns-4 returns-5)
+    shared-slice-read-t19 shared-slice-read-t21 (λ c. search needs) (λ c. search needs) (λ c. search needs) returns returns-2 returns-3 returns-4
+    returns-5)

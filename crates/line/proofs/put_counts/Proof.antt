@@ -20,8 +20,6 @@ returns c =
     (c .before .before .before .before .before .before .before .before .before .before .before .before .put-number2 .ensures) last)
 
 pub put-counts-spec : {M : Type 1} → statement M
-put-counts-spec =
-    tie.close
-    (tie.spec
+put-counts-spec = tie.close (tie.spec
     (λ c. search needs) (λ c κs. search needs) (λ c. search needs) (λ c κs. search needs) (λ c. search needs) (λ c κs. search needs)
     (λ c. search needs) (λ c κs. search needs) (λ c. search needs) returns)

@@ -16,8 +16,6 @@ returns c = let a = (c .before .before .before .before .before .before .before .
     (c .before .before .before .before .before .before .before .put-number2 .ensures)) (c .before .before .put .ensures)
 
 pub refused-at-spec : {M : Type 1} → statement M
-refused-at-spec =
-    tie.close
-    (tie.spec
+refused-at-spec = tie.close (tie.spec
     (λ c. search needs) (λ c κs. search needs) (λ c. search needs) (λ c κs. search needs) (λ c. search needs) (λ c κs. search needs)
     (λ c. search needs) returns)

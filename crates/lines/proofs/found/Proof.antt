@@ -57,9 +57,7 @@ returns-3 c = let a = c .before .before .before .before .before .before .before 
     (c .before .before .before .before .before .printed3 .given .1))
 
 pub found-spec : {M : Type 1} → statement M
-found-spec =
-    tie.close
-    (tie.spec
+found-spec = tie.close (tie.spec
     (λ c. search needs) (λ c κs. search needs) (λ c. search needs) (λ c κs. search needs) array-share-prefix-shown slice-aggregate-put
     (λ c κs. search needs) (λ c. search needs) (λ c κs. search needs) (λ c. search needs) (λ c κs. search needs) (λ c. search needs)
     (λ c κs. search needs) (λ c. search needs) returns (λ c. search needs) returns-2 (λ c. search needs) returns-3)

@@ -144,11 +144,9 @@ returns-4 c = λ p g. refused-returns (c .before .before .before .before .before
     .before .before .before .before .before .before .before .before .before .before .before .before .before .pre .1) (c .before .before .refused .ensures)
 
 pub searched-spec : {M : Type 1} → statement M
-searched-spec =
-    tie.close
-    (tie.spec
-    (λ c. search needs) (λ c. search needs) (λ c. search needs) (λ c. search needs) (λ c. search needs) (λ c κs. search needs)
-    (λ c. search needs) array-share-prefix-codes slice-aggregate-found array-share-prefix-lefts slice-aggregate-found-2
-    array-share-prefix-rights slice-aggregate-found-3 array-share-prefix-sizes slice-aggregate-found-4 found-requires (λ c. search needs)
-    (λ c κs. search needs) (λ c. search needs) (λ c κs. search needs) (λ c. search needs) (λ c κs. search needs) (λ c. search needs) returns
-    (λ c. search needs) returns-2 (λ c. search needs) returns-3 (λ c. search needs) returns-4)
+searched-spec = tie.close (tie.spec
+    (λ c. search needs) (λ c. search needs) (λ c. search needs) (λ c. search needs) (λ c. search needs) (λ c κs. search needs) (λ c. search needs)
+    array-share-prefix-codes slice-aggregate-found array-share-prefix-lefts slice-aggregate-found-2 array-share-prefix-rights slice-aggregate-found-3
+    array-share-prefix-sizes slice-aggregate-found-4 found-requires (λ c. search needs) (λ c κs. search needs) (λ c. search needs)
+    (λ c κs. search needs) (λ c. search needs) (λ c κs. search needs) (λ c. search needs) returns (λ c. search needs) returns-2 (λ c. search needs)
+    returns-3 (λ c. search needs) returns-4)

@@ -47,8 +47,6 @@ returns-4 : tie.Need-returns-4
 returns-4 c = name-no-length _ _ _ _ (c .before .before .before .byte-within .ensures) (c .before .c2 .given .1)
 
 pub name-at-spec : {M : Type 1} → statement M
-name-at-spec =
-    tie.close
-    (tie.spec
+name-at-spec = tie.close (tie.spec
     (λ c κs. search needs) (λ c. search needs) (λ c κs. search needs) (λ c. search needs) taken-name-requires returns (λ c. search needs)
     (λ c. search needs) returns-2 returns-3 returns-4)

@@ -14,9 +14,6 @@ Inv-loop file count i₀ p₀ i p = Names file count i p
 abbrev μ-loop : tie.MeasureT-loop
 μ-loop file count i₀ p₀ i p = count - i
 
-loop-holds : tie.Need-loop-holds Inv-loop μ-loop
-loop-holds c = names-start _ _ (c .before .pre)
-
 name-at-requires : tie.Need-name-at-requires Inv-loop μ-loop
 name-at-requires c κs = omega (arith, c .before .loop .inv .at, c .before .loop .inv .room)
 
@@ -32,8 +29,6 @@ returns-2 : tie.Need-returns-2 Inv-loop μ-loop
 returns-2 c = done _ _ (c .before .loop .inv .loop) (c .loop-test .left)
 
 pub names-from-spec : {M : Type 1} → statement M
-names-from-spec =
-    tie.close
-    (tie.spec
-    Inv-loop μ-loop loop-holds name-at-requires (λ c. search needs) (λ c. search needs) returns (λ c. search needs) (λ c. search needs)
-    loop-again returns-2)
+names-from-spec = tie.close (tie.spec
+    Inv-loop μ-loop (λ c. names-start _ _ (c .before .pre)) name-at-requires (λ c. search needs) (λ c. search needs) returns (λ c. search needs)
+    (λ c. search needs) loop-again returns-2)

@@ -26,7 +26,5 @@ returns-2 : tie.Need-returns-2
 returns-2 c = section-broken _ _ 1 _ 0 _ (c .before .before .before .byte-within .ensures) (c .before .c2 .given .1)
 
 pub section-spec : {M : Type 1} → statement M
-section-spec =
-    tie.close
-    (tie.spec
+section-spec = tie.close (tie.spec
     (λ c κs. search needs) (λ c. search needs) names-from-requires (λ c. search needs) returns returns-2)

@@ -24,9 +24,7 @@ returns : tie.Need-returns Inv-loop μ-loop
 returns c = filled-to _ _ _ (omega arith) (c .before .loop .inv .1)
 
 pub unpack-spec : {M : Type 1} → statement M
-unpack-spec =
-    tie.close
-    (tie.spec
-    Inv-loop μ-loop loop-holds (λ c. search needs) (λ c. search needs) (λ c. search needs) (λ c. search needs) (λ c. search needs)
-    (λ c. search needs) (λ c. search needs) (λ c. search needs) (λ c. search needs) (λ c. search needs) loop-again (λ c. search needs)
-    (λ c. search needs) (λ c. search needs) (λ c. search needs) returns)
+unpack-spec = tie.close (tie.spec
+    Inv-loop μ-loop loop-holds (λ c. search needs) (λ c. search needs) (λ c. search needs) (λ c. search needs) (λ c. search needs) (λ c. search needs)
+    (λ c. search needs) (λ c. search needs) (λ c. search needs) (λ c. search needs) loop-again (λ c. search needs) (λ c. search needs)
+    (λ c. search needs) (λ c. search needs) returns)

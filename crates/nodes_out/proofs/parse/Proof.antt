@@ -7,18 +7,6 @@ use Rattle.nodes_out.proofs.Placed.{read-in, count-in-room, cut-within,
 use Rattle.nodes_out.proofs.parse.Statement.{statement}
 use Rattle.nodes_out.proofs.parse.Tie as tie
 
-slice-aggregate-parse : tie.Need-slice-aggregate-parse
-slice-aggregate-parse c = sym (length-take-le _ _ (search needs))
-
-slice-aggregate-parse-2 : tie.Need-slice-aggregate-parse-2
-slice-aggregate-parse-2 c = sym (length-take-le _ _ (search needs))
-
-slice-aggregate-parse-3 : tie.Need-slice-aggregate-parse-3
-slice-aggregate-parse-3 c = sym (length-take-le _ _ (search needs))
-
-slice-aggregate-parse-4 : tie.Need-slice-aggregate-parse-4
-slice-aggregate-parse-4 c = sym (length-take-le _ _ (search needs))
-
 pack-requires : tie.Need-pack-requires
 pack-requires c κs =
     let read = c .before .before .before .before .before in
@@ -53,9 +41,8 @@ returns c =
     })
 
 pub parse-spec : {M : Type 1} → statement M
-parse-spec =
-    tie.close
-    (tie.spec
+parse-spec = tie.close (tie.spec
     (λ c κs. search needs) (λ c κs. search needs) (λ c κs. search needs) (λ c κs. search needs) (λ c κs. search needs) (λ c. search needs)
-    slice-aggregate-parse (λ c. search needs) slice-aggregate-parse-2 (λ c. search needs) slice-aggregate-parse-3 (λ c. search needs)
-    slice-aggregate-parse-4 (λ c κs. search needs) (λ c κs. search needs) pack-requires returns)
+    (λ c. sym (length-take-le _ _ (search needs))) (λ c. search needs) (λ c. sym (length-take-le _ _ (search needs))) (λ c. search needs)
+    (λ c. sym (length-take-le _ _ (search needs))) (λ c. search needs) (λ c. sym (length-take-le _ _ (search needs))) (λ c κs. search needs)
+    (λ c κs. search needs) pack-requires returns)

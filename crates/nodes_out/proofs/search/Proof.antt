@@ -7,18 +7,6 @@ use Rattle.nodes_out.proofs.Kept.{works, kept-in-room, cut-room}
 use Rattle.nodes_out.proofs.search.Statement.{statement}
 use Rattle.nodes_out.proofs.search.Tie as tie
 
-slice-aggregate-search : tie.Need-slice-aggregate-search
-slice-aggregate-search c = sym (length-take-le _ _ (search needs))
-
-slice-aggregate-search-2 : tie.Need-slice-aggregate-search-2
-slice-aggregate-search-2 c = sym (length-take-le _ _ (search needs))
-
-slice-aggregate-search-3 : tie.Need-slice-aggregate-search-3
-slice-aggregate-search-3 c = sym (length-take-le _ _ (search needs))
-
-slice-aggregate-search-4 : tie.Need-slice-aggregate-search-4
-slice-aggregate-search-4 c = sym (length-take-le _ _ (search needs))
-
 pack-requires : tie.Need-pack-requires
 pack-requires c κs = kept-in-room _ _ _ _ _ _ (c .before .before .before .before .before .before .before .search .ensures)
     (c .before .before .before .before .before .before .before .search .kept .1 .1 .1 .1 .1 .1 .1 .1 .1 .1 .0) (cut-room _ _ _
@@ -57,9 +45,8 @@ returns c =
     })
 
 pub search-spec : {M : Type 1} → statement M
-search-spec =
-    tie.close
-    (tie.spec
+search-spec = tie.close (tie.spec
     (λ c κs. search needs) (λ c κs. search needs) (λ c κs. search needs) (λ c κs. search needs) (λ c κs. search needs) (λ c. search needs)
-    slice-aggregate-search (λ c. search needs) slice-aggregate-search-2 (λ c. search needs) slice-aggregate-search-3 (λ c. search needs)
-    slice-aggregate-search-4 (λ c κs. search needs) (λ c κs. search needs) pack-requires (λ c. search needs) returns)
+    (λ c. sym (length-take-le _ _ (search needs))) (λ c. search needs) (λ c. sym (length-take-le _ _ (search needs))) (λ c. search needs)
+    (λ c. sym (length-take-le _ _ (search needs))) (λ c. search needs) (λ c. sym (length-take-le _ _ (search needs))) (λ c κs. search needs)
+    (λ c κs. search needs) pack-requires (λ c. search needs) returns)

@@ -30,9 +30,6 @@ decided c =
     (group .binary-refusal .ensures) (left .refusal .ensures) (right .refusal2 .ensures) (lengths .before .first .ensures)
     (lengths .unequal-refusal .ensures) (c .before .first2 .ensures) (c .first3 .ensures)
 
-returns : tie.Need-returns
-returns c = (decided (c .before), omega arith)
-
 -- the operator by code, on sequences that passed
 read : (code : ℕ) (s t r : CharSeq) → Decided (binaryRows code s t) 0 → BinaryBy code s t r → BinaryRead code s t r
 read code s t r d (operator op e p) =
@@ -48,8 +45,6 @@ returns-2 c =
     (d, read (s .code) (s .left) (s .right) (c .binary .result) d (c .binary .ensures))
 
 pub apply-binary-spec : {M : Type 1} → statement M
-apply-binary-spec =
-    tie.close
-    (tie.spec
-    (λ c κs. search needs) (λ c κs. search needs) (λ c κs. search needs) (λ c κs. search needs) (λ c κs. search needs)
-    (λ c κs. search needs) (λ c κs. search needs) returns (λ c κs. search needs) returns-2)
+apply-binary-spec = tie.close (tie.spec
+    (λ c κs. search needs) (λ c κs. search needs) (λ c κs. search needs) (λ c κs. search needs) (λ c κs. search needs) (λ c κs. search needs)
+    (λ c κs. search needs) (λ c. (decided (c .before), omega arith)) (λ c κs. search needs) returns-2)

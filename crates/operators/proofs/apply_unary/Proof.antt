@@ -21,9 +21,6 @@ decided c =
     unary-decided (s .code) (s .seq) (c .before .before .unary-refusal .result) (c .before .refusal .result)
     (c .before .before .unary-refusal .ensures) (c .before .refusal .ensures) (c .first .ensures)
 
-returns : tie.Need-returns
-returns c = (decided (c .before), omega arith)
-
 -- the operator by code, on a sequence that passed
 read : (code : ℕ) (s r : CharSeq) → Decided (unaryRows code s) 0 → UnaryBy code s r → UnaryRead code s r
 read code s r d (operator op e p) = (op, e, unary-reads op s r (unary-passed code s d .1) p)
@@ -37,7 +34,5 @@ returns-2 c =
     (d, read (s .code) (s .seq) (c .unary .result) d (c .unary .ensures))
 
 pub apply-unary-spec : {M : Type 1} → statement M
-apply-unary-spec =
-    tie.close
-    (tie.spec
-    (λ c κs. search needs) (λ c κs. search needs) (λ c κs. search needs) returns (λ c κs. search needs) returns-2)
+apply-unary-spec = tie.close (tie.spec
+    (λ c κs. search needs) (λ c κs. search needs) (λ c κs. search needs) (λ c. (decided (c .before), omega arith)) (λ c κs. search needs) returns-2)

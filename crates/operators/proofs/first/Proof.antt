@@ -7,11 +7,5 @@ use Rattle.rules.proofs.Refusals.{first-some}
 use Rattle.operators.proofs.first.Statement.{statement}
 use Rattle.operators.proofs.first.Tie as tie
 
-returns : tie.Need-returns
-returns c = sym (first-some _ _ (omega arith))
-
-returns-2 : tie.Need-returns-2
-returns-2 c = search needs
-
 pub first-spec : {M : Type 1} → statement M
-first-spec = tie.close (tie.spec returns returns-2)
+first-spec = tie.close (tie.spec (λ c. sym (first-some _ _ (omega arith))) (λ c. search needs))

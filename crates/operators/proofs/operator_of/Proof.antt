@@ -9,12 +9,6 @@ use Rattle.operators.proofs.Table.{row-at}
 use Rattle.operators.proofs.operator_of.Statement.{statement}
 use Rattle.operators.proofs.operator_of.Tie as tie
 
-mul-result : tie.Need-mul-result
-mul-result c = search needs
-
-array-copy-out-result : tie.Need-array-copy-out-result
-array-copy-out-result c = search needs
-
 returns : tie.Need-returns
 returns c = row-at _ (c .before .before .args .code) (omega arith)
 
@@ -22,4 +16,4 @@ returns-2 : tie.Need-returns-2
 returns-2 c = neither (not-unary _ (omega arith)) (not-binary _ (λ h. omega arith)) refl
 
 pub operator-of-spec : {M : Type 1} → statement M
-operator-of-spec = tie.close (tie.spec mul-result array-copy-out-result returns returns-2)
+operator-of-spec = tie.close (tie.spec (λ c. search needs) (λ c. search needs) returns returns-2)

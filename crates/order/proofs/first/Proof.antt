@@ -23,8 +23,5 @@ returns-3 : tie.Need-returns-3
 returns-3 c = rw (lt-ltb 1 (c .before .before .before .before .args .s) (omega arith))
 
 pub first-spec : {M : Type 1} → statement M
-first-spec =
-    tie.close
-    (tie.spec
-    (λ c κs. search needs) returns (λ c κs. search needs) returns-2 (λ c. search needs) (λ c. search needs) (λ c. search needs) cast-t8
-    returns-3)
+first-spec = tie.close (tie.spec
+    (λ c κs. search needs) returns (λ c κs. search needs) returns-2 (λ c. search needs) (λ c. search needs) (λ c. search needs) cast-t8 returns-3)

@@ -20,7 +20,5 @@ unfolding afterIn
 returns-3 c = let e = sym (c .before .before .twice .ensures) ∙ not-false _ (c .before .if1 .left) in rw (e, c .if2 .left)
 
 pub over-spec : {M : Type 1} → statement M
-over-spec =
-    tie.close
-    (tie.spec
+over-spec = tie.close (tie.spec
     (λ c. search needs) (λ c. search needs) (λ c. search needs) (λ c. search needs) (λ c κs. search needs) returns returns-2 returns-3)

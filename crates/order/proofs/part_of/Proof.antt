@@ -15,8 +15,6 @@ returns-2 c =
     part-later (a .starts .now) (a .s) (a .i) (omega arith) (omega arith)
 
 pub part-of-spec : {M : Type 1} → statement M
-part-of-spec =
-    tie.close
-    (tie.spec
+part-of-spec = tie.close (tie.spec
     (λ c. search needs) (λ c. search needs) returns (λ c. search needs) (λ c. search needs) (λ c. search needs) (λ c. search needs)
     (λ c. search needs) (λ c. search needs) (λ c. search needs) (λ c. search needs) (λ c. search needs) (λ c. search needs) returns-2)

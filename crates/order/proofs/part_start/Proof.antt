@@ -13,8 +13,6 @@ cast-t13 : tie.Need-cast-t13
 cast-t13 c = omega (arith, c .shared-slice-known2 .given (c .before .before .args .s - 1 - c .before .before .args .i))
 
 pub part-start-spec : {M : Type 1} → statement M
-part-start-spec =
-    tie.close
-    (tie.spec
+part-start-spec = tie.close (tie.spec
     (λ c. search needs) (λ c. search needs) cast-t7 (λ c. search needs) (λ c. search needs) (λ c. search needs) (λ c. search needs) cast-t13
     (λ c. search needs))

@@ -9,12 +9,6 @@ use borrow.Author.Needs.{needs}
 use Rattle.order.proofs.part_step.Statement.{statement}
 use Rattle.order.proofs.part_step.Tie as tie
 
-returns : tie.Need-returns
-returns c = Takes.ends (part-out _ _ _ _ _ (omega arith)) refl
-
-returns-2 : tie.Need-returns-2
-returns-2 c = Takes.ends (no-codes _ _ _ _ _ (omega arith)) refl
-
 next-left-requires : tie.Need-next-left-requires
 next-left-requires c κs = (omega arith, omega arith, past-right _ _ _ (omega arith))
 
@@ -28,8 +22,7 @@ returns-6 : tie.Need-returns-6
 returns-6 c = carried (carry-operator _ _ _ _ _ (omega arith)) (part-takes _ _ _ (omega arith) (omega arith) (omega arith) (c .over2 .ensures))
 
 pub part-step-spec : {M : Type 1} → statement M
-part-step-spec =
-    tie.close
-    (tie.spec
-    (λ c. search needs) (λ c. search needs) returns returns-2 next-left-requires (λ c. search needs) (λ c κs. search needs) returns-4
+part-step-spec = tie.close (tie.spec
+    (λ c. search needs) (λ c. search needs) (λ c. Takes.ends (part-out _ _ _ _ _ (omega arith)) refl)
+    (λ c. Takes.ends (no-codes _ _ _ _ _ (omega arith)) refl) next-left-requires (λ c. search needs) (λ c κs. search needs) returns-4
     (λ c. search needs) next-left-requires-2 (λ c. search needs) (λ c. search needs) (λ c κs. search needs) returns-6)

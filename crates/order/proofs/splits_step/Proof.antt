@@ -19,9 +19,6 @@ Inv-loop starts s unary binary half here₀ here = (m constants : ℕ) → parts
 abbrev μ-loop : tie.MeasureT-loop
 μ-loop starts s unary binary half here₀ here = half - here .split
 
-loop-holds : tie.Need-loop-holds Inv-loop μ-loop
-loop-holds c = λ m constants. refl
-
 returns : tie.Need-returns Inv-loop μ-loop
 returns c = record {
   takes = λ m constants. carried (c .before .before .before .before .before .before .loop .inv m constants) (parts-step
@@ -42,8 +39,6 @@ returns-2 : tie.Need-returns-2 Inv-loop μ-loop
 returns-2 c = record { takes = λ m constants. Takes.ends (c .before .before .loop .inv m constants ∙ parts-out (layerOf _ _ m constants _ _) _ (omega arith)) refl }
 
 pub splits-step-spec : {M : Type 1} → statement M
-splits-step-spec =
-    tie.close
-    (tie.spec
-    Inv-loop μ-loop (λ c. search needs) loop-holds (λ c κs. search needs) (λ c κs. search needs) (λ c. search needs) (λ c. search needs)
-    returns (λ c. search needs) (λ c κs. search needs) loop-less loop-again returns-2)
+splits-step-spec = tie.close (tie.spec
+    Inv-loop μ-loop (λ c. search needs) (λ c. λ m constants. refl) (λ c κs. search needs) (λ c κs. search needs) (λ c. search needs)
+    (λ c. search needs) returns (λ c. search needs) (λ c κs. search needs) loop-less loop-again returns-2)

@@ -14,7 +14,5 @@ returns-2 c = rw (c .number .ensures) (check-long _ _ _ _ (c .before .before .be
     (c .before .before .before .put .ensures))
 
 pub check-spec : {M : Type 1} → statement M
-check-spec =
-    tie.close
-    (tie.spec
+check-spec = tie.close (tie.spec
     (λ c κs. search needs) returns (λ c κs. search needs) (λ c κs. search needs) (λ c κs. search needs) (λ c. search needs) returns-2)

@@ -5,11 +5,6 @@ use Rattle.out_check.proofs.Checking.{unanswered}
 use Rattle.out_check.proofs.unanswered.Statement.{statement}
 use Rattle.out_check.proofs.unanswered.Tie as tie
 
-returns : tie.Need-returns
-returns c = unanswered _ _ _ (c .test .ensures)
-
 pub unanswered-spec : {M : Type 1} → statement M
-unanswered-spec =
-    tie.close
-    (tie.spec
-    (λ c. search needs) (λ c. search needs) (λ c. search needs) (λ c κs. search needs) (λ c. search needs) returns)
+unanswered-spec = tie.close (tie.spec
+    (λ c. search needs) (λ c. search needs) (λ c. search needs) (λ c κs. search needs) (λ c. search needs) (λ c. unanswered _ _ _ (c .test .ensures)))

@@ -38,8 +38,6 @@ returns-2 c = let a = c .before .before .before .before .before .before .before 
     (c .before .before .before .before .compare .ensures) (c .before .before .put .result) _ (c .before .before .put .ensures)
 
 pub compare-spec : {M : Type 1} → statement M
-compare-spec =
-    tie.close
-    (tie.spec
-    (λ c κs. search needs) returns mul-from mul-compare sub-compare part-compare-start (λ c. search needs) (λ c κs. search needs)
-    put-requires (λ c. search needs) returns-2)
+compare-spec = tie.close (tie.spec
+    (λ c κs. search needs) returns mul-from mul-compare sub-compare part-compare-start (λ c. search needs) (λ c κs. search needs) put-requires
+    (λ c. search needs) returns-2)

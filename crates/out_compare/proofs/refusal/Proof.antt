@@ -27,7 +27,5 @@ returns-6 c = let a = c .before .before .before .before .before .args in gives-n
     (omega arith) (omega arith) (omega arith) (c .if5 .left)
 
 pub refusal-spec : {M : Type 1} → statement M
-refusal-spec =
-    tie.close
-    (tie.spec
+refusal-spec = tie.close (tie.spec
     returns returns-2 returns-3 returns-4 (λ c. search needs) returns-5 returns-6)

@@ -12,11 +12,7 @@ returns c = rw (c .before .before .answer .given .1) (inl (c .if1 .taken, refl, 
 returns-2 : tie.Need-returns-2
 returns-2 c = rw (c .before .before .answer .given .1) (inr (c .if1 .left, refl, refl))
 
-returns-3 : tie.Need-returns-3
-returns-3 c = rw (c .before .answer2 .given .1) (refl, refl)
-
 pub put-spec : {M : Type 1} → statement M
-put-spec =
-    tie.close
-    (tie.spec
-    (λ c. search needs) returns (λ c. search needs) (λ c. search needs) (λ c. search needs) (λ c. search needs) returns-2 returns-3)
+put-spec = tie.close (tie.spec
+    (λ c. search needs) returns (λ c. search needs) (λ c. search needs) (λ c. search needs) (λ c. search needs) returns-2
+    (λ c. rw (c .before .answer2 .given .1) (refl, refl)))

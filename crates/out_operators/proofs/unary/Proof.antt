@@ -5,18 +5,9 @@ use Rattle.out_operators.proofs.Operating.{unary-done}
 use Rattle.out_operators.proofs.unary.Statement.{statement}
 use Rattle.out_operators.proofs.unary.Tie as tie
 
-apply-unary-requires : tie.Need-apply-unary-requires
-apply-unary-requires c κs = search needs
-
-put-requires : tie.Need-put-requires
-put-requires c κs = search needs
-
-same-length : tie.Need-same-length
-same-length c = search needs
-
 returns : tie.Need-returns
 returns c = unary-done _ _ _ (c .before .before .before .before .apply-unary .result) (c .before .before .before .before .apply-unary .ensures) _ _ _ (c .before .before .put .ensures)
 
 pub unary-spec : {M : Type 1} → statement M
 unary-spec =
-    tie.close (tie.spec apply-unary-requires put-requires same-length returns)
+    tie.close (tie.spec (λ c κs. search needs) (λ c κs. search needs) (λ c. search needs) returns)

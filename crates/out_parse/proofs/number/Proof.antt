@@ -19,9 +19,6 @@ cast-refused-at-2 c = omega (arith, subst (λ (p : Parsed). returnedOf (saidPars
 cast-refused-at-3 : tie.Need-cast-refused-at-3
 cast-refused-at-3 c = omega (arith, subst (λ (p : Parsed). returnedOf (saidParsed p) < 2 ^ 32) (c .before .answer3 .given .1) (c .before .before .before .pre))
 
-returns : tie.Need-returns
-returns c = rw (c .enum-told .given .1)
-
 returns-2 : tie.Need-returns-2
 returns-2 c = rw (c .before .before .answer .given .1) (c .refused-at .ensures)
 
@@ -32,9 +29,7 @@ returns-4 : tie.Need-returns-4
 returns-4 c = rw (c .before .before .answer3 .given .1) (c .refused-at3 .ensures)
 
 pub number-spec : {M : Type 1} → statement M
-number-spec =
-    tie.close
-    (tie.spec
-    (λ c. search needs) (λ c. search needs) cast-refused-at (λ c κs. search needs) (λ c. search needs) cast-refused-at-2
-    (λ c κs. search needs) (λ c. search needs) cast-refused-at-3 (λ c κs. search needs) (λ c. search needs) (λ c. search needs) returns
-    returns-2 returns-3 returns-4 (λ c. search needs))
+number-spec = tie.close (tie.spec
+    (λ c. search needs) (λ c. search needs) cast-refused-at (λ c κs. search needs) (λ c. search needs) cast-refused-at-2 (λ c κs. search needs)
+    (λ c. search needs) cast-refused-at-3 (λ c κs. search needs) (λ c. search needs) (λ c. search needs) (λ c. rw (c .enum-told .given .1)) returns-2
+    returns-3 returns-4 (λ c. search needs))

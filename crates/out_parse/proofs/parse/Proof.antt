@@ -19,8 +19,6 @@ returns-2 c = rw (c .number .ensures) (parse-long _ _ _ _
     (c .before .before .before .put .ensures))
 
 pub parse-spec : {M : Type 1} → statement M
-parse-spec =
-    tie.close
-    (tie.spec
+parse-spec = tie.close (tie.spec
     (λ c κs. search needs) returns (λ c κs. search needs) (λ c κs. search needs) number-requires (λ c. search needs) (λ c. search needs)
     (λ c. search needs) (λ c. search needs) (λ c. search needs) returns-2)

@@ -9,8 +9,5 @@ number-requires : tie.Need-number-requires
 number-requires c κs = parse-fits _ _ _ _ _ (c .before .before .before .before .parse .ensures)
 
 pub unanswered-spec : {M : Type 1} → statement M
-unanswered-spec =
-    tie.close
-    (tie.spec
-    (λ c. search needs) (λ c. search needs) (λ c. search needs) (λ c. search needs) (λ c κs. search needs) number-requires
-    (λ c. search needs))
+unanswered-spec = tie.close (tie.spec
+    (λ c. search needs) (λ c. search needs) (λ c. search needs) (λ c. search needs) (λ c κs. search needs) number-requires (λ c. search needs))

@@ -10,15 +10,10 @@ use Rattle.out_print.proofs.number.Tie as tie
 cast-refused-at : tie.Need-cast-refused-at
 cast-refused-at c = omega (arith, c .before .before .before .pre _ (ap saidPrinted (c .before .answer .given .1)))
 
-returns : tie.Need-returns
-returns c = rw (c .enum-told .given .1)
-
 returns-2 : tie.Need-returns-2
 returns-2 c = rw (c .before .before .answer .given .1) (c .refused-at .ensures)
 
 pub number-spec : {M : Type 1} → statement M
-number-spec =
-    tie.close
-    (tie.spec
-    (λ c. search needs) (λ c. search needs) cast-refused-at (λ c κs. search needs) (λ c. search needs) (λ c. search needs) returns returns-2
-    (λ c. search needs))
+number-spec = tie.close (tie.spec
+    (λ c. search needs) (λ c. search needs) cast-refused-at (λ c κs. search needs) (λ c. search needs) (λ c. search needs)
+    (λ c. rw (c .enum-told .given .1)) returns-2 (λ c. search needs))

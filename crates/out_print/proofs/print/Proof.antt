@@ -17,8 +17,5 @@ returns-2 c = rw (c .number .ensures) (print-long _ _ _ _ _ (c .before .before .
     (c .before .before .before .before .before .before .before .print .ensures) (c .before .before .before .put .ensures))
 
 pub print-spec : {M : Type 1} → statement M
-print-spec =
-    tie.close
-    (tie.spec
-    (λ c κs. search needs) returns (λ c κs. search needs) (λ c κs. search needs) number-requires (λ c. search needs) (λ c. search needs)
-    returns-2)
+print-spec = tie.close (tie.spec
+    (λ c κs. search needs) returns (λ c κs. search needs) (λ c κs. search needs) number-requires (λ c. search needs) (λ c. search needs) returns-2)

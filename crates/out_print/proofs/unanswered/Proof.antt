@@ -5,18 +5,9 @@ use Rattle.out_print.proofs.Printing.{print-fits, unanswered}
 use Rattle.out_print.proofs.unanswered.Statement.{statement}
 use Rattle.out_print.proofs.unanswered.Tie as tie
 
-slice-aggregate-print : tie.Need-slice-aggregate-print
-slice-aggregate-print c = search needs
-
-print-requires : tie.Need-print-requires
-print-requires c κs = search needs
-
-number-requires : tie.Need-number-requires
-number-requires c κs = print-fits _ _ _ _ _ _ (c .before .print .ensures)
-
 returns : tie.Need-returns
 returns c = rw (c .number .ensures) (unanswered _ _ _ _ _ (c .before .before .print .ensures))
 
 pub unanswered-spec : {M : Type 1} → statement M
 unanswered-spec =
-    tie.close (tie.spec slice-aggregate-print print-requires number-requires returns)
+    tie.close (tie.spec (λ c. search needs) (λ c κs. search needs) (λ c κs. print-fits _ _ _ _ _ _ (c .before .print .ensures)) returns)

@@ -17,8 +17,6 @@ returns-2 c = rw (c .number .ensures, c .before .before .before .put .ensures) (
     _ (c .before .before .before .before .before .before .before .before .before .before .before .before .before .before .before .read .ensures))
 
 pub read-spec : {M : Type 1} → statement M
-read-spec =
-    tie.close
-    (tie.spec
+read-spec = tie.close (tie.spec
     (λ c κs. search needs) returns (λ c κs. search needs) (λ c κs. search needs) number-requires (λ c. search needs) (λ c. search needs)
     (λ c. search needs) (λ c. search needs) (λ c. search needs) (λ c. search needs) returns-2)

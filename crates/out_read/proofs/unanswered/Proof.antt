@@ -15,8 +15,5 @@ returns c = rw (c .number .ensures) (unanswered _ (λ i. omega
     (c .before .before .before .before .before .before .read .ensures))
 
 pub unanswered-spec : {M : Type 1} → statement M
-unanswered-spec =
-    tie.close
-    (tie.spec
-    (λ c. search needs) (λ c. search needs) (λ c. search needs) (λ c. search needs) (λ c. search needs) (λ c κs. search needs)
-    number-requires returns)
+unanswered-spec = tie.close (tie.spec
+    (λ c. search needs) (λ c. search needs) (λ c. search needs) (λ c. search needs) (λ c. search needs) (λ c κs. search needs) number-requires returns)

@@ -14,8 +14,6 @@ returns-2 c = rw (c .number .ensures) (report-long _ _ _ _ _ (c .before .before 
     (c .before .before .before .before .before .before .before .report .ensures) (c .before .before .before .put .ensures))
 
 pub report-spec : {M : Type 1} → statement M
-report-spec =
-    tie.close
-    (tie.spec
-    (λ c κs. search needs) returns (λ c κs. search needs) (λ c κs. search needs) (λ c κs. search needs) (λ c. search needs)
-    (λ c. search needs) returns-2)
+report-spec = tie.close (tie.spec
+    (λ c κs. search needs) returns (λ c κs. search needs) (λ c κs. search needs) (λ c κs. search needs) (λ c. search needs) (λ c. search needs)
+    returns-2)

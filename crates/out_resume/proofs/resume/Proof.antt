@@ -27,9 +27,7 @@ returns-3 c = resume-long _ _ _ _ _
     (c .before .before .before .before .put .result) _ _ (c .before .before .before .before .put .ensures)
 
 pub resume-spec : {M : Type 1} → statement M
-resume-spec =
-    tie.close
-    (tie.spec
+resume-spec = tie.close (tie.spec
     (λ c κs. search needs) returns (λ c κs. search needs) returns-2 (λ c κs. search needs) (λ c κs. search needs) (λ c κs. search needs)
-    (λ c. search needs) (λ c. search needs) (λ c. search needs) (λ c. search needs) (λ c. search needs) (λ c. search needs)
-    (λ c. search needs) returns-3)
+    (λ c. search needs) (λ c. search needs) (λ c. search needs) (λ c. search needs) (λ c. search needs) (λ c. search needs) (λ c. search needs)
+    returns-3)

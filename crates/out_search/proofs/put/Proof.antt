@@ -6,66 +6,16 @@ use lib.ListN.{length-set}
 use Rattle.out_search.proofs.put.Statement.{statement}
 use Rattle.out_search.proofs.put.Tie as tie
 
-slice-write-out-2 : tie.Need-slice-write-out-2
-slice-write-out-2 c = simp length-set (omega arith)
-
-slice-write-out-3 : tie.Need-slice-write-out-3
-slice-write-out-3 c = simp length-set (omega arith)
-
-slice-write-out-4 : tie.Need-slice-write-out-4
-slice-write-out-4 c = simp length-set (omega arith)
-
-slice-write-out-5 : tie.Need-slice-write-out-5
-slice-write-out-5 c = simp length-set (omega arith)
-
-slice-write-out-6 : tie.Need-slice-write-out-6
-slice-write-out-6 c = simp length-set (omega arith)
-
-slice-write-out-7 : tie.Need-slice-write-out-7
-slice-write-out-7 c = simp length-set (omega arith)
-
-slice-write-out-8 : tie.Need-slice-write-out-8
-slice-write-out-8 c = simp length-set (omega arith)
-
-slice-write-out-9 : tie.Need-slice-write-out-9
-slice-write-out-9 c = simp length-set (omega arith)
-
-slice-write-out-11 : tie.Need-slice-write-out-11
-slice-write-out-11 c = simp length-set (omega arith)
-
-slice-write-out-12 : tie.Need-slice-write-out-12
-slice-write-out-12 c = simp length-set (omega arith)
-
-slice-write-out-13 : tie.Need-slice-write-out-13
-slice-write-out-13 c = simp length-set (omega arith)
-
-slice-write-out-15 : tie.Need-slice-write-out-15
-slice-write-out-15 c = simp length-set (omega arith)
-
-slice-write-out-16 : tie.Need-slice-write-out-16
-slice-write-out-16 c = simp length-set (omega arith)
-
-slice-write-out-17 : tie.Need-slice-write-out-17
-slice-write-out-17 c = simp length-set (omega arith)
-
-slice-write-out-18 : tie.Need-slice-write-out-18
-slice-write-out-18 c = simp length-set (omega arith)
-
 returns : tie.Need-returns
 returns c = rw (c .before .before .before .before .before .before .answer .given .1)
 
-returns-2 : tie.Need-returns-2
-returns-2 c = rw (c .before .answer2 .given .1)
-
-returns-3 : tie.Need-returns-3
-returns-3 c = rw (c .before .answer3 .given .1)
-
 pub put-spec : {M : Type 1} → statement M
-put-spec =
-    tie.close
-    (tie.spec
-    (λ c. search needs) (λ c. search needs) (λ c. search needs) slice-write-out-2 slice-write-out-3 slice-write-out-4 (λ c. search needs)
-    slice-write-out-5 (λ c. search needs) slice-write-out-6 (λ c. search needs) slice-write-out-7 (λ c. search needs) slice-write-out-8
-    slice-write-out-9 (λ c. search needs) (λ c. search needs) slice-write-out-11 slice-write-out-12 slice-write-out-13 (λ c. search needs)
-    (λ c. search needs) (λ c. search needs) slice-write-out-15 slice-write-out-16 slice-write-out-17 slice-write-out-18 (λ c. search needs)
-    (λ c. search needs) returns (λ c. search needs) returns-2 (λ c. search needs) returns-3 (λ c. search needs))
+put-spec = tie.close (tie.spec
+    (λ c. search needs) (λ c. search needs) (λ c. search needs) (λ c. simp length-set (omega arith)) (λ c. simp length-set (omega arith))
+    (λ c. simp length-set (omega arith)) (λ c. search needs) (λ c. simp length-set (omega arith)) (λ c. search needs)
+    (λ c. simp length-set (omega arith)) (λ c. search needs) (λ c. simp length-set (omega arith)) (λ c. search needs)
+    (λ c. simp length-set (omega arith)) (λ c. simp length-set (omega arith)) (λ c. search needs) (λ c. search needs)
+    (λ c. simp length-set (omega arith)) (λ c. simp length-set (omega arith)) (λ c. simp length-set (omega arith)) (λ c. search needs)
+    (λ c. search needs) (λ c. search needs) (λ c. simp length-set (omega arith)) (λ c. simp length-set (omega arith))
+    (λ c. simp length-set (omega arith)) (λ c. simp length-set (omega arith)) (λ c. search needs) (λ c. search needs) returns (λ c. search needs)
+    (λ c. rw (c .before .answer2 .given .1)) (λ c. search needs) (λ c. rw (c .before .answer3 .given .1)) (λ c. search needs))

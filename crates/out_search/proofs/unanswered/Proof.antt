@@ -9,8 +9,6 @@ returns : tie.Need-returns
 returns c = rw (c .number .ensures) (unanswered _ _ _ _ _ _ _ _ (c .before .before .before .before .before .before .search .ensures))
 
 pub unanswered-spec : {M : Type 1} → statement M
-unanswered-spec =
-    tie.close
-    (tie.spec
-    (λ c. search needs) (λ c. search needs) (λ c. search needs) (λ c. search needs) (λ c. search needs) (λ c. search needs)
-    (λ c. search needs) (λ c. search needs) (λ c. search needs) (λ c. search needs) (λ c κs. search needs) (λ c κs. search needs) returns)
+unanswered-spec = tie.close (tie.spec
+    (λ c. search needs) (λ c. search needs) (λ c. search needs) (λ c. search needs) (λ c. search needs) (λ c. search needs) (λ c. search needs)
+    (λ c. search needs) (λ c. search needs) (λ c. search needs) (λ c κs. search needs) (λ c κs. search needs) returns)

@@ -77,10 +77,7 @@ returns-8 c =
     (omega (arith, b .before .least .ensures, b .if1 .left)) (w .write .ensures)
 
 pub parse-spec : {M : Type 1} → statement M
-parse-spec =
-    tie.close
-    (tie.spec
-    (λ c. search needs) (λ c κs. search needs) (λ c. search needs) (λ c. search needs) (λ c. search needs) (λ c. search needs)
-    (λ c. search needs) (λ c. search needs) (λ c. search needs) (λ c κs. search needs) returns (λ c. search needs) write-requires returns-2
-    returns-3 returns-4 returns-5 returns-6 returns-7 (λ c. search needs) (λ c. search needs) (λ c. search needs) (λ c. search needs)
-    returns-8)
+parse-spec = tie.close (tie.spec
+    (λ c. search needs) (λ c κs. search needs) (λ c. search needs) (λ c. search needs) (λ c. search needs) (λ c. search needs) (λ c. search needs)
+    (λ c. search needs) (λ c. search needs) (λ c κs. search needs) returns (λ c. search needs) write-requires returns-2 returns-3 returns-4 returns-5
+    returns-6 returns-7 (λ c. search needs) (λ c. search needs) (λ c. search needs) (λ c. search needs) returns-8)

@@ -25,15 +25,7 @@ returns c =
     refused-as-check (recording (a .r) (a .m) (a .marks .now) (a .lengths .now) (a .words .now)) (nodes (a .codes .now) (a .lefts .now) (a .rights .now) (a .sizes .now))
     (nodeOf (a .root)) (a .text .now) (c .before .before .before .check .result) (c .before .verdict .given .1) (c .before .before .before .check .ensures)
 
-returns-2 : tie.Need-returns-2
-returns-2 c = c .before .before .write .ensures
-
-returns-3 : tie.Need-returns-3
-returns-3 c = c .before .before .write2 .ensures
-
 pub report-spec : {M : Type 1} → statement M
-report-spec =
-    tie.close
-    (tie.spec
-    (λ c κs. search needs) (λ c. search needs) (λ c. search needs) write-requires (λ c. search needs) write-requires-2 returns
-    (λ c. search needs) returns-2 (λ c. search needs) returns-3)
+report-spec = tie.close (tie.spec
+    (λ c κs. search needs) (λ c. search needs) (λ c. search needs) write-requires (λ c. search needs) write-requires-2 returns (λ c. search needs)
+    (λ c. c .before .before .write .ensures) (λ c. search needs) (λ c. c .before .before .write2 .ensures))

@@ -52,8 +52,6 @@ returns-2 c =
     (c .before .before .before .before .before .before .before .put-sessions .ensures) (c .before .before .before .before .before .if1 .left) (c .before .before .put .ensures)
 
 pub write-spec : {M : Type 1} → statement M
-write-spec =
-    tie.close
-    (tie.spec
+write-spec = tie.close (tie.spec
     places-under-requires (λ c. search needs) (λ c. search needs) put-sessions-requires returns array-share-prefix-whole slice-aggregate-put
     (λ c κs. search needs) (λ c. search needs) returns-2)

@@ -49,9 +49,7 @@ returns-6 c =
     (λ u. none .1 (u .0) (u .1)) (f .result) (f .ensures)
 
 pub rows-of-spec : {M : Type 1} → statement M
-rows-of-spec =
-    tie.close
-    (tie.spec
-    (λ c. search needs) (λ c. search needs) (λ c. search needs) (λ c κs. search needs) (λ c. search needs) rows-of-requires
-    (λ c. search needs) rows-of-requires-2 (λ c. search needs) rows-of-requires-3 (λ c. search needs) returns-4 (λ c. search needs)
-    returns-5 (λ c. search needs) returns-6)
+rows-of-spec = tie.close (tie.spec
+    (λ c. search needs) (λ c. search needs) (λ c. search needs) (λ c κs. search needs) (λ c. search needs) rows-of-requires (λ c. search needs)
+    rows-of-requires-2 (λ c. search needs) rows-of-requires-3 (λ c. search needs) returns-4 (λ c. search needs) returns-5 (λ c. search needs)
+    returns-6)

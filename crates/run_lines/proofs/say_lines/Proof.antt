@@ -7,12 +7,9 @@ use borrow.Author.Needs.{needs}
 use Rattle.run_lines.proofs.say_lines.Statement.{statement}
 use Rattle.run_lines.proofs.say_lines.Tie as tie
 
-array-share-prefix-text : tie.Need-array-share-prefix-text
-array-share-prefix-text c = lines-in (c .of-file .ensures)
-
 slice-aggregate-say : tie.Need-slice-aggregate-say
 slice-aggregate-say c = sym (length-take-le _ _ (lines-in (c .before .of-file .ensures)))
 
 pub say-lines-spec : {M : Type 1} → statement M
 say-lines-spec =
-    tie.close (tie.spec (λ c κs. search needs) array-share-prefix-text slice-aggregate-say (λ c κs. search needs) (λ c. search needs))
+    tie.close (tie.spec (λ c κs. search needs) (λ c. lines-in (c .of-file .ensures)) slice-aggregate-say (λ c κs. search needs) (λ c. search needs))

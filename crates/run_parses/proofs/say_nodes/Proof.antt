@@ -5,16 +5,9 @@ use borrow.Author.Needs.{needs}
 use Rattle.run_parses.proofs.say_nodes.Statement.{statement}
 use Rattle.run_parses.proofs.say_nodes.Tie as tie
 
-abbrev Inv-loop : tie.InvT-loop
-Inv-loop codes lefts rights sizes n i₀ i = i ≤ 31
-
-abbrev μ-loop : tie.MeasureT-loop
-μ-loop codes lefts rights sizes n i₀ i = 31 - i
-
 pub say-nodes-spec : {M : Type 1} → statement M
-say-nodes-spec =
-    tie.close
-    (tie.spec
-    Inv-loop μ-loop (λ c. search needs) (λ c. search needs) (λ c. search needs) (λ c κs. search needs) (λ c. search needs)
-    (λ c. search needs) (λ c κs. search needs) (λ c. search needs) (λ c. search needs) (λ c κs. search needs) (λ c. search needs)
-    (λ c κs. search needs) (λ c κs. search needs) (λ c. search needs) (λ c. search needs) (λ c. search needs) (λ c. search needs))
+say-nodes-spec = tie.close (tie.spec
+    (λ codes lefts rights sizes n i₀ i. i ≤ 31) (λ codes lefts rights sizes n i₀ i. 31 - i) (λ c. search needs) (λ c. search needs)
+    (λ c. search needs) (λ c κs. search needs) (λ c. search needs) (λ c. search needs) (λ c κs. search needs) (λ c. search needs) (λ c. search needs)
+    (λ c κs. search needs) (λ c. search needs) (λ c κs. search needs) (λ c κs. search needs) (λ c. search needs) (λ c. search needs)
+    (λ c. search needs) (λ c. search needs))

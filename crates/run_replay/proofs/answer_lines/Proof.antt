@@ -7,17 +7,9 @@ use lib.ListN.{length}
 use Rattle.run_replay.proofs.answer_lines.Statement.{statement}
 use Rattle.run_replay.proofs.answer_lines.Tie as tie
 
-abbrev Inv-loop : tie.InvT-loop
-Inv-loop text out₀ i₀ out i = (i ≤ 256) × (length out ≡ length out₀)
-
-abbrev μ-loop : tie.MeasureT-loop
-μ-loop text out₀ i₀ out i = 256 - i
-
 pub answer-lines-spec : {M : Type 1} → statement M
-answer-lines-spec =
-    tie.close
-    (tie.spec
-    Inv-loop μ-loop (λ c. search needs) (λ c. search needs) (λ c. search needs) (λ c. search needs) (λ c. search needs)
-    (λ c. search needs) (λ c κs. search needs) (λ c κs. search needs) (λ c. search needs) (λ c. search needs) (λ c. search needs)
-    (λ c. search needs) (λ c κs. search needs) (λ c κs. search needs) (λ c. search needs) (λ c. search needs) (λ c. search needs)
-    (λ c. search needs) (λ c. search needs))
+answer-lines-spec = tie.close (tie.spec
+    (λ text out₀ i₀ out i. (i ≤ 256) × (length out ≡ length out₀)) (λ text out₀ i₀ out i. 256 - i) (λ c. search needs) (λ c. search needs)
+    (λ c. search needs) (λ c. search needs) (λ c. search needs) (λ c. search needs) (λ c κs. search needs) (λ c κs. search needs) (λ c. search needs)
+    (λ c. search needs) (λ c. search needs) (λ c. search needs) (λ c κs. search needs) (λ c κs. search needs) (λ c. search needs) (λ c. search needs)
+    (λ c. search needs) (λ c. search needs) (λ c. search needs))

@@ -5,15 +5,8 @@ use Prim.Native.Nat.{_≤_, _-_}
 use Rattle.run_replay.proofs.read_hex.Statement.{statement}
 use Rattle.run_replay.proofs.read_hex.Tie as tie
 
-abbrev Inv-loop : tie.InvT-loop
-Inv-loop text at count value₀ i₀ value i = i ≤ count
-
-abbrev μ-loop : tie.MeasureT-loop
-μ-loop text at count value₀ i₀ value i = count - i
-
 pub read-hex-spec : {M : Type 1} → statement M
-read-hex-spec =
-    tie.close
-    (tie.spec
-    Inv-loop μ-loop (λ c. search needs) (λ c. search needs) (λ c. search needs) (λ c κs. search needs) (λ c. search needs)
-    (λ c κs. search needs) (λ c. search needs) (λ c. search needs) (λ c. search needs) (λ c. search needs))
+read-hex-spec = tie.close (tie.spec
+    (λ text at count value₀ i₀ value i. i ≤ count) (λ text at count value₀ i₀ value i. count - i) (λ c. search needs) (λ c. search needs)
+    (λ c. search needs) (λ c κs. search needs) (λ c. search needs) (λ c κs. search needs) (λ c. search needs) (λ c. search needs) (λ c. search needs)
+    (λ c. search needs))

@@ -7,15 +7,8 @@ use lib.ListN.{length}
 use Rattle.run_replay.proofs.write_hex.Statement.{statement}
 use Rattle.run_replay.proofs.write_hex.Tie as tie
 
-abbrev Inv-loop : tie.InvT-loop
-Inv-loop text₀ to count value end rest₀ i₀ text rest i = (i ≤ count) × (length text ≡ length text₀)
-
-abbrev μ-loop : tie.MeasureT-loop
-μ-loop text₀ to count value end rest₀ i₀ text rest i = i
-
 pub write-hex-spec : {M : Type 1} → statement M
-write-hex-spec =
-    tie.close
-    (tie.spec
-    Inv-loop μ-loop (λ c. search needs) (λ c. search needs) (λ c κs. search needs) (λ c. search needs) (λ c. search needs)
-    (λ c. search needs) (λ c. search needs) (λ c. search needs) (λ c. search needs) (λ c. search needs) (λ c. search needs))
+write-hex-spec = tie.close (tie.spec
+    (λ text₀ to count value end rest₀ i₀ text rest i. (i ≤ count) × (length text ≡ length text₀)) (λ text₀ to count value end rest₀ i₀ text rest i. i)
+    (λ c. search needs) (λ c. search needs) (λ c κs. search needs) (λ c. search needs) (λ c. search needs) (λ c. search needs) (λ c. search needs)
+    (λ c. search needs) (λ c. search needs) (λ c. search needs) (λ c. search needs))

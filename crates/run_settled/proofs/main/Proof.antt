@@ -5,15 +5,7 @@ use borrow.Author.Needs.{needs}
 use Rattle.run_settled.proofs.main.Statement.{statement}
 use Rattle.run_settled.proofs.main.Tie as tie
 
-abbrev Inv-loop : tie.InvT-loop
-Inv-loop length₀ length = Unit {0}
-
-abbrev μ-loop : tie.MeasureT-loop
-μ-loop length₀ length = 5 - length
-
 pub main-spec : {M : Type 1} → statement M
-main-spec =
-    tie.close
-    (tie.spec
-    Inv-loop μ-loop (λ c κs. search needs) (λ c. tt) (λ c κs. search needs) (λ c κs. search needs) (λ c. search needs)
-    (λ c. search needs) (λ c. tt) (λ c. search needs))
+main-spec = tie.close (tie.spec
+    (λ length₀ length. Unit {0}) (λ length₀ length. 5 - length) (λ c κs. search needs) (λ c. tt) (λ c κs. search needs) (λ c κs. search needs)
+    (λ c. search needs) (λ c. search needs) (λ c. tt) (λ c. search needs))

@@ -5,14 +5,7 @@ use borrow.Author.Needs.{needs}
 use Rattle.run_settled.proofs.unary_lines.Statement.{statement}
 use Rattle.run_settled.proofs.unary_lines.Tie as tie
 
-abbrev Inv-loop : tie.InvT-loop
-Inv-loop length code₀ code = Unit {0}
-
-abbrev μ-loop : tie.MeasureT-loop
-μ-loop length code₀ code = 5 - code
-
 pub unary-lines-spec : {M : Type 1} → statement M
-unary-lines-spec =
-    tie.close
-    (tie.spec
-    Inv-loop μ-loop (λ c. tt) (λ c κs. search needs) (λ c. search needs) (λ c. search needs) (λ c. tt) (λ c. search needs))
+unary-lines-spec = tie.close (tie.spec
+    (λ length code₀ code. Unit {0}) (λ length code₀ code. 5 - code) (λ c. tt) (λ c κs. search needs) (λ c. search needs) (λ c. search needs) (λ c. tt)
+    (λ c. search needs))

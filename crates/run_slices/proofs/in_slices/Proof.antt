@@ -100,11 +100,9 @@ slice-aggregate-say-3 c =
     sym (c₂ .loop .inv .10)
 
 pub in-slices-spec : {M : Type 1} → statement M
-in-slices-spec =
-    tie.close
-    (tie.spec
+in-slices-spec = tie.close (tie.spec
     Inv-loop μ-loop (λ c κs. search needs) loop-holds slice-aggregate-resume slice-aggregate-resume-2 slice-aggregate-resume-3
-    slice-aggregate-resume-4 slice-aggregate-resume-5 (λ c κs. search needs) add-turn (λ c. search needs) (λ c. search needs)
-    slice-aggregate-say (λ c κs. search needs) (λ c. search needs) slice-aggregate-say-number (λ c κs. search needs)
-    slice-aggregate-say-number-2 (λ c κs. search needs) (λ c κs. search needs) slice-aggregate-say-2 (λ c κs. search needs)
-    (λ c. search needs) loop-less loop-again slice-aggregate-say-3 (λ c κs. search needs) (λ c. search needs))
+    slice-aggregate-resume-4 slice-aggregate-resume-5 (λ c κs. search needs) add-turn (λ c. search needs) (λ c. search needs) slice-aggregate-say
+    (λ c κs. search needs) (λ c. search needs) slice-aggregate-say-number (λ c κs. search needs) slice-aggregate-say-number-2 (λ c κs. search needs)
+    (λ c κs. search needs) slice-aggregate-say-2 (λ c κs. search needs) (λ c. search needs) loop-less loop-again slice-aggregate-say-3
+    (λ c κs. search needs) (λ c. search needs))

@@ -7,15 +7,10 @@ use borrow.Author.Needs.{needs}
 use Rattle.run_suspicions.proofs.answer.Statement.{statement}
 use Rattle.run_suspicions.proofs.answer.Tie as tie
 
-array-share-prefix-text : tie.Need-array-share-prefix-text
-array-share-prefix-text c = said-in (c .before .of-typed .ensures)
-
 slice-aggregate-say : tie.Need-slice-aggregate-say
 slice-aggregate-say c = sym (length-take-le _ _ (said-in (c .before .before .of-typed .ensures)))
 
 pub answer-spec : {M : Type 1} → statement M
-answer-spec =
-    tie.close
-    (tie.spec
-    (λ c. search needs) (λ c κs. search needs) array-share-prefix-text slice-aggregate-say (λ c κs. search needs)
+answer-spec = tie.close (tie.spec
+    (λ c. search needs) (λ c κs. search needs) (λ c. said-in (c .before .of-typed .ensures)) slice-aggregate-say (λ c κs. search needs)
     (λ c. search needs))

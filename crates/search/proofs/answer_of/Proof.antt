@@ -4,16 +4,10 @@ use borrow.Author.Needs.{needs}
 use Rattle.search.proofs.answer_of.Statement.{statement}
 use Rattle.search.proofs.answer_of.Tie as tie
 
-enum-known-resumed : tie.Need-enum-known-resumed
-enum-known-resumed c = search needs
-
 end-of-requires : tie.Need-end-of-requires
 end-of-requires c κs =
     let c₁ = c .before in
     rw (c₁ .resumed .given .1) at (c₁ .before .before .pre)
-
-enum-known-resumed-2 : tie.Need-enum-known-resumed-2
-enum-known-resumed-2 c = search needs
 
 returns : tie.Need-returns
 returns c =
@@ -26,4 +20,4 @@ returns-2 c =
     rw (c₁ .resumed2 .given .1)
 
 pub answer-of-spec : {M : Type 1} → statement M
-answer-of-spec = tie.close (tie.spec enum-known-resumed end-of-requires enum-known-resumed-2 returns returns-2)
+answer-of-spec = tie.close (tie.spec (λ c. search needs) end-of-requires (λ c. search needs) returns returns-2)

@@ -6,12 +6,6 @@ use Rattle.search.proofs.Whole.{search-answers, size-fits}
 use Rattle.search.proofs.search.Statement.{statement}
 use Rattle.search.proofs.search.Tie as tie
 
-fresh-requires : tie.Need-fresh-requires
-fresh-requires c κs = search needs
-
-advance-requires : tie.Need-advance-requires
-advance-requires c κs = search needs
-
 answer-of-requires : tie.Need-answer-of-requires
 answer-of-requires c κs =
     let c₁₀ = c .before .before .before .before .before .before .before .before .before .before in
@@ -42,4 +36,4 @@ returns c =
 pub search-spec : {M : Type 1} → statement M
 search-spec =
     tie.close
-    (tie.spec fresh-requires advance-requires answer-of-requires same-length same-length-2 same-length-3 same-length-4 same-length-5 returns)
+    (tie.spec (λ c κs. search needs) (λ c κs. search needs) answer-of-requires same-length same-length-2 same-length-3 same-length-4 same-length-5 returns)

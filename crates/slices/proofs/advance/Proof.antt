@@ -105,10 +105,8 @@ returns-4 c =
     }
 
 pub advance-spec : {M : Type 1} → statement M
-advance-spec =
-    tie.close
-    (tie.spec
+advance-spec = tie.close (tie.spec
     (λ c κs. search needs) (λ c. search needs) (λ c. search needs) (λ c. search needs) (λ c. search needs) (λ c. search needs) returns
     state-good-requires (λ c. search needs) (λ c. search needs) (λ c. search needs) (λ c. search needs) (λ c. search needs) returns-2
-    (λ c. search needs) (λ c. search needs) (λ c. search needs) (λ c. search needs) (λ c. search needs) returns-3 go-on-requires
-    same-length-16 same-length-17 same-length-18 same-length-19 same-length-20 returns-4)
+    (λ c. search needs) (λ c. search needs) (λ c. search needs) (λ c. search needs) (λ c. search needs) returns-3 go-on-requires same-length-16
+    same-length-17 same-length-18 same-length-19 same-length-20 returns-4)

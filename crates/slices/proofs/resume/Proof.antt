@@ -9,9 +9,6 @@ use Rattle.slices.proofs.Calls.{rows-budget, rows-within, one-or-two-so
 use Rattle.slices.proofs.resume.Statement.{statement}
 use Rattle.slices.proofs.resume.Tie as tie
 
-one-or-two-requires : tie.Need-one-or-two-requires
-one-or-two-requires c κs = search needs
-
 returns : tie.Need-returns
 returns c =
     let c₁ = c .before in
@@ -19,9 +16,6 @@ returns c =
     let i = inputOf (a .r) (a .m) (a .bound) (a .room) (a .constants) (a .marks .now) (a .lengths .now) (a .words .now) (a .unary .now) (a .binary .now) in
     let t = cols (a .codes .now) (a .lefts .now) (a .rights .now) (a .sizes .now) (a .matrices .now) in
     record { decided = rows-budget i t (a .state) (a .budget) _ (c₁ .if1 .taken) (c .one-or-two .ensures); outcome = (one-or-two-some _ _ _ (c .one-or-two .ensures), refl) }
-
-advance-requires : tie.Need-advance-requires
-advance-requires c κs = search needs
 
 same-length : tie.Need-same-length
 same-length c = c .before .before .before .before .before .before .before .before .before .before .advance .kept .1 .1 .1 .1 .1 .1 .1 .1 .1 .1 .1 .1 .0
@@ -51,4 +45,4 @@ returns-2 c =
 pub resume-spec : {M : Type 1} → statement M
 resume-spec =
     tie.close
-    (tie.spec one-or-two-requires returns advance-requires same-length same-length-2 same-length-3 same-length-4 same-length-5 returns-2)
+    (tie.spec (λ c κs. search needs) returns (λ c κs. search needs) same-length same-length-2 same-length-3 same-length-4 same-length-5 returns-2)

@@ -7,18 +7,9 @@ use borrow.Author.Needs.{needs}
 use Rattle.state_words.proofs.fresh.Statement.{statement}
 use Rattle.state_words.proofs.fresh.Tie as tie
 
-fresh-requires : tie.Need-fresh-requires
-fresh-requires c κs = search needs
-
-put-requires : tie.Need-put-requires
-put-requires c κs = search needs
-
-same-length : tie.Need-same-length
-same-length c = search needs
-
 returns : tie.Need-returns
 returns c = subst (λ (s : State). StateDone s (c .before .before .before .before .before .before .args .words .now) (c .before .before .put .result)
     (c .before .before .put .last .1 .0)) (c .before .before .before .before .fresh .ensures) (c .before .before .put .ensures)
 
 pub fresh-spec : {M : Type 1} → statement M
-fresh-spec = tie.close (tie.spec fresh-requires put-requires same-length returns)
+fresh-spec = tie.close (tie.spec (λ c κs. search needs) (λ c κs. search needs) (λ c. search needs) returns)

@@ -10,18 +10,6 @@ use borrow.Author.Needs.{needs}
 use Rattle.state_words.proofs.put.Statement.{statement}
 use Rattle.state_words.proofs.put.Tie as tie
 
-returns : tie.Need-returns
-returns c = state-short _ _ (c .if1 .taken)
-
-put-first-requires : tie.Need-put-first-requires
-put-first-requires c κs = search needs
-
-put-rest-requires : tie.Need-put-rest-requires
-put-rest-requires c κs = search needs
-
-same-length : tie.Need-same-length
-same-length c = search needs
-
 returns-2 : tie.Need-returns-2
 returns-2 c =
     let a = c .before .before .before .before .before .before .before .before .before .before .args in
@@ -31,4 +19,4 @@ returns-2 c =
     (rest .1 ∙ ap (λ (ws : List ℕ). written (inOrder 8 (restOf (a .state .end) (a .state .root) (a .state .counts .dropped))) ws) first)
 
 pub put-spec : {M : Type 1} → statement M
-put-spec = tie.close (tie.spec returns put-first-requires put-rest-requires same-length returns-2)
+put-spec = tie.close (tie.spec (λ c. state-short _ _ (c .if1 .taken)) (λ c κs. search needs) (λ c κs. search needs) (λ c. search needs) returns-2)

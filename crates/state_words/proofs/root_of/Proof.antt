@@ -8,8 +8,6 @@ returns : tie.Need-returns
 returns c = rw (c .word4 .ensures, c .before .word3 .ensures, c .before .before .word2 .ensures, c .before .before .before .word .ensures)
 
 pub root-of-spec : {M : Type 1} → statement M
-root-of-spec =
-    tie.close
-    (tie.spec
+root-of-spec = tie.close (tie.spec
     (λ c κs. search needs) (λ c. search needs) (λ c κs. search needs) (λ c. search needs) (λ c κs. search needs) (λ c. search needs)
     (λ c κs. search needs) (λ c. search needs) returns)

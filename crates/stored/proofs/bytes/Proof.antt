@@ -8,18 +8,7 @@ use borrow.Author.Needs.{needs}
 use Rattle.stored.proofs.bytes.Statement.{statement}
 use Rattle.stored.proofs.bytes.Tie as tie
 
-slice-aggregate-narrow8 : tie.Need-slice-aggregate-narrow8
-slice-aggregate-narrow8 c = sym (length-take-le _ _ (search needs))
-
-slice-aggregate-result : tie.Need-slice-aggregate-result
-slice-aggregate-result c = sym (length-take-le _ _ (search needs))
-
-returns : tie.Need-returns
-returns c = simp length-take (omega arith)
-
 pub bytes-spec : {M : Type 1} → statement M
-bytes-spec =
-    tie.close
-    (tie.spec
-    (λ c κs. search needs) (λ c. search needs) (λ c κs. search needs) (λ c. search needs) slice-aggregate-narrow8
-    (λ c κs. search needs) slice-aggregate-result returns)
+bytes-spec = tie.close (tie.spec
+    (λ c κs. search needs) (λ c. search needs) (λ c κs. search needs) (λ c. search needs) (λ c. sym (length-take-le _ _ (search needs)))
+    (λ c κs. search needs) (λ c. sym (length-take-le _ _ (search needs))) (λ c. simp length-take (omega arith)))

@@ -7,17 +7,9 @@ use borrow.Author.Needs.{needs}
 use Rattle.stored.proofs.decode.Statement.{statement}
 use Rattle.stored.proofs.decode.Tie as tie
 
-abbrev Inv-loop : tie.InvT-loop
-Inv-loop text out₀ n₀ i₀ out n i = (n ≤ length out₀) × (length out ≡ length out₀) × (i ≤ length text)
-
-abbrev μ-loop : tie.MeasureT-loop
-μ-loop text out₀ n₀ i₀ out n i = length text - i
-
 pub decode-spec : {M : Type 1} → statement M
-decode-spec =
-    tie.close
-    (tie.spec
-    Inv-loop μ-loop (λ c. search needs) (λ c. search needs) (λ c. c .before .before .loop .inv .1) (λ c. search needs)
-    (λ c. search needs) (λ c κs. search needs) (λ c. search needs) (λ c. search needs) (λ c. search needs) (λ c κs. search needs)
-    (λ c. search needs) (λ c. search needs) (λ c. search needs) (λ c. search needs) (λ c. search needs) (λ c. search needs)
-    (λ c. c .before .loop .inv .1) (λ c. search needs))
+decode-spec = tie.close (tie.spec
+    (λ text out₀ n₀ i₀ out n i. (n ≤ length out₀) × (length out ≡ length out₀) × (i ≤ length text)) (λ text out₀ n₀ i₀ out n i. length text - i)
+    (λ c. search needs) (λ c. search needs) (λ c. c .before .before .loop .inv .1) (λ c. search needs) (λ c. search needs) (λ c κs. search needs)
+    (λ c. search needs) (λ c. search needs) (λ c. search needs) (λ c κs. search needs) (λ c. search needs) (λ c. search needs) (λ c. search needs)
+    (λ c. search needs) (λ c. search needs) (λ c. search needs) (λ c. c .before .loop .inv .1) (λ c. search needs))

@@ -7,16 +7,8 @@ use borrow.Author.Needs.{needs}
 use Rattle.stored.proofs.narrow8.Statement.{statement}
 use Rattle.stored.proofs.narrow8.Tie as tie
 
-abbrev Inv-loop : tie.InvT-loop
-Inv-loop from to₀ i₀ to i = (i ≤ length from) × (i ≤ length to₀) × (length to ≡ length to₀)
-
-abbrev μ-loop : tie.MeasureT-loop
-μ-loop from to₀ i₀ to i = length from - i
-
 pub narrow8-spec : {M : Type 1} → statement M
-narrow8-spec =
-    tie.close
-    (tie.spec
-    Inv-loop μ-loop (λ c. search needs) (λ c. search needs) (λ c. search needs) (λ c. search needs) (λ c. search needs)
-    (λ c κs. search needs) (λ c. search needs) (λ c. search needs) (λ c. search needs) (λ c. search needs)
-    (λ c. search needs) (λ c. search needs))
+narrow8-spec = tie.close (tie.spec
+    (λ from to₀ i₀ to i. (i ≤ length from) × (i ≤ length to₀) × (length to ≡ length to₀)) (λ from to₀ i₀ to i. length from - i) (λ c. search needs)
+    (λ c. search needs) (λ c. search needs) (λ c. search needs) (λ c. search needs) (λ c κs. search needs) (λ c. search needs) (λ c. search needs)
+    (λ c. search needs) (λ c. search needs) (λ c. search needs) (λ c. search needs))

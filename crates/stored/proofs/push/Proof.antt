@@ -7,15 +7,8 @@ use borrow.Author.Needs.{needs}
 use Rattle.stored.proofs.push.Statement.{statement}
 use Rattle.stored.proofs.push.Tie as tie
 
-abbrev Inv-loop : tie.InvT-loop
-Inv-loop to₀ n value times k₀ at₀ to k at = (k ≤ times) × (at ≤ length to₀) × (length to ≡ length to₀)
-
-abbrev μ-loop : tie.MeasureT-loop
-μ-loop to₀ n value times k₀ at₀ to k at = times - k
-
 pub push-spec : {M : Type 1} → statement M
-push-spec =
-    tie.close
-    (tie.spec
-    Inv-loop μ-loop (λ c. search needs) (λ c. search needs) (λ c. search needs) (λ c. search needs) (λ c. search needs)
-    (λ c. search needs) (λ c. search needs) (λ c. search needs) (λ c. search needs) (λ c. search needs) (λ c. search needs))
+push-spec = tie.close (tie.spec
+    (λ to₀ n value times k₀ at₀ to k at. (k ≤ times) × (at ≤ length to₀) × (length to ≡ length to₀)) (λ to₀ n value times k₀ at₀ to k at. times - k)
+    (λ c. search needs) (λ c. search needs) (λ c. search needs) (λ c. search needs) (λ c. search needs) (λ c. search needs) (λ c. search needs)
+    (λ c. search needs) (λ c. search needs) (λ c. search needs) (λ c. search needs))

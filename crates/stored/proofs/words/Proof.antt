@@ -8,11 +8,5 @@ use borrow.Author.Needs.{needs}
 use Rattle.stored.proofs.words.Statement.{statement}
 use Rattle.stored.proofs.words.Tie as tie
 
-slice-aggregate-result : tie.Need-slice-aggregate-result
-slice-aggregate-result c = sym (length-take-le _ _ (search needs))
-
-returns : tie.Need-returns
-returns c = simp length-take (omega arith)
-
 pub words-spec : {M : Type 1} → statement M
-words-spec = tie.close (tie.spec (λ c κs. search needs) (λ c κs. search needs) slice-aggregate-result returns)
+words-spec = tie.close (tie.spec (λ c κs. search needs) (λ c κs. search needs) (λ c. sym (length-take-le _ _ (search needs))) (λ c. simp length-take (omega arith)))

@@ -20,8 +20,6 @@ returns-3 c = check-line _ _ _ (c .before .before .before .before .before .befor
     (c .before .before .refused .ensures)
 
 pub checked-spec : {M : Type 1} → statement M
-checked-spec =
-    tie.close
-    (tie.spec
+checked-spec = tie.close (tie.spec
     (λ c κs. search needs) (λ c κs. search needs) (λ c. search needs) (λ c κs. search needs) (λ c. search needs) (λ c κs. search needs)
     (λ c. search needs) (λ c κs. search needs) (λ c. search needs) returns (λ c. search needs) returns-2 (λ c. search needs) returns-3)

@@ -70,12 +70,10 @@ returns-5 c = shown-judged _ _ _ (c .before .before .before .before .before .par
     (c .before .before .before .before .before .before .before .before .before .before .before .parse .ensures) refl (c .before .before .refused .ensures)
 
 pub judged-spec : {M : Type 1} → statement M
-judged-spec =
-    tie.close
-    (tie.spec
+judged-spec = tie.close (tie.spec
     (λ c. search needs) (λ c. search needs) (λ c. search needs) (λ c. search needs) (λ c κs. search needs) (λ c. search needs)
     array-share-prefix-codes slice-aggregate-checked array-share-prefix-lefts slice-aggregate-checked-2 array-share-prefix-rights
     slice-aggregate-checked-3 array-share-prefix-sizes slice-aggregate-checked-4 sub-checked (λ c κs. search needs) (λ c. search needs)
-    (λ c κs. search needs) (λ c. search needs) pointed-requires (λ c. search needs) pointed-requires-2 (λ c. search needs)
-    (λ c κs. search needs) (λ c. search needs) returns (λ c. search needs) returns-2 (λ c. search needs) returns-3 (λ c. search needs)
-    returns-4 (λ c. search needs) returns-5)
+    (λ c κs. search needs) (λ c. search needs) pointed-requires (λ c. search needs) pointed-requires-2 (λ c. search needs) (λ c κs. search needs)
+    (λ c. search needs) returns (λ c. search needs) returns-2 (λ c. search needs) returns-3 (λ c. search needs) returns-4 (λ c. search needs)
+    returns-5)

@@ -145,11 +145,8 @@ returns-3 c = absurd (never-room (c .before .before .before .before .before .bef
     (c .before .before .before .before .before .before .before .before .before .before .before .read .ensures) (c .before .before .before .before .enum-told .given .1))
 
 pub of-typed-spec : {M : Type 1} → statement M
-of-typed-spec =
-    tie.close
-    (tie.spec
-    (λ c. search needs) (λ c. search needs) (λ c. search needs) (λ c. search needs) (λ c. search needs) (λ c κs. search needs)
-    (λ c. search needs) slice-aggregate-judged array-share-prefix-marks slice-aggregate-judged-2 array-share-prefix-lengths
-    slice-aggregate-judged-3 mul-words array-share-prefix-words slice-aggregate-judged-4 (λ c κs. search needs) (λ c. search needs)
-    (λ c κs. search needs) (λ c. search needs) (λ c κs. search needs) (λ c. search needs) returns (λ c. search needs) returns-2
-    (λ c. search needs) returns-3)
+of-typed-spec = tie.close (tie.spec
+    (λ c. search needs) (λ c. search needs) (λ c. search needs) (λ c. search needs) (λ c. search needs) (λ c κs. search needs) (λ c. search needs)
+    slice-aggregate-judged array-share-prefix-marks slice-aggregate-judged-2 array-share-prefix-lengths slice-aggregate-judged-3 mul-words
+    array-share-prefix-words slice-aggregate-judged-4 (λ c κs. search needs) (λ c. search needs) (λ c κs. search needs) (λ c. search needs)
+    (λ c κs. search needs) (λ c. search needs) returns (λ c. search needs) returns-2 (λ c. search needs) returns-3)

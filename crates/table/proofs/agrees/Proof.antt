@@ -24,7 +24,5 @@ unfolding agreeing
 returns-4 c = rw (le-leb _ _ (c .before .before .before .if1 .left), le-leb _ _ (c .before .before .if2 .left), le-leb _ _ (c .before .if3 .left)) (c .all-agree .ensures)
 
 pub agrees-spec : {M : Type 1} → statement M
-agrees-spec =
-    tie.close
-    (tie.spec
+agrees-spec = tie.close (tie.spec
     returns returns-2 returns-3 (λ c κs. search needs) returns-4)

@@ -9,12 +9,6 @@ use Rattle.rows.proofs.Products.{at-most}
 use Rattle.table.proofs.compare.Statement.{statement}
 use Rattle.table.proofs.compare.Tie as tie
 
-returns : tie.Need-returns
-returns c = refused-one _ _ _ _ (inl (omega arith))
-
-returns-2 : tie.Need-returns-2
-returns-2 c = refused-one _ _ _ _ (inr (omega arith))
-
 returns-3 : tie.Need-returns-3
 returns-3 c = refused-three _ _ _ _ (omega arith) (omega arith) (inr (omega arith))
 
@@ -33,8 +27,6 @@ returns-5 c =
     compared (a .r) (a .place .0) (a .matrices .now) (a .words .now) (omega arith) (omega arith) (omega arith) (omega arith) (c .compare-at .result) (c .compare-at .ensures)
 
 pub compare-spec : {M : Type 1} → statement M
-compare-spec =
-    tie.close
-    (tie.spec
-    returns returns-2 returns-3 (λ c. search needs) mul-from add-if4 returns-4 (λ c. search needs) (λ c. search needs) (λ c. search needs)
-    (λ c. search needs) (λ c κs. search needs) returns-5)
+compare-spec = tie.close (tie.spec
+    (λ c. refused-one _ _ _ _ (inl (omega arith))) (λ c. refused-one _ _ _ _ (inr (omega arith))) returns-3 (λ c. search needs) mul-from add-if4
+    returns-4 (λ c. search needs) (λ c. search needs) (λ c. search needs) (λ c. search needs) (λ c κs. search needs) returns-5)

@@ -58,9 +58,7 @@ returns-2 c = let g = rw (c .if1 .left) at (c .before .fits2 .ensures) in (
 )
 
 pub keep-spec : {M : Type 1} → statement M
-keep-spec =
-    tie.close
-    (tie.spec
-    (λ c κs. search needs) (λ c. search needs) slice-write-codes (λ c. search needs) slice-write-lefts (λ c. search needs)
-    slice-write-rights slice-write-sizes mul-put put-requires (λ c. search needs) (λ c. search needs) (λ c. search needs)
-    (λ c. search needs) (λ c. search needs) returns returns-2)
+keep-spec = tie.close (tie.spec
+    (λ c κs. search needs) (λ c. search needs) slice-write-codes (λ c. search needs) slice-write-lefts (λ c. search needs) slice-write-rights
+    slice-write-sizes mul-put put-requires (λ c. search needs) (λ c. search needs) (λ c. search needs) (λ c. search needs) (λ c. search needs) returns
+    returns-2)

@@ -11,7 +11,5 @@ mul-if4 : tie.Need-mul-if4
 mul-if4 c = let a = c .before .before .before .before .before .args in omega (arith, at-most (a .kept) mostRoom (a .r) mostSessions (omega arith) (omega arith))
 
 pub known-at-spec : {M : Type 1} → statement M
-known-at-spec =
-    tie.close
-    (tie.spec
+known-at-spec = tie.close (tie.spec
     (λ c. search needs) (λ c. search needs) (λ c. search needs) mul-if4 (λ c. search needs) (λ c κs. search needs) (λ c. search needs))

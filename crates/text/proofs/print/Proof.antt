@@ -63,8 +63,6 @@ returns-4 c = let a = c .before .before .before .before .before .before .before 
     (names-broken (a .names .now) (c .before .before .before .judge .result) (c .before .before .before .judge .ensures) (c .before .judged2 .given .1))
 
 pub print-spec : {M : Type 1} → statement M
-print-spec =
-    tie.close
-    (tie.spec
-    (λ c κs. search needs) (λ c. search needs) (λ c κs. search needs) returns (λ c κs. search needs) length-requires returns-2
-    write-requires (λ c. search needs) (λ c. search needs) returns-3 returns-4)
+print-spec = tie.close (tie.spec
+    (λ c κs. search needs) (λ c. search needs) (λ c κs. search needs) returns (λ c κs. search needs) length-requires returns-2 write-requires
+    (λ c. search needs) (λ c. search needs) returns-3 returns-4)

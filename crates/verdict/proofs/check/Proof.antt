@@ -70,7 +70,5 @@ returns-3 c =
     (c .verdict-on .result) (c .verdict-on .ensures)
 
 pub check-spec : {M : Type 1} → statement M
-check-spec =
-    tie.close
-    (tie.spec
+check-spec = tie.close (tie.spec
     (λ c κs. search needs) returns (λ c κs. search needs) returns-2 first-disagreeing-requires verdict-on-requires returns-3)

@@ -109,8 +109,6 @@ returns-4 c =
     }
 
 pub sequence-of-spec : {M : Type 1} → statement M
-sequence-of-spec =
-    tie.close
-    (tie.spec
+sequence-of-spec = tie.close (tie.spec
     (λ c κs. search needs) returns (λ c κs. search needs) returns-2 (λ c. search needs) returns-3 shared-slice-read-length cast-length
     (λ c κs. search needs) mul-eval eval-requires returns-4)

@@ -7,16 +7,8 @@ use borrow.Author.Needs.{needs}
 use Rattle.whole_input.proofs.read.Statement.{statement}
 use Rattle.whole_input.proofs.read.Tie as tie
 
-abbrev Inv-loop : tie.InvT-loop
-Inv-loop file₀ at₀ file at = (length file ≡ length file₀) × (at ≤ length file)
-
-abbrev μ-loop : tie.MeasureT-loop
-μ-loop file₀ at₀ file at = length file - at
-
 pub read-spec : {M : Type 1} → statement M
-read-spec =
-    tie.close
-    (tie.spec
-    Inv-loop μ-loop (λ c. search needs) (λ c. search needs) (λ c. search needs) (λ c. search needs) (λ c κs. search needs)
-    (λ c. search needs) (λ c. search needs) (λ c κs. search needs) (λ c. search needs) (λ c. search needs) (λ c. search needs)
-    (λ c. search needs) (λ c. search needs) (λ c. search needs) (λ c. search needs))
+read-spec = tie.close (tie.spec
+    (λ file₀ at₀ file at. (length file ≡ length file₀) × (at ≤ length file)) (λ file₀ at₀ file at. length file - at) (λ c. search needs)
+    (λ c. search needs) (λ c. search needs) (λ c. search needs) (λ c κs. search needs) (λ c. search needs) (λ c. search needs) (λ c κs. search needs)
+    (λ c. search needs) (λ c. search needs) (λ c. search needs) (λ c. search needs) (λ c. search needs) (λ c. search needs) (λ c. search needs))

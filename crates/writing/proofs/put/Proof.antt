@@ -14,9 +14,6 @@ Inv-loop text₀ at bytes i₀ p₀ text i p = Written text₀ at bytes text i p
 abbrev μ-loop : tie.MeasureT-loop
 μ-loop text₀ at bytes i₀ p₀ text i p = length bytes - i
 
-loop-holds : tie.Need-loop-holds Inv-loop μ-loop
-loop-holds c = none-written _ _ _
-
 same-length : tie.Need-same-length Inv-loop μ-loop
 same-length c = let l = c .before .before in let a = l .before .args in same-room (a .text .now) (a .at) (a .bytes .now) (l .loop .inv)
 
@@ -39,8 +36,6 @@ returns-2 : tie.Need-returns-2 Inv-loop μ-loop
 returns-2 c = let l = c .before in let a = l .before .args in all-written (a .text .now) (a .at) (a .bytes .now) (l .loop .inv) (c .loop-test .left)
 
 pub put-spec : {M : Type 1} → statement M
-put-spec =
-    tie.close
-    (tie.spec
-    Inv-loop μ-loop loop-holds same-length returns (λ c. search needs) (λ c. search needs) add-p (λ c. search needs) (λ c. search needs)
-    loop-again same-length-2 returns-2)
+put-spec = tie.close (tie.spec
+    Inv-loop μ-loop (λ c. none-written _ _ _) same-length returns (λ c. search needs) (λ c. search needs) add-p (λ c. search needs)
+    (λ c. search needs) loop-again same-length-2 returns-2)

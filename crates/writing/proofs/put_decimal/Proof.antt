@@ -24,7 +24,5 @@ returns c =
     (written-front (decimal (a .x)) (few-digits 20 (a .x)) (d .ensures) .1) (c .before .before .put .ensures)
 
 pub put-decimal-spec : {M : Type 1} → statement M
-put-decimal-spec =
-    tie.close
-    (tie.spec
+put-decimal-spec = tie.close (tie.spec
     (λ c. search needs) (λ c κs. search needs) (λ c. search needs) slice-aggregate-put (λ c κs. search needs) (λ c. search needs) returns)

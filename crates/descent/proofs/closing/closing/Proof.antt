@@ -38,8 +38,6 @@ returns-4 c =
     closing-op _ (s .args .at) (s .pre) (c .before .o3 .given .1) (a .operator .ensures)
 
 pub closing-spec : {M : Type 1} → statement M
-closing-spec =
-    tie.close
-    (tie.spec
-    (λ c κs. search needs) (λ c. search needs) (λ c κs. search needs) add-t10 returns (λ c. search needs) (λ c. search needs) returns-2
-    returns-3 returns-4)
+closing-spec = tie.close (tie.spec
+    (λ c κs. search needs) (λ c. search needs) (λ c κs. search needs) add-t10 returns (λ c. search needs) (λ c. search needs) returns-2 returns-3
+    returns-4)

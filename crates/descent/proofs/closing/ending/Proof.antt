@@ -30,7 +30,5 @@ returns-4 c =
     ending-op _ (s .args .at) (s .pre) (c .before .o3 .given .1) (a .operator .ensures)
 
 pub ending-spec : {M : Type 1} → statement M
-ending-spec =
-    tie.close
-    (tie.spec
+ending-spec = tie.close (tie.spec
     (λ c κs. search needs) (λ c. search needs) returns (λ c. search needs) (λ c. search needs) returns-2 returns-3 returns-4)

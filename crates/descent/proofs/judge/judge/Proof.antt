@@ -16,7 +16,5 @@ returns c =
     names-bad (a .before .before .before .before .args .names .now) (c .before .judged .given .1) (a .judge .ensures)
 
 pub judge-spec : {M : Type 1} → statement M
-judge-spec =
-    tie.close
-    (tie.spec
+judge-spec = tie.close (tie.spec
     (λ c κs. search needs) (λ c. search needs) (λ c. search needs) judge-text-requires returns (λ c. search needs) (λ c. search needs))

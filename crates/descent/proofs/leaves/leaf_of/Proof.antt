@@ -9,7 +9,5 @@ returns : tie.Need-returns
 returns c = let a = c .before .before .before .before .args in leaf-cut (a .names .now) (a .text .now) (a .start) (a .n) (c .word-leaf .ensures)
 
 pub leaf-of-spec : {M : Type 1} → statement M
-leaf-of-spec =
-    tie.close
-    (tie.spec
+leaf-of-spec = tie.close (tie.spec
     (λ c. search needs) (λ c. search needs) (λ c. search needs) (λ c. search needs) (λ c κs. search needs) returns)

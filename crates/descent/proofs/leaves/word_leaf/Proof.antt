@@ -34,8 +34,6 @@ returns-4 c =
     (sym (second .before .same2 .ensures) ∙ second .if2 .left) (c .before .before .find .ensures) (c .enum-told .given .1)
 
 pub word-leaf-spec : {M : Type 1} → statement M
-word-leaf-spec =
-    tie.close
-    (tie.spec
-    (λ c. search needs) (λ c κs. search needs) returns (λ c. search needs) (λ c κs. search needs) returns-2 (λ c κs. search needs)
-    (λ c. search needs) (λ c. search needs) returns-3 returns-4)
+word-leaf-spec = tie.close (tie.spec
+    (λ c. search needs) (λ c κs. search needs) returns (λ c. search needs) (λ c κs. search needs) returns-2 (λ c κs. search needs) (λ c. search needs)
+    (λ c. search needs) returns-3 returns-4)

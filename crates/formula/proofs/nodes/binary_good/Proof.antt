@@ -19,9 +19,6 @@ returns-3 c =
     binarySize (c .before .before .before .before .before .before .before .before .before .before .before .before .pre .1)
     (λ e. c .if3 .taken (omega (arith, c .before .before .before .size-at .ensures .0, c .before .before .size-at2 .ensures .0)))
 
-returns-4 : tie.Need-returns-4
-returns-4 c = tooLarge (c .if4 .taken)
-
 returns-5 : tie.Need-returns-5
 returns-5 c =
     let op = c .before .before .before .before .before .before .before .before .before .before .before .before .before .pre .1 in
@@ -29,8 +26,6 @@ returns-5 c =
     (c .if4 .left)
 
 pub binary-good-spec : {M : Type 1} → statement M
-binary-good-spec =
-    tie.close
-    (tie.spec
-    (λ c. search needs) returns (λ c. search needs) returns-2 (λ c κs. search needs) (λ c κs. search needs) (λ c. search needs)
-    (λ c. search needs) (λ c. search needs) returns-3 returns-4 returns-5)
+binary-good-spec = tie.close (tie.spec
+    (λ c. search needs) returns (λ c. search needs) returns-2 (λ c κs. search needs) (λ c κs. search needs) (λ c. search needs) (λ c. search needs)
+    (λ c. search needs) returns-3 (λ c. tooLarge (c .if4 .taken)) returns-5)

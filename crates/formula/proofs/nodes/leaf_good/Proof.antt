@@ -37,7 +37,5 @@ returns-8 : tie.Need-returns-8
 returns-8 c = constant-fits _ _ _ _ (omega arith) (omega arith) (c .if7 .left) (c .before .before .before .before .before .before .if3 .left) (c .before .before .before .before .if4 .left)
 
 pub leaf-good-spec : {M : Type 1} → statement M
-leaf-good-spec =
-    tie.close
-    (tie.spec
+leaf-good-spec = tie.close (tie.spec
     returns returns-2 returns-3 returns-4 (λ c. search needs) returns-5 returns-6 returns-7 returns-8)

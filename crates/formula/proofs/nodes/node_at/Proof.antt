@@ -17,8 +17,6 @@ returns-2 c = let a = c .before .before .before .before .before .before .before 
     (omega (arith, c .before .before .before .before .before .count .ensures, c .before .before .before .before .if1 .left)))
 
 pub node-at-spec : {M : Type 1} → statement M
-node-at-spec =
-    tie.close
-    (tie.spec
+node-at-spec = tie.close (tie.spec
     (λ c κs. search needs) returns (λ c. search needs) (λ c. search needs) (λ c. search needs) (λ c. search needs) (λ c. search needs)
     (λ c. search needs) returns-2)

@@ -21,8 +21,6 @@ leaf-good-requires c κs = let f = c .before .before .operator-of in (
 )
 
 pub node-good-spec : {M : Type 1} → statement M
-node-good-spec =
-    tie.close
-    (tie.spec
-    (λ c κs. search needs) (λ c. search needs) unary-good-requires (λ c. search needs) binary-good-requires (λ c. search needs)
-    leaf-good-requires (λ c. search needs) (λ c. search needs) (λ c. search needs))
+node-good-spec = tie.close (tie.spec
+    (λ c κs. search needs) (λ c. search needs) unary-good-requires (λ c. search needs) binary-good-requires (λ c. search needs) leaf-good-requires
+    (λ c. search needs) (λ c. search needs) (λ c. search needs))

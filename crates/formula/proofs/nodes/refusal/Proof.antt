@@ -31,7 +31,5 @@ returns-4 c =
     (c .if2 .left)
 
 pub refusal-spec : {M : Type 1} → statement M
-refusal-spec =
-    tie.close
-    (tie.spec
+refusal-spec = tie.close (tie.spec
     (λ c κs. search needs) returns (λ c κs. search needs) (λ c κs. search needs) returns-2 returns-3 returns-4)

@@ -18,16 +18,12 @@ returns-2 c = rightUnused (not-both _ (c .before .before .before .before .before
 returns-3 : tie.Need-returns-3
 returns-3 c = unarySize (c .before .before .before .before .before .before .before .before .before .before .before .pre .1) (λ e. c .if3 .taken (omega (arith, c .before .before .size-at .ensures .0)))
 
-returns-4 : tie.Need-returns-4
-returns-4 c = tooLarge (c .if4 .taken)
-
 returns-5 : tie.Need-returns-5
 returns-5 c =
     let op = c .before .before .before .before .before .before .before .before .before .before .before .before .pre .1 in
     unary (op .0) (sym (op .1)) (omega arith) (c .before .before .before .before .if2 .left) (omega (arith, c .before .before .before .size-at .ensures .0)) (c .if4 .left)
 
 pub unary-good-spec : {M : Type 1} → statement M
-unary-good-spec =
-    tie.close
-    (tie.spec
-    (λ c. search needs) returns returns-2 (λ c κs. search needs) (λ c. search needs) (λ c. search needs) returns-3 returns-4 returns-5)
+unary-good-spec = tie.close (tie.spec
+    (λ c. search needs) returns returns-2 (λ c κs. search needs) (λ c. search needs) (λ c. search needs) returns-3 (λ c. tooLarge (c .if4 .taken))
+    returns-5)

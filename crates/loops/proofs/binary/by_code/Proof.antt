@@ -38,9 +38,6 @@ implies-rows-requires c κs = (record { there = omega arith }, record { there = 
 equiv-rows-requires : tie.Need-equiv-rows-requires
 equiv-rows-requires c κs = (record { there = omega arith }, record { there = omega arith }, record { there = omega arith }, record { there = omega arith })
 
-same-length : tie.Need-same-length
-same-length c = c .before .before .or-rows .ensures .long
-
 returns-5 : tie.Need-returns-5
 returns-5 c =
     let e = sym (c .before .before .before .before .match .keys1) in
@@ -48,9 +45,6 @@ returns-5 c =
       did = λ a. filled-as (λ j w l p. (Binary.or, e, p)) (c .before .before .or-rows .ensures);
       stays = λ n. absurd (n record { masks-there = omega arith; x-there = omega arith; y-there = omega arith; rows-there = omega arith; operator = (Binary.or, e) });
     }
-
-same-length-2 : tie.Need-same-length-2
-same-length-2 c = c .before .before .and-rows .ensures .long
 
 returns-6 : tie.Need-returns-6
 returns-6 c =
@@ -60,9 +54,6 @@ returns-6 c =
       stays = λ n. absurd (n record { masks-there = omega arith; x-there = omega arith; y-there = omega arith; rows-there = omega arith; operator = (Binary.and, e) });
     }
 
-same-length-3 : tie.Need-same-length-3
-same-length-3 c = c .before .before .until-rows .ensures .long
-
 returns-7 : tie.Need-returns-7
 returns-7 c =
     let e = sym (c .before .before .before .before .match .keys3) in
@@ -70,9 +61,6 @@ returns-7 c =
       did = λ a. filled-as (λ j w l p. (Binary.until, e, p)) (c .before .before .until-rows .ensures);
       stays = λ n. absurd (n record { masks-there = omega arith; x-there = omega arith; y-there = omega arith; rows-there = omega arith; operator = (Binary.until, e) });
     }
-
-same-length-4 : tie.Need-same-length-4
-same-length-4 c = c .before .before .release-rows .ensures .long
 
 returns-8 : tie.Need-returns-8
 returns-8 c =
@@ -82,9 +70,6 @@ returns-8 c =
       stays = λ n. absurd (n record { masks-there = omega arith; x-there = omega arith; y-there = omega arith; rows-there = omega arith; operator = (Binary.release, e) });
     }
 
-same-length-5 : tie.Need-same-length-5
-same-length-5 c = c .before .before .implies-rows .ensures .long
-
 returns-9 : tie.Need-returns-9
 returns-9 c =
     let e = sym (c .before .before .before .before .match .keys5) in
@@ -92,9 +77,6 @@ returns-9 c =
       did = λ a. filled-as (λ j w l p. (Binary.implies, e, p)) (c .before .before .implies-rows .ensures);
       stays = λ n. absurd (n record { masks-there = omega arith; x-there = omega arith; y-there = omega arith; rows-there = omega arith; operator = (Binary.implies, e) });
     }
-
-same-length-6 : tie.Need-same-length-6
-same-length-6 c = c .before .before .equiv-rows .ensures .long
 
 returns-10 : tie.Need-returns-10
 returns-10 c =
@@ -108,9 +90,8 @@ returns-11 : tie.Need-returns-11
 returns-11 c = record { did = λ a. absurd (not-binary _ (λ h. omega arith) (a .operator .0) (a .operator .1)); stays = λ n. refl }
 
 pub by-code-spec : {M : Type 1} → statement M
-by-code-spec =
-    tie.close
-    (tie.spec
+by-code-spec = tie.close (tie.spec
     returns returns-2 returns-3 returns-4 or-rows-requires and-rows-requires until-rows-requires release-rows-requires implies-rows-requires
-    equiv-rows-requires same-length returns-5 same-length-2 returns-6 same-length-3 returns-7 same-length-4 returns-8 same-length-5
-    returns-9 same-length-6 returns-10 returns-11)
+    equiv-rows-requires (λ c. c .before .before .or-rows .ensures .long) returns-5 (λ c. c .before .before .and-rows .ensures .long) returns-6
+    (λ c. c .before .before .until-rows .ensures .long) returns-7 (λ c. c .before .before .release-rows .ensures .long) returns-8
+    (λ c. c .before .before .implies-rows .ensures .long) returns-9 (λ c. c .before .before .equiv-rows .ensures .long) returns-10 returns-11)

@@ -32,9 +32,6 @@ finally-rows-requires c κs = (record { there = omega arith }, record { there = 
 globally-rows-requires : tie.Need-globally-rows-requires
 globally-rows-requires c κs = (record { there = omega arith }, record { there = omega arith }, record { there = omega arith })
 
-same-length : tie.Need-same-length
-same-length c = c .before .before .not-rows .ensures .long
-
 returns-4 : tie.Need-returns-4
 returns-4 c =
     let e = sym (c .before .before .before .before .match .keys1) in
@@ -42,9 +39,6 @@ returns-4 c =
       did = λ a. filled-as (λ j w l p. (Unary.not, e, p)) (c .before .before .not-rows .ensures);
       stays = λ n. absurd (n record { masks-there = omega arith; x-there = omega arith; rows-there = omega arith; operator = (Unary.not, e) });
     }
-
-same-length-2 : tie.Need-same-length-2
-same-length-2 c = c .before .before .weak-next-rows .ensures .long
 
 returns-5 : tie.Need-returns-5
 returns-5 c =
@@ -54,9 +48,6 @@ returns-5 c =
       stays = λ n. absurd (n record { masks-there = omega arith; x-there = omega arith; rows-there = omega arith; operator = (Unary.weakNext, e) });
     }
 
-same-length-3 : tie.Need-same-length-3
-same-length-3 c = c .before .before .strong-next-rows .ensures .long
-
 returns-6 : tie.Need-returns-6
 returns-6 c =
     let e = sym (c .before .before .before .before .match .keys3) in
@@ -65,9 +56,6 @@ returns-6 c =
       stays = λ n. absurd (n record { masks-there = omega arith; x-there = omega arith; rows-there = omega arith; operator = (Unary.strongNext, e) });
     }
 
-same-length-4 : tie.Need-same-length-4
-same-length-4 c = c .before .before .finally-rows .ensures .long
-
 returns-7 : tie.Need-returns-7
 returns-7 c =
     let e = sym (c .before .before .before .before .match .keys4) in
@@ -75,9 +63,6 @@ returns-7 c =
       did = λ a. filled-as (λ j w l p. (Unary.finally, e, p)) (c .before .before .finally-rows .ensures);
       stays = λ n. absurd (n record { masks-there = omega arith; x-there = omega arith; rows-there = omega arith; operator = (Unary.finally, e) });
     }
-
-same-length-5 : tie.Need-same-length-5
-same-length-5 c = c .before .before .globally-rows .ensures .long
 
 returns-8 : tie.Need-returns-8
 returns-8 c =
@@ -91,9 +76,8 @@ returns-9 : tie.Need-returns-9
 returns-9 c = record { did = λ a. absurd (not-unary _ (omega arith) (a .operator .0) (a .operator .1)); stays = λ n. refl }
 
 pub by-code-spec : {M : Type 1} → statement M
-by-code-spec =
-    tie.close
-    (tie.spec
-    returns returns-2 returns-3 not-rows-requires weak-next-rows-requires strong-next-rows-requires finally-rows-requires
-    globally-rows-requires same-length returns-4 same-length-2 returns-5 same-length-3 returns-6 same-length-4 returns-7 same-length-5
-    returns-8 returns-9)
+by-code-spec = tie.close (tie.spec
+    returns returns-2 returns-3 not-rows-requires weak-next-rows-requires strong-next-rows-requires finally-rows-requires globally-rows-requires
+    (λ c. c .before .before .not-rows .ensures .long) returns-4 (λ c. c .before .before .weak-next-rows .ensures .long) returns-5
+    (λ c. c .before .before .strong-next-rows .ensures .long) returns-6 (λ c. c .before .before .finally-rows .ensures .long) returns-7
+    (λ c. c .before .before .globally-rows .ensures .long) returns-8 returns-9)

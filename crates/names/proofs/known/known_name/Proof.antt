@@ -26,9 +26,6 @@ Inv-loop file at n count end j₀ p₀ j p = Known file (take n (drop at file)) 
 abbrev μ-loop : tie.MeasureT-loop
 μ-loop file at n count end j₀ p₀ j p = count - j
 
-loop-holds : tie.Need-loop-holds Inv-loop μ-loop
-loop-holds c = known-start _ _ _
-
 add-from : tie.Need-add-from Inv-loop μ-loop
 add-from c = omega (arith, known-room _ _ _ (c .before .loop .inv) (c .loop-test .taken))
 
@@ -62,9 +59,7 @@ returns-2 : tie.Need-returns-2 Inv-loop μ-loop
 returns-2 c = known-end _ _ _ (c .before .loop .inv) (c .loop-test .left)
 
 pub known-name-spec : {M : Type 1} → statement M
-known-name-spec =
-    tie.close
-    (tie.spec
-    Inv-loop μ-loop (λ c. search needs) loop-holds add-from shared-slice-read-to cast-to add-to (λ c. search needs) (λ c. search needs)
-    (λ c. search needs) (λ c. search needs) (λ c. search needs) part-same-end-2 (λ c κs. search needs) returns (λ c. search needs)
-    (λ c. search needs) loop-again returns-2)
+known-name-spec = tie.close (tie.spec
+    Inv-loop μ-loop (λ c. search needs) (λ c. known-start _ _ _) add-from shared-slice-read-to cast-to add-to (λ c. search needs) (λ c. search needs)
+    (λ c. search needs) (λ c. search needs) (λ c. search needs) part-same-end-2 (λ c κs. search needs) returns (λ c. search needs) (λ c. search needs)
+    loop-again returns-2)

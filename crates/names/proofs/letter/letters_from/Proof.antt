@@ -23,9 +23,6 @@ Inv-loop file at n i₀ p₀ i p = Loop letter file at n i p
 abbrev μ-loop : tie.MeasureT-loop
 μ-loop file at n i₀ p₀ i p = n - i
 
-loop-holds : tie.Need-loop-holds Inv-loop μ-loop
-loop-holds c = start letter _ _ _
-
 returns : tie.Need-returns Inv-loop μ-loop
 returns c =
     let l = c .before .before .before .before .before .loop .inv in
@@ -40,8 +37,6 @@ returns-2 : tie.Need-returns-2 Inv-loop μ-loop
 returns-2 c = done letter _ (c .before .loop .inv) (c .loop-test .left)
 
 pub letters-from-spec : {M : Type 1} → statement M
-letters-from-spec =
-    tie.close
-    (tie.spec
-    Inv-loop μ-loop loop-holds (λ c κs. search needs) (λ c. search needs) (λ c. search needs) returns (λ c. search needs)
+letters-from-spec = tie.close (tie.spec
+    Inv-loop μ-loop (λ c. start letter _ _ _) (λ c κs. search needs) (λ c. search needs) (λ c. search needs) returns (λ c. search needs)
     (λ c. search needs) loop-again returns-2)

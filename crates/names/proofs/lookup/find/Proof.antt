@@ -19,12 +19,6 @@ abbrev μ-loop : tie.MeasureT-loop
 returns : tie.Need-returns Inv-loop μ-loop
 returns c = let a = c .before .before .before .args in nothing-there (a .section .now) (a .word .now) (c .if1 .taken)
 
-cast-count : tie.Need-cast-count Inv-loop μ-loop
-cast-count c = omega (arith, c .shared-slice-known3 .given 0)
-
-loop-holds : tie.Need-loop-holds Inv-loop μ-loop
-loop-holds c = missed-start _ _ _
-
 sub-same : tie.Need-sub-same Inv-loop μ-loop
 sub-same c =
     let at-loop = c .before .before in
@@ -69,8 +63,6 @@ returns-3 c =
     missed-end (a .section .now) (a .word .now) _ (at-loop .loop .inv) (c .loop-test .left)
 
 pub find-spec : {M : Type 1} → statement M
-find-spec =
-    tie.close
-    (tie.spec
-    Inv-loop μ-loop returns (λ c. search needs) cast-count loop-holds (λ c κs. search needs) sub-same part-same-start part-same-end
-    (λ c κs. search needs) returns-2 add-j (λ c. search needs) loop-again returns-3)
+find-spec = tie.close (tie.spec
+    Inv-loop μ-loop returns (λ c. search needs) (λ c. omega (arith, c .shared-slice-known3 .given 0)) (λ c. missed-start _ _ _) (λ c κs. search needs)
+    sub-same part-same-start part-same-end (λ c κs. search needs) returns-2 add-j (λ c. search needs) loop-again returns-3)

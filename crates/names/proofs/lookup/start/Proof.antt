@@ -34,7 +34,5 @@ returns-2 c =
     at-loop .loop .inv .1 ∙ ap (λ (k : ℕ). min (length s) (walkEnd s k 1)) (omega arith)
 
 pub start-spec : {M : Type 1} → statement M
-start-spec =
-    tie.close
-    (tie.spec
+start-spec = tie.close (tie.spec
     Inv-loop μ-loop returns loop-holds (λ c κs. search needs) (λ c. search needs) (λ c. search needs) loop-again returns-2)

@@ -27,8 +27,5 @@ returns-2 c =
     c .known-name .ensures ∙ sym (or-on _ (cut (a .file .now) (a .at) (a .n) (sym (c .before .before .is-reserved .ensures) ∙ c .before .if1 .left)))
 
 pub taken-name-spec : {M : Type 1} → statement M
-taken-name-spec =
-    tie.close
-    (tie.spec
-    (λ c. search needs) (λ c. search needs) (λ c. search needs) (λ c. search needs) (λ c κs. search needs) returns (λ c κs. search needs)
-    returns-2)
+taken-name-spec = tie.close (tie.spec
+    (λ c. search needs) (λ c. search needs) (λ c. search needs) (λ c. search needs) (λ c κs. search needs) returns (λ c κs. search needs) returns-2)

@@ -40,7 +40,5 @@ returns-2 c = let a = c .before .before .before .before .before .before .before 
     )
 
 pub put-listed-spec : {M : Type 1} → statement M
-put-listed-spec =
-    tie.close
-    (tie.spec
+put-listed-spec = tie.close (tie.spec
     (λ c. search needs) returns (λ c κs. search needs) summary-at-requires (λ c κs. search needs) (λ c. search needs) returns-2)

@@ -53,9 +53,6 @@ add-p c =
       c .before .before .before .before .loop-test .taken,
     )
 
-loop-less : tie.Need-loop-less Inv-loop μ-loop
-loop-less c = omega arith
-
 loop-again : tie.Need-loop-again Inv-loop μ-loop
 loop-again c =
     let a = c .before .before .before .before .before .before .before .before .before .before .before .before .before .before .before .before .args in
@@ -77,7 +74,5 @@ returns c = let a = c .before .before .before .before .before .before .before .b
     (a .on .0) z (l .inv .1)
 
 pub put-places-spec : {M : Type 1} → statement M
-put-places-spec =
-    tie.close
-    (tie.spec
-    Inv-loop μ-loop (λ c κs. search needs) cast-n loop-holds put-listed-requires add-p loop-less loop-again same-length returns)
+put-places-spec = tie.close (tie.spec
+    Inv-loop μ-loop (λ c κs. search needs) cast-n loop-holds put-listed-requires add-p (λ c. omega arith) loop-again same-length returns)

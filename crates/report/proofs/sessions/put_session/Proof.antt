@@ -27,12 +27,6 @@ put-places-requires c κs = let a = c .before .before .before .before .before .b
 summary-at-requires : tie.Need-summary-at-requires
 summary-at-requires c κs = let p = c .before .before .before .before .before .before .before .before .before .before .before .before .before .pre in (p .0, p .1)
 
-put-root-requires : tie.Need-put-root-requires
-put-root-requires c κs = search needs
-
-same-length : tie.Need-same-length
-same-length c = search needs
-
 returns : tie.Need-returns
 returns c =
     let a = c .before .before .before .before .before .before .before .before .before .before .before .before .before .before .before .before .before .before .args in
@@ -43,4 +37,4 @@ returns c =
 pub put-session-spec : {M : Type 1} → statement M
 put-session-spec =
     tie.close
-    (tie.spec put-places-requires summary-at-requires put-root-requires same-length returns)
+    (tie.spec put-places-requires summary-at-requires (λ c κs. search needs) (λ c. search needs) returns)

@@ -49,9 +49,6 @@ add-j c =
       c .before .before .before .before .loop-test .taken,
     )
 
-loop-less : tie.Need-loop-less Inv-loop μ-loop
-loop-less c = omega arith
-
 loop-again : tie.Need-loop-again Inv-loop μ-loop
 loop-again c =
     let a = c .before .before .before .before .before .before .before .before .before .before .before .before .before .before .before .args in
@@ -71,7 +68,5 @@ returns c = let a = c .before .before .before .before .before .before .before .b
     all-sessions (recording (a .r) (a .m) (a .marks .now) (a .lengths .now) (a .words .now)) (nodes (a .codes .now) (a .lefts .now) (a .rights .now) (a .sizes .now)) (nodeOf (a .root)) z (l .inv .1)
 
 pub put-sessions-spec : {M : Type 1} → statement M
-put-sessions-spec =
-    tie.close
-    (tie.spec
-    Inv-loop μ-loop cast-n loop-holds put-session-requires add-j loop-less loop-again same-length returns)
+put-sessions-spec = tie.close (tie.spec
+    Inv-loop μ-loop cast-n loop-holds put-session-requires add-j (λ c. omega arith) loop-again same-length returns)

@@ -29,8 +29,6 @@ returns-3 c =
     (c .before .before .before .before .before .before .before .before .before .before .before .pre .0)
 
 pub summary-at-spec : {M : Type 1} → statement M
-summary-at-spec =
-    tie.close
-    (tie.spec
+summary-at-spec = tie.close (tie.spec
     (λ c κs. search needs) (λ c. search needs) (λ c κs. search needs) (λ c. search needs) (λ c κs. search needs) (λ c. search needs)
     (λ c κs. search needs) returns returns-2 returns-3)

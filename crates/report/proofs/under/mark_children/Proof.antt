@@ -31,8 +31,6 @@ returns-3 c = let a = c .before .before .before .before .args in
     (λ u. off-binary _ (f .result) (f .ensures) (λ g. let z : _≡_ {A = ℕ} 0 1 = cc (c .enum-told3 .given .1) in omega arith) (u .0) (u .1))
 
 pub mark-children-spec : {M : Type 1} → statement M
-mark-children-spec =
-    tie.close
-    (tie.spec
+mark-children-spec = tie.close (tie.spec
     (λ c κs. search needs) (λ c. search needs) (λ c κs. search needs) (λ c. search needs) (λ c κs. search needs) (λ c κs. search needs)
     (λ c. search needs) (λ c. search needs) returns (λ c. search needs) returns-2 returns-3)

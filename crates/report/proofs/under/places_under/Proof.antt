@@ -34,12 +34,6 @@ loop-holds c =
           (c .before .before .mark-children .ensures) e,
     )
 
-sub-q : tie.Need-sub-q Inv-loop μ-loop
-sub-q c = omega arith
-
-slice-aggregate-mark-below : tie.Need-slice-aggregate-mark-below Inv-loop μ-loop
-slice-aggregate-mark-below c = omega (arith, c .before .before .loop .inv .1)
-
 mark-below-requires : tie.Need-mark-below-requires Inv-loop μ-loop
 mark-below-requires c κs =
     let a = c .before .before .before .before .before .before .before .before .before .before .before .args in
@@ -50,9 +44,6 @@ mark-below-requires c κs =
       c .before .before .loop .inv .0,
       c .before .before .loop .inv .1,
     )
-
-loop-less : tie.Need-loop-less Inv-loop μ-loop
-loop-less c = omega arith
 
 loop-again : tie.Need-loop-again Inv-loop μ-loop
 loop-again c =
@@ -79,8 +70,6 @@ returns c =
     (omega (arith, c .loop-test .left)) (l .inv .1) (l .inv .2)
 
 pub places-under-spec : {M : Type 1} → statement M
-places-under-spec =
-    tie.close
-    (tie.spec
-    Inv-loop μ-loop (λ c. search needs) (λ c κs. search needs) (λ c κs. search needs) loop-holds sub-q slice-aggregate-mark-below
-    mark-below-requires loop-less loop-again returns)
+places-under-spec = tie.close (tie.spec
+    Inv-loop μ-loop (λ c. search needs) (λ c κs. search needs) (λ c κs. search needs) loop-holds (λ c. omega arith)
+    (λ c. omega (arith, c .before .before .loop .inv .1)) mark-below-requires (λ c. omega arith) loop-again returns)

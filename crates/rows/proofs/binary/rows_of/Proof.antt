@@ -16,29 +16,11 @@ mul-one c = let a = c .before .before .before .before .args in omega (arith, at-
 add-if1 : tie.Need-add-if1
 add-if1 c = let a = c .before .before .before .before .args in omega (arith, at-most (a .left .0) 65535 (a .r) mostSessions (omega arith) (omega arith))
 
-returns : tie.Need-returns
-returns c = (λ h. omega (arith, h .0), refl)
-
 mul-other : tie.Need-mul-other
 mul-other c = let a = c .before .before .before .before .before .before .args in omega (arith, at-most (a .right .0) 65535 (a .r) mostSessions (omega arith) (omega arith))
 
 add-if2 : tie.Need-add-if2
 add-if2 c = let a = c .before .before .before .before .before .before .args in omega (arith, at-most (a .right .0) 65535 (a .r) mostSessions (omega arith) (omega arith))
-
-returns-2 : tie.Need-returns-2
-returns-2 c = (λ h. omega (arith, h .1), refl)
-
-sub-by-code : tie.Need-sub-by-code
-sub-by-code c = omega arith
-
-part-by-code-start : tie.Need-part-by-code-start
-part-by-code-start c = omega arith
-
-sub-by-code-2 : tie.Need-sub-by-code-2
-sub-by-code-2 c = omega arith
-
-part-by-code-start-2 : tie.Need-part-by-code-start-2
-part-by-code-start-2 c = omega arith
 
 returns-3 : tie.Need-returns-3
 returns-3 c =
@@ -57,9 +39,7 @@ returns-3 c =
     )
 
 pub rows-of-spec : {M : Type 1} → statement M
-rows-of-spec =
-    tie.close
-    (tie.spec
-    (λ c. search needs) mul-one add-if1 returns (λ c. search needs) mul-other add-if2 returns-2 (λ c. search needs) sub-by-code
-    part-by-code-start (λ c. search needs) (λ c. search needs) sub-by-code-2 part-by-code-start-2 (λ c. search needs) (λ c κs. search needs)
-    (λ c. search needs) returns-3)
+rows-of-spec = tie.close (tie.spec
+    (λ c. search needs) mul-one add-if1 (λ c. (λ h. omega (arith, h .0), refl)) (λ c. search needs) mul-other add-if2
+    (λ c. (λ h. omega (arith, h .1), refl)) (λ c. search needs) (λ c. omega arith) (λ c. omega arith) (λ c. search needs) (λ c. search needs)
+    (λ c. omega arith) (λ c. omega arith) (λ c. search needs) (λ c κs. search needs) (λ c. search needs) returns-3)

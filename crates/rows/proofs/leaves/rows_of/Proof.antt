@@ -43,9 +43,6 @@ proposition-rows-requires c κs = (
   c .before .before .before .before .before .before .before .before .before .before .pre .1,
 )
 
-same-length : tie.Need-same-length
-same-length c = c .before .before .proposition-rows .ensures .long
-
 returns-4 : tie.Need-returns-4
 returns-4 c = proposition-told (c .before .before .before .before .before .before .before .before .before .if1 .taken)
     (c .before .before .before .before .before .before .before .before .if2 .left) (c .before .before .before .before .before .before .if3 .left)
@@ -55,17 +52,11 @@ returns-4 c = proposition-told (c .before .before .before .before .before .befor
 false-rows-requires : tie.Need-false-rows-requires
 false-rows-requires c κs = c .before .before .before .before .before .before .pre .1
 
-same-length-2 : tie.Need-same-length-2
-same-length-2 c = c .before .before .false-rows .ensures .long
-
 returns-5 : tie.Need-returns-5
 returns-5 c = false-told (c .before .before .before .before .if5 .taken) (c .before .before .false-rows .ensures)
 
 true-rows-requires : tie.Need-true-rows-requires
 true-rows-requires c κs = (c .before .before .before .before .before .before .before .pre .0, c .before .before .before .before .before .before .before .pre .1)
-
-same-length-3 : tie.Need-same-length-3
-same-length-3 c = c .before .before .true-rows .ensures .long
 
 returns-6 : tie.Need-returns-6
 returns-6 c = true-told (c .before .before .before .before .if6 .taken) (c .before .before .true-rows .ensures)
@@ -78,8 +69,7 @@ returns-7 c = (
 )
 
 pub rows-of-spec : {M : Type 1} → statement M
-rows-of-spec =
-    tie.close
-    (tie.spec
-    returns (λ c. search needs) returns-2 mul-if4 returns-3 (λ c κs. search needs) proposition-rows-requires same-length returns-4
-    false-rows-requires same-length-2 returns-5 true-rows-requires same-length-3 returns-6 returns-7)
+rows-of-spec = tie.close (tie.spec
+    returns (λ c. search needs) returns-2 mul-if4 returns-3 (λ c κs. search needs) proposition-rows-requires
+    (λ c. c .before .before .proposition-rows .ensures .long) returns-4 false-rows-requires (λ c. c .before .before .false-rows .ensures .long)
+    returns-5 true-rows-requires (λ c. c .before .before .true-rows .ensures .long) returns-6 returns-7)

@@ -16,15 +16,6 @@ mul-from c = let a = c .before .before .before .before .args in omega (arith, at
 add-if1 : tie.Need-add-if1
 add-if1 c = let a = c .before .before .before .before .args in omega (arith, at-most (a .left .0) 65535 (a .r) mostSessions (omega arith) (omega arith))
 
-returns : tie.Need-returns
-returns c = (λ h. omega arith, refl)
-
-sub-by-code : tie.Need-sub-by-code
-sub-by-code c = omega arith
-
-part-by-code-start : tie.Need-part-by-code-start
-part-by-code-start c = omega arith
-
 returns-2 : tie.Need-returns-2
 returns-2 c =
     let a = c .before .before .before .before .before .before .before .before .before .before .args in
@@ -40,8 +31,6 @@ returns-2 c =
     )
 
 pub rows-of-spec : {M : Type 1} → statement M
-rows-of-spec =
-    tie.close
-    (tie.spec
-    (λ c. search needs) mul-from add-if1 returns (λ c. search needs) sub-by-code part-by-code-start (λ c. search needs)
+rows-of-spec = tie.close (tie.spec
+    (λ c. search needs) mul-from add-if1 (λ c. (λ h. omega arith, refl)) (λ c. search needs) (λ c. omega arith) (λ c. omega arith) (λ c. search needs)
     (λ c κs. search needs) (λ c. search needs) returns-2)

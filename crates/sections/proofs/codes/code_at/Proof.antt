@@ -43,8 +43,6 @@ returns-4 c =
     (y .before .before .if1 .left) (sym (y .in-group .ensures) ∙ c .if2 .left)
 
 pub code-at-spec : {M : Type 1} → statement M
-code-at-spec =
-    tie.close
-    (tie.spec
-    (λ c. search needs) returns (λ c. search needs) (λ c κs. search needs) (λ c κs. search needs) returns-2 cast-t14 (λ c. search needs)
-    returns-3 returns-4)
+code-at-spec = tie.close (tie.spec
+    (λ c. search needs) returns (λ c. search needs) (λ c κs. search needs) (λ c κs. search needs) returns-2 cast-t14 (λ c. search needs) returns-3
+    returns-4)

@@ -15,9 +15,6 @@ Inv-loop file from count unary i₀ p₀ i p = Codes (groupOf unary) file from c
 abbrev μ-loop : tie.MeasureT-loop
 μ-loop file from count unary i₀ p₀ i p = count - i
 
-loop-holds : tie.Need-loop-holds Inv-loop μ-loop
-loop-holds c = codes-start _ _ _ _ (c .before .pre)
-
 code-at-requires : tie.Need-code-at-requires Inv-loop μ-loop
 code-at-requires c κs = omega (arith, c .before .loop .inv .at, c .before .loop .inv .room)
 
@@ -35,8 +32,6 @@ returns-2 : tie.Need-returns-2 Inv-loop μ-loop
 returns-2 c = done _ _ (c .before .loop .inv .loop) (c .loop-test .left)
 
 pub codes-from-spec : {M : Type 1} → statement M
-codes-from-spec =
-    tie.close
-    (tie.spec
-    Inv-loop μ-loop loop-holds code-at-requires (λ c. search needs) (λ c. search needs) returns (λ c. search needs) (λ c. search needs)
-    loop-again returns-2)
+codes-from-spec = tie.close (tie.spec
+    Inv-loop μ-loop (λ c. codes-start _ _ _ _ (c .before .pre)) code-at-requires (λ c. search needs) (λ c. search needs) returns (λ c. search needs)
+    (λ c. search needs) loop-again returns-2)

@@ -16,7 +16,5 @@ returns-2 : tie.Need-returns-2
 returns-2 c = section-broken _ _ 0 255 _ _ (c .before .before .before .byte-within .ensures) (c .before .c2 .given .1)
 
 pub codes-section-spec : {M : Type 1} → statement M
-codes-section-spec =
-    tie.close
-    (tie.spec
+codes-section-spec = tie.close (tie.spec
     (λ c κs. search needs) (λ c. search needs) codes-from-requires (λ c. search needs) returns returns-2)

@@ -12,9 +12,6 @@ Inv-loop file from count c i₀ i = Among file from count c i
 abbrev μ-loop : tie.MeasureT-loop
 μ-loop file from count c i₀ i = count - i
 
-loop-holds : tie.Need-loop-holds Inv-loop μ-loop
-loop-holds c = among-start _ _ _ _
-
 returns : tie.Need-returns Inv-loop μ-loop
 returns c = among-here _ _ _ _ (c .before .before .before .loop .inv) (c .before .before .loop-test .taken) (c .before .before .before .before .pre) (c .if1 .taken)
 
@@ -25,7 +22,6 @@ returns-2 : tie.Need-returns-2 Inv-loop μ-loop
 returns-2 c = among-end _ _ _ _ (c .before .loop .inv) (c .loop-test .left)
 
 pub seen-code-spec : {M : Type 1} → statement M
-seen-code-spec =
-    tie.close
-    (tie.spec
-    Inv-loop μ-loop loop-holds (λ c. search needs) (λ c. search needs) returns (λ c. search needs) (λ c. search needs) loop-again returns-2)
+seen-code-spec = tie.close (tie.spec
+    Inv-loop μ-loop (λ c. among-start _ _ _ _) (λ c. search needs) (λ c. search needs) returns (λ c. search needs) (λ c. search needs) loop-again
+    returns-2)

@@ -8,15 +8,6 @@ use borrow.Author.Needs.{needs}
 use Rattle.sections.proofs.sessions.is_clear.Statement.{statement}
 use Rattle.sections.proofs.sessions.is_clear.Tie as tie
 
-recorded-requires : tie.Need-recorded-requires
-recorded-requires c κs = search needs
-
-enum-told : tie.Need-enum-told
-enum-told c = search needs
-
-enum-told-2 : tie.Need-enum-told-2
-enum-told-2 c = search needs
-
 returns : tie.Need-returns
 returns c =
     let at-recorded = c .before .before in
@@ -30,4 +21,4 @@ returns-2 c =
     clear-is (s .args .n) (s .args .w) (s .pre) true (λ h. recorded-passed (at-recorded .recorded .ensures) (c .enum-told .given .1), λ w. refl)
 
 pub is-clear-spec : {M : Type 1} → statement M
-is-clear-spec = tie.close (tie.spec recorded-requires enum-told enum-told-2 returns returns-2)
+is-clear-spec = tie.close (tie.spec (λ c κs. search needs) (λ c. search needs) (λ c. search needs) returns returns-2)

@@ -31,8 +31,6 @@ returns-3 : tie.Need-returns-3
 returns-3 c = session-no-mark _ _ _ _ (c .before .before .before .byte-within .ensures) (c .before .mark2 .given .1)
 
 pub session-at-spec : {M : Type 1} → statement M
-session-at-spec =
-    tie.close
-    (tie.spec
-    (λ c κs. search needs) (λ c. search needs) (λ c κs. search needs) (λ c. search needs) words-from-requires (λ c. search needs)
-    (λ c. search needs) returns returns-2 returns-3)
+session-at-spec = tie.close (tie.spec
+    (λ c κs. search needs) (λ c. search needs) (λ c κs. search needs) (λ c. search needs) words-from-requires (λ c. search needs) (λ c. search needs)
+    returns returns-2 returns-3)

@@ -14,9 +14,6 @@ Inv-loop file at m count i₀ p₀ i p = Loop (λ _. session m) file at count i 
 abbrev μ-loop : tie.MeasureT-loop
 μ-loop file at m count i₀ p₀ i p = count - i
 
-loop-holds : tie.Need-loop-holds Inv-loop μ-loop
-loop-holds c = start _ _ _ _
-
 returns : tie.Need-returns Inv-loop μ-loop
 returns c =
     broken _ _ (c .before .before .before .before .before .loop .inv) (c .before .before .before .before .loop-test .taken)
@@ -31,8 +28,6 @@ returns-2 : tie.Need-returns-2 Inv-loop μ-loop
 returns-2 c = done _ _ (c .before .loop .inv) (c .loop-test .left)
 
 pub sessions-from-spec : {M : Type 1} → statement M
-sessions-from-spec =
-    tie.close
-    (tie.spec
-    Inv-loop μ-loop loop-holds (λ c κs. search needs) (λ c. search needs) (λ c. search needs) returns (λ c. search needs)
+sessions-from-spec = tie.close (tie.spec
+    Inv-loop μ-loop (λ c. start _ _ _ _) (λ c κs. search needs) (λ c. search needs) (λ c. search needs) returns (λ c. search needs)
     (λ c. search needs) loop-again returns-2)

@@ -12,7 +12,5 @@ returns-2 : tie.Need-returns-2
 returns-2 c = section-broken _ _ 1 32 _ _ (c .before .before .before .byte-within .ensures) (c .before .c2 .given .1)
 
 pub sessions-section-spec : {M : Type 1} → statement M
-sessions-section-spec =
-    tie.close
-    (tie.spec
+sessions-section-spec = tie.close (tie.spec
     (λ c κs. search needs) (λ c. search needs) (λ c κs. search needs) (λ c. search needs) returns returns-2)

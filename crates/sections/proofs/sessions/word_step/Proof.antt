@@ -32,7 +32,5 @@ returns-3 c =
     simp (le-leb _ _ long, sym (c .before .before .word-at .ensures), sym (c .before .is-clear .ensures) ∙ c .if2 .left)
 
 pub word-step-spec : {M : Type 1} → statement M
-word-step-spec =
-    tie.close
-    (tie.spec
+word-step-spec = tie.close (tie.spec
     (λ c κs. search needs) returns (λ c κs. search needs) (λ c κs. search needs) (λ c. search needs) returns-2 returns-3)

@@ -14,9 +14,6 @@ Inv-loop file at n m i₀ p₀ i p = Loop (λ _. eightBytes n) file at m i p
 abbrev μ-loop : tie.MeasureT-loop
 μ-loop file at n m i₀ p₀ i p = m - i
 
-loop-holds : tie.Need-loop-holds Inv-loop μ-loop
-loop-holds c = start _ _ _ _
-
 returns : tie.Need-returns Inv-loop μ-loop
 returns c =
     broken _ _ (c .before .before .before .before .before .loop .inv) (c .before .before .before .before .loop-test .taken)
@@ -31,8 +28,6 @@ returns-2 : tie.Need-returns-2 Inv-loop μ-loop
 returns-2 c = done _ _ (c .before .loop .inv) (c .loop-test .left)
 
 pub words-from-spec : {M : Type 1} → statement M
-words-from-spec =
-    tie.close
-    (tie.spec
-    Inv-loop μ-loop loop-holds (λ c κs. search needs) (λ c. search needs) (λ c. search needs) returns (λ c. search needs)
+words-from-spec = tie.close (tie.spec
+    Inv-loop μ-loop (λ c. start _ _ _ _) (λ c κs. search needs) (λ c. search needs) (λ c. search needs) returns (λ c. search needs)
     (λ c. search needs) loop-again returns-2)

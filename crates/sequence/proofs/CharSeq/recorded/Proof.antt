@@ -16,9 +16,6 @@ returns : tie.Need-returns
 unfolding Decided
 returns c = (inl (omega arith, refl), lit< tt)
 
-is-clear-requires : tie.Need-is-clear-requires
-is-clear-requires c κs = search needs
-
 returns-2 : tie.Need-returns-2
 returns-2 c = (recorded-passes (c .before .is-clear .ensures .0 (c .if2 .taken)), (refl, refl))
 
@@ -35,4 +32,4 @@ returns-3 c =
     )
 
 pub recorded-spec : {M : Type 1} → statement M
-recorded-spec = tie.close (tie.spec returns is-clear-requires returns-2 returns-3)
+recorded-spec = tie.close (tie.spec returns (λ c κs. search needs) returns-2 returns-3)

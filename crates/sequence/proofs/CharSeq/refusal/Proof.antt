@@ -15,9 +15,6 @@ returns : tie.Need-returns
 unfolding Decided
 returns c = inl (omega arith, refl)
 
-is-well-formed-requires : tie.Need-is-well-formed-requires
-is-well-formed-requires c κs = search needs
-
 returns-2 : tie.Need-returns-2
 unfolding Decided
 returns-2 c =
@@ -35,4 +32,4 @@ returns-3 c =
     )
 
 pub refusal-spec : {M : Type 1} → statement M
-refusal-spec = tie.close (tie.spec returns is-well-formed-requires returns-2 returns-3)
+refusal-spec = tie.close (tie.spec returns (λ c κs. search needs) returns-2 returns-3)

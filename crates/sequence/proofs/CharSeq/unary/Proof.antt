@@ -28,8 +28,6 @@ returns-6 : tie.Need-returns-6
 returns-6 c = nothing (not-unary _ (omega arith)) (c .nowhere .ensures)
 
 pub unary-spec : {M : Type 1} → statement M
-unary-spec =
-    tie.close
-    (tie.spec
-    (λ c κs. search needs) (λ c κs. search needs) (λ c κs. search needs) (λ c κs. search needs) (λ c κs. search needs)
-    (λ c κs. search needs) returns returns-2 returns-3 returns-4 returns-5 returns-6)
+unary-spec = tie.close (tie.spec
+    (λ c κs. search needs) (λ c κs. search needs) (λ c κs. search needs) (λ c κs. search needs) (λ c κs. search needs) (λ c κs. search needs) returns
+    returns-2 returns-3 returns-4 returns-5 returns-6)

@@ -79,12 +79,7 @@ returns c =
           (Clear (a .words .now) (at-loop .loop .at) (a .m) (getD (a .lengths .now) i 0)) (c .if1 .left) (at-session-clear .session-clear .ensures)),
     )
 
-returns-2 : tie.Need-returns-2 Inv-loop μ-loop
-returns-2 c = λ k h. c .before .loop .inv .2 k (omega arith)
-
 pub all-clear-spec : {M : Type 1} → statement M
-all-clear-spec =
-    tie.close
-    (tie.spec
-    Inv-loop μ-loop loop-holds shared-slice-read-session-clear cast-session-clear session-clear-requires add-at add-i (λ c. search needs)
-    loop-again returns returns-2)
+all-clear-spec = tie.close (tie.spec
+    Inv-loop μ-loop loop-holds shared-slice-read-session-clear cast-session-clear session-clear-requires add-at add-i (λ c. search needs) loop-again
+    returns (λ c. λ k h. c .before .loop .inv .2 k (omega arith)))

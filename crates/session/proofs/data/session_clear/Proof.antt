@@ -18,9 +18,6 @@ Inv-loop words from m n p₀ p = (p ≤ m) × ((k : ℕ) → k < p → Wf n (get
 abbrev μ-loop : tie.MeasureT-loop
 μ-loop words from m n p₀ p = m - p
 
-loop-holds : tie.Need-loop-holds Inv-loop μ-loop
-loop-holds c = (omega arith, λ k h. absurd (omega arith))
-
 add-word : tie.Need-add-word Inv-loop μ-loop
 add-word c = omega (arith, c .before .before .before .pre .1, c .before .before .before .good)
 
@@ -49,12 +46,8 @@ loop-again c =
     let a = at-loop .before .before .args in
     (omega arith, below-more (λ k. Wf (a .n) (getD (a .words .now) (a .from + k) 0)) _ (at-loop .loop .inv .1) (recorded-passed (at-recorded .recorded .ensures) (c .enum-told .given .1)))
 
-returns-2 : tie.Need-returns-2 Inv-loop μ-loop
-returns-2 c = λ k h. c .before .loop .inv .1 k (omega arith)
-
 pub session-clear-spec : {M : Type 1} → statement M
-session-clear-spec =
-    tie.close
-    (tie.spec
-    Inv-loop μ-loop loop-holds add-word mul-word shared-slice-read-word (λ c κs. search needs) (λ c. search needs) (λ c. search needs)
-    returns (λ c. search needs) (λ c. search needs) loop-again returns-2)
+session-clear-spec = tie.close (tie.spec
+    Inv-loop μ-loop (λ c. (omega arith, λ k h. absurd (omega arith))) add-word mul-word shared-slice-read-word (λ c κs. search needs)
+    (λ c. search needs) (λ c. search needs) returns (λ c. search needs) (λ c. search needs) loop-again
+    (λ c. λ k h. c .before .loop .inv .1 k (omega arith)))

@@ -131,8 +131,6 @@ returns-11 c =
     (subst (AllUpTo (a .lengths .now) (a .r) 64) (c .if8 .left) (at-all-up-to .all-up-to .ensures))
 
 pub test-spec : {M : Type 1} → statement M
-test-spec =
-    tie.close
-    (tie.spec
-    returns returns-2 returns-3 returns-4 returns-5 returns-6 mul-if7 returns-7 (λ c κs. search needs) all-clear-requires
-    (λ c κs. search needs) returns-8 returns-9 returns-10 returns-11)
+test-spec = tie.close (tie.spec
+    returns returns-2 returns-3 returns-4 returns-5 returns-6 mul-if7 returns-7 (λ c κs. search needs) all-clear-requires (λ c κs. search needs)
+    returns-8 returns-9 returns-10 returns-11)

@@ -34,9 +34,6 @@ is-found s Kept root n e = absurd (omega (arith, e))
 returns : tie.Need-returns
 returns c = not-found (c .before .args .size) (c .before .args .verdict) (c .before .args .root) (c .before .args .counts) (c .match .keys2)
 
-enum-told : tie.Need-enum-told
-enum-told c = search needs
-
 returns-2 : tie.Need-returns-2
 returns-2 c =
     let c₁ = c .before in
@@ -44,4 +41,4 @@ returns-2 c =
     is-found (a .size) (a .verdict) (a .root) (a .counts) (c₁ .match .keys1)
 
 pub over-spec : {M : Type 1} → statement M
-over-spec = tie.close (tie.spec enum-told returns returns-2)
+over-spec = tie.close (tie.spec (λ c. search needs) returns returns-2)

@@ -7,9 +7,6 @@ use borrow.Author.Tests.{eq-eqb, ne-eqb}
 use Rattle.slices.proofs.good.position_end.Statement.{statement}
 use Rattle.slices.proofs.good.position_end.Tie as tie
 
-add-result : tie.Need-add-result
-add-result c = search needs
-
 returns : tie.Need-returns
 returns c =
     let c₁ = c .before in
@@ -33,4 +30,4 @@ returns-4 c =
 pub position-end-spec : {M : Type 1} → statement M
 position-end-spec =
     tie.close
-    (tie.spec add-result returns returns-2 returns-3 returns-4)
+    (tie.spec (λ c. search needs) returns returns-2 returns-3 returns-4)

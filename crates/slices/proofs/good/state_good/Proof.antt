@@ -5,27 +5,6 @@ use borrow.Author.Needs.{needs}
 use Rattle.slices.proofs.good.state_good.Statement.{statement}
 use Rattle.slices.proofs.good.state_good.Tie as tie
 
-returns : tie.Need-returns
-returns c = λ w. omega (arith, c .if1 .taken, w .kept-in)
-
-returns-2 : tie.Need-returns-2
-returns-2 c = λ w. omega (arith, c .if2 .taken, w .kept-tried)
-
-returns-3 : tie.Need-returns-3
-returns-3 c = λ w. omega (arith, c .if3 .taken, w .size-in)
-
-returns-4 : tie.Need-returns-4
-returns-4 c = λ w. omega (arith, c .if4 .taken, w .size-in)
-
-returns-5 : tie.Need-returns-5
-returns-5 c = λ w. omega (arith, c .if5 .taken, w .left-in)
-
-returns-6 : tie.Need-returns-6
-returns-6 c = λ w. omega (arith, c .if6 .taken, w .right-in)
-
-position-end-requires : tie.Need-position-end-requires
-position-end-requires c κs = search needs
-
 returns-7 : tie.Need-returns-7
 returns-7 c =
     let c₂ = c .before .before in
@@ -52,4 +31,7 @@ returns-8 c =
 pub state-good-spec : {M : Type 1} → statement M
 state-good-spec =
     tie.close
-    (tie.spec returns returns-2 returns-3 returns-4 returns-5 returns-6 position-end-requires returns-7 returns-8)
+    (tie.spec (λ c. λ w. omega (arith, c .if1 .taken, w .kept-in)) (λ c. λ w. omega (arith, c .if2 .taken, w .kept-tried))
+    (λ c. λ w. omega (arith, c .if3 .taken, w .size-in)) (λ c. λ w. omega (arith, c .if4 .taken, w .size-in))
+    (λ c. λ w. omega (arith, c .if5 .taken, w .left-in)) (λ c. λ w. omega (arith, c .if6 .taken, w .right-in)) (λ c κs. search needs) returns-7
+    returns-8)

@@ -146,9 +146,6 @@ returns-2 c =
     let c₂₆ = c₇ .before .before .before .before .before .before .before .before .before .before .before .before .before .before .before .before .before .before .before in
     rw (c .more .ensures) (stops-more (c₂₆ .pre) (c₇ .loop .inv .1) (rw (c₃ .step .given .1) at (c₅ .next .ensures)) (c₁ .if2 .taken))
 
-sub-left : tie.Need-sub-left Inv-loop μ-loop
-sub-left c = omega (arith, pos-of-ne _ (c .if2 .left))
-
 cast-t42 : tie.Need-cast-t42 Inv-loop μ-loop
 cast-t42 c =
     let c₆ = c .before .before .before .before .before .before in
@@ -246,12 +243,10 @@ loop-again-2 c =
     )
 
 pub go-on-spec : {M : Type 1} → statement M
-go-on-spec =
-    tie.close
-    (tie.spec
-    Inv-loop μ-loop (λ c. search needs) (λ c κs. search needs) cast-of-table (λ c κs. search needs) loop-holds slice-aggregate-next
-    cast-next (λ c κs. search needs) (λ c. search needs) (λ c. search needs) (λ c κs. search needs) same-length same-length-2 same-length-3
-    same-length-4 same-length-5 returns add-s begin-requires loop-less loop-again (λ c κs. search needs) same-length-6 same-length-7
-    same-length-8 same-length-9 same-length-10 returns-2 sub-left cast-t42 slice-aggregate-judge slice-aggregate-judge-2
+go-on-spec = tie.close (tie.spec
+    Inv-loop μ-loop (λ c. search needs) (λ c κs. search needs) cast-of-table (λ c κs. search needs) loop-holds slice-aggregate-next cast-next
+    (λ c κs. search needs) (λ c. search needs) (λ c. search needs) (λ c κs. search needs) same-length same-length-2 same-length-3 same-length-4
+    same-length-5 returns add-s begin-requires loop-less loop-again (λ c κs. search needs) same-length-6 same-length-7 same-length-8 same-length-9
+    same-length-10 returns-2 (λ c. omega (arith, pos-of-ne _ (c .if2 .left))) cast-t42 slice-aggregate-judge slice-aggregate-judge-2
     (λ c κs. search needs) (λ c κs. search needs) (λ c κs. search needs) (λ c κs. search needs) same-length-11 same-length-12 same-length-13
     same-length-14 same-length-15 returns-3 loop-less-2 loop-again-2)

@@ -17,9 +17,6 @@ abbrev μ-loop : tie.MeasureT-loop
 returns : tie.Need-returns Inv-loop μ-loop
 returns c = let a = c .before .args in sym (unequal (a .a .now) (a .b .now) (c .if1 .taken))
 
-loop-holds : tie.Need-loop-holds Inv-loop μ-loop
-loop-holds c = alike-start _ _
-
 returns-2 : tie.Need-returns-2 Inv-loop μ-loop
 returns-2 c =
     let at-loop = c .before .before .before .before in
@@ -39,8 +36,6 @@ returns-3 c =
     alike-end (a .a .now) (a .b .now) (at-loop .before .if1 .left) (at-loop .loop .inv) (c .loop-test .left)
 
 pub same-spec : {M : Type 1} → statement M
-same-spec =
-    tie.close
-    (tie.spec
-    Inv-loop μ-loop returns loop-holds (λ c. search needs) (λ c. search needs) returns-2 (λ c. search needs) (λ c. search needs) loop-again
-    returns-3)
+same-spec = tie.close (tie.spec
+    Inv-loop μ-loop returns (λ c. alike-start _ _) (λ c. search needs) (λ c. search needs) returns-2 (λ c. search needs) (λ c. search needs)
+    loop-again returns-3)

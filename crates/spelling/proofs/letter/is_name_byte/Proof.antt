@@ -7,14 +7,8 @@ use borrow.Author.Needs.{needs}
 use Rattle.spelling.proofs.letter.is_name_byte.Statement.{statement}
 use Rattle.spelling.proofs.letter.is_name_byte.Tie as tie
 
-is-letter-requires : tie.Need-is-letter-requires
-is-letter-requires c κs = search needs
-
 returns : tie.Need-returns
 returns c = simp (sym (c .before .is-letter .ensures) ∙ c .if1 .taken)
-
-returns-2 : tie.Need-returns-2
-returns-2 c = simp (eq-eqb _ _ (c .if2 .taken), or-true)
 
 returns-3 : tie.Need-returns-3
 returns-3 c = simp (sym (c .before .before .before .is-letter .ensures) ∙ c .before .before .if1 .left, ne-eqb _ _ (c .before .if2 .left), lt-leb 48 _ (c .if3 .taken))
@@ -33,4 +27,4 @@ returns-5 c = simp (
 
 pub is-name-byte-spec : {M : Type 1} → statement M
 is-name-byte-spec =
-    tie.close (tie.spec is-letter-requires returns returns-2 returns-3 returns-4 returns-5)
+    tie.close (tie.spec (λ c κs. search needs) returns (λ c. simp (eq-eqb _ _ (c .if2 .taken), or-true)) returns-3 returns-4 returns-5)

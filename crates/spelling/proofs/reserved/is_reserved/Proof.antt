@@ -17,12 +17,6 @@ Inv-loop name i₀ i = Unlike reserved name i
 abbrev μ-loop : tie.MeasureT-loop
 μ-loop name i₀ i = 7 - i
 
-loop-holds : tie.Need-loop-holds Inv-loop μ-loop
-loop-holds c = unlike-start reserved _
-
-array-share-prefix-letters : tie.Need-array-share-prefix-letters Inv-loop μ-loop
-array-share-prefix-letters c = c .before .word-at .ensures .short
-
 slice-aggregate-same : tie.Need-slice-aggregate-same Inv-loop μ-loop
 slice-aggregate-same c = let w = c .before .before .word-at in sym (length-take-le (w .result .bytes) (w .result .letters) (w .ensures .short))
 
@@ -48,8 +42,6 @@ returns-2 c =
     unlike-end reserved (at-loop .before .before .args .name .now) (at-loop .loop .inv) (omega (arith, seven, c .loop-test .left))
 
 pub is-reserved-spec : {M : Type 1} → statement M
-is-reserved-spec =
-    tie.close
-    (tie.spec
-    Inv-loop μ-loop loop-holds (λ c κs. search needs) array-share-prefix-letters slice-aggregate-same (λ c κs. search needs) returns
-    (λ c. search needs) (λ c. search needs) loop-again returns-2)
+is-reserved-spec = tie.close (tie.spec
+    Inv-loop μ-loop (λ c. unlike-start reserved _) (λ c κs. search needs) (λ c. c .before .word-at .ensures .short) slice-aggregate-same
+    (λ c κs. search needs) returns (λ c. search needs) (λ c. search needs) loop-again returns-2)

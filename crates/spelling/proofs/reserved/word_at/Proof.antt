@@ -5,14 +5,5 @@ use borrow.Author.Needs.{needs}
 use Rattle.spelling.proofs.reserved.word_at.Statement.{statement}
 use Rattle.spelling.proofs.reserved.word_at.Tie as tie
 
-mul-result : tie.Need-mul-result
-mul-result c = search needs
-
-array-copy-out-result : tie.Need-array-copy-out-result
-array-copy-out-result c = search needs
-
-returns : tie.Need-returns
-returns c = word-at _ (c .before .args .i) (c .before .pre)
-
 pub word-at-spec : {M : Type 1} → statement M
-word-at-spec = tie.close (tie.spec mul-result array-copy-out-result returns)
+word-at-spec = tie.close (tie.spec (λ c. search needs) (λ c. search needs) (λ c. word-at _ (c .before .args .i) (c .before .pre)))

@@ -6,18 +6,6 @@ use borrow.Author.Needs.{needs}
 use Rattle.summary.proofs.line.put_blank_first.Statement.{statement}
 use Rattle.summary.proofs.line.put_blank_first.Tie as tie
 
-slice-aggregate-put : tie.Need-slice-aggregate-put
-slice-aggregate-put c = search needs
-
-put-requires : tie.Need-put-requires
-put-requires c κs = search needs
-
-put-first-requires : tie.Need-put-first-requires
-put-first-requires c κs = search needs
-
-same-length : tie.Need-same-length
-same-length c = search needs
-
 returns : tie.Need-returns
 returns c =
     let a = c .before .before .before .before .before .before .before .before .before .before .args in
@@ -25,4 +13,4 @@ returns c =
 
 pub put-blank-first-spec : {M : Type 1} → statement M
 put-blank-first-spec =
-    tie.close (tie.spec slice-aggregate-put put-requires put-first-requires same-length returns)
+    tie.close (tie.spec (λ c. search needs) (λ c κs. search needs) (λ c κs. search needs) (λ c. search needs) returns)

@@ -21,8 +21,6 @@ returns-2 c =
     subst (λ (f : First). Wrote (a .text .now) (a .at) (firstText f) (w .last .0) (w .result)) (sym (c .before .before .before .before .before .first .given .1)) (w .ensures)
 
 pub put-first-spec : {M : Type 1} → statement M
-put-first-spec =
-    tie.close
-    (tie.spec
-    (λ c. search needs) (λ c. search needs) (λ c κs. search needs) (λ c. search needs) (λ c. search needs) (λ c κs. search needs)
-    (λ c. search needs) returns (λ c. search needs) returns-2)
+put-first-spec = tie.close (tie.spec
+    (λ c. search needs) (λ c. search needs) (λ c κs. search needs) (λ c. search needs) (λ c. search needs) (λ c κs. search needs) (λ c. search needs)
+    returns (λ c. search needs) returns-2)

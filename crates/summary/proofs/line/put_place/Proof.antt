@@ -16,8 +16,6 @@ returns c = let a = c .before .before .before .before .before .before .before .b
     (wrote-both (decimal (a .place .0)) (summaryText (a .s)) (c .before .before .before .before .before .before .put-decimal2 .ensures) (c .before .before .put-summary .ensures)))
 
 pub put-place-spec : {M : Type 1} → statement M
-put-place-spec =
-    tie.close
-    (tie.spec
+put-place-spec = tie.close (tie.spec
     (λ c. search needs) (λ c κs. search needs) (λ c. search needs) (λ c κs. search needs) (λ c. search needs) (λ c κs. search needs)
     (λ c κs. search needs) (λ c. search needs) returns)

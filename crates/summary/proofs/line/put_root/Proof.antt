@@ -14,8 +14,5 @@ returns c = let a = c .before .before .before .before .before .before .before .b
     (wrote-both rootWord (summaryText (a .s)) (c .before .before .before .before .before .before .put .ensures) (c .before .before .put-summary .ensures))
 
 pub put-root-spec : {M : Type 1} → statement M
-put-root-spec =
-    tie.close
-    (tie.spec
-    (λ c. search needs) (λ c κs. search needs) (λ c. search needs) (λ c κs. search needs) (λ c κs. search needs) (λ c. search needs)
-    returns)
+put-root-spec = tie.close (tie.spec
+    (λ c. search needs) (λ c κs. search needs) (λ c. search needs) (λ c κs. search needs) (λ c κs. search needs) (λ c. search needs) returns)

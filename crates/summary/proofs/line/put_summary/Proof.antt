@@ -22,8 +22,6 @@ returns c =
     (wrote-both (decimal (s .count)) newline (c .before .before .before .before .before .before .before .put-decimal .ensures) (c .before .before .put2 .ensures))))
 
 pub put-summary-spec : {M : Type 1} → statement M
-put-summary-spec =
-    tie.close
-    (tie.spec
+put-summary-spec = tie.close (tie.spec
     (λ c κs. search needs) (λ c κs. search needs) (λ c. search needs) (λ c κs. search needs) (λ c. search needs) (λ c κs. search needs)
     (λ c. search needs) (λ c κs. search needs) (λ c. search needs) returns)

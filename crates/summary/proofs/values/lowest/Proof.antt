@@ -6,9 +6,6 @@ use Rattle.summary.proofs.Firsts.{none-set, lowest-there, lowest-least}
 use Rattle.summary.proofs.values.lowest.Statement.{statement}
 use Rattle.summary.proofs.values.lowest.Tie as tie
 
-returns : tie.Need-returns
-returns c = none-set _ (c .if1 .taken)
-
 cast-p : tie.Need-cast-p
 cast-p c = omega (arith, lowest-there width (c .before .args .x) (omega arith) (c .if1 .left))
 
@@ -16,4 +13,4 @@ returns-2 : tie.Need-returns-2
 returns-2 c = lowest-least (c .before .args .x) (omega arith) (c .if1 .left)
 
 pub lowest-spec : {M : Type 1} → statement M
-lowest-spec = tie.close (tie.spec returns cast-p returns-2)
+lowest-spec = tie.close (tie.spec (λ c. none-set _ (c .if1 .taken)) cast-p returns-2)

@@ -9,15 +9,6 @@ use borrow.Author.Needs.{needs}
 use Rattle.summary.proofs.values.summary_of.Statement.{statement}
 use Rattle.summary.proofs.values.summary_of.Tie as tie
 
-mask-requires : tie.Need-mask-requires
-mask-requires c κs = search needs
-
-lowest-requires : tie.Need-lowest-requires
-lowest-requires c κs = search needs
-
-lowest-requires-2 : tie.Need-lowest-requires-2
-lowest-requires-2 c κs = search needs
-
 cast-count : tie.Need-cast-count
 cast-count c =
     let a = c .before .before .before .args in
@@ -38,4 +29,4 @@ returns c = let a = c .before .before .before .args in
 
 pub summary-of-spec : {M : Type 1} → statement M
 summary-of-spec =
-    tie.close (tie.spec mask-requires lowest-requires lowest-requires-2 cast-count returns)
+    tie.close (tie.spec (λ c κs. search needs) (λ c κs. search needs) (λ c κs. search needs) cast-count returns)

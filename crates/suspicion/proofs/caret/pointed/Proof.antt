@@ -29,8 +29,6 @@ returns c = let a = (c .before .before .before .before .before .before .before .
     (c .before .before .before .before .before .before .put4 .ensures)) (c .before .before .refused-at .ensures)
 
 pub pointed-spec : {M : Type 1} → statement M
-pointed-spec =
-    tie.close
-    (tie.spec
+pointed-spec = tie.close (tie.spec
     (λ c κs. search needs) (λ c. search needs) (λ c κs. search needs) (λ c. search needs) slice-aggregate-put-2 (λ c κs. search needs)
     (λ c. search needs) (λ c κs. search needs) (λ c κs. search needs) (λ c. search needs) returns)

@@ -14,12 +14,6 @@ use borrow.Author.Needs.{needs}
 use Rattle.text.proofs.text.leaf_length.Statement.{statement}
 use Rattle.text.proofs.text.leaf_length.Tie as tie
 
-from-left-requires : tie.Need-from-left-requires
-from-left-requires c κs = search needs
-
-cast-p : tie.Need-cast-p
-cast-p c = search needs
-
 name-length-requires : tie.Need-name-length-requires
 name-length-requires c κs = let a = c .before .before .before .before .before .before .before .before .before .args in
     let few = few-names (a .names .now) (c .before .before .before .before .before .before .before .before .before .pre .0 .good) in
@@ -55,4 +49,4 @@ returns-3 c =
 
 pub leaf-length-spec : {M : Type 1} → statement M
 leaf-length-spec =
-    tie.close (tie.spec from-left-requires cast-p name-length-requires returns returns-2 returns-3)
+    tie.close (tie.spec (λ c κs. search needs) (λ c. search needs) name-length-requires returns returns-2 returns-3)

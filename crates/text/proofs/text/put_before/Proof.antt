@@ -18,7 +18,5 @@ returns c =
     wrote-both (take (o .bytes) (o .token)) (32 ∷ 40 ∷ []) (c .before .before .before .before .before .before .before .put .ensures) (c .before .before .put2 .ensures)
 
 pub put-before-spec : {M : Type 1} → statement M
-put-before-spec =
-    tie.close
-    (tie.spec
+put-before-spec = tie.close (tie.spec
     (λ c. search needs) slice-aggregate-put (λ c κs. search needs) (λ c. search needs) (λ c κs. search needs) (λ c. search needs) returns)

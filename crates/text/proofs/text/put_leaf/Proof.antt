@@ -54,8 +54,6 @@ returns-3 c =
     (c .before .before .before .before .before .if2 .left))) (c .before .before .put2 .ensures)
 
 pub put-leaf-spec : {M : Type 1} → statement M
-put-leaf-spec =
-    tie.close
-    (tie.spec
+put-leaf-spec = tie.close (tie.spec
     (λ c κs. search needs) (λ c. search needs) put-name-requires (λ c. search needs) returns (λ c. search needs) (λ c κs. search needs)
     (λ c. search needs) returns-2 (λ c. search needs) (λ c κs. search needs) (λ c. search needs) returns-3)

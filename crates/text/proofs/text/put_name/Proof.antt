@@ -28,7 +28,5 @@ returns c =
     (letters-are-name (a .names .now) (s .pre .0) (a .p) (s .pre .1) (c .before .before .before .before .before .letters .ensures)) (c .before .before .put .ensures)
 
 pub put-name-spec : {M : Type 1} → statement M
-put-name-spec =
-    tie.close
-    (tie.spec
+put-name-spec = tie.close (tie.spec
     (λ c κs. search needs) sub-put part-put-start part-put-end (λ c κs. search needs) (λ c. search needs) returns)

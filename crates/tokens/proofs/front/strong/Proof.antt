@@ -9,16 +9,10 @@ use borrow.Author.Needs.{needs}
 use Rattle.tokens.proofs.front.strong.Statement.{statement}
 use Rattle.tokens.proofs.front.strong.Tie as tie
 
-byte-requires : tie.Need-byte-requires
-byte-requires c κs = search needs
-
 add-byte : tie.Need-add-byte
 add-byte c =
     let s = c .before .before .before in
     omega (arith, inside (s .args .text .now) (s .args .at) 32 (sym (c .before .byte .ensures) ∙ c .if1 .taken))
-
-byte-requires-2 : tie.Need-byte-requires-2
-byte-requires-2 c κs = search needs
 
 add-t8 : tie.Need-add-t8
 add-t8 c =
@@ -56,4 +50,4 @@ returns-3 c =
 pub strong-spec : {M : Type 1} → statement M
 strong-spec =
     tie.close
-    (tie.spec byte-requires add-byte byte-requires-2 add-t8 returns add-t6 returns-2 returns-3)
+    (tie.spec (λ c κs. search needs) add-byte (λ c κs. search needs) add-t8 returns add-t6 returns-2 returns-3)

@@ -84,8 +84,6 @@ returns-9 c =
     (of-byte isNameByte (i .is-name-byte .ensures) (c .before .if1 .left) (i .before .byte .ensures)) (λ o. absurd (c .if2 .left o))
 
 pub word-spec : {M : Type 1} → statement M
-word-spec =
-    tie.close
-    (tie.spec
+word-spec = tie.close (tie.spec
     (λ c. search needs) (λ c κs. search needs) (λ c κs. search needs) (λ c κs. search needs) returns (λ c. search needs) (λ c. search needs)
     strong-requires returns-2 returns-3 returns-4 returns-5 returns-6 returns-7 returns-8 returns-9)

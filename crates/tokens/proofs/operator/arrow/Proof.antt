@@ -7,9 +7,6 @@ use borrow.Author.Needs.{needs}
 use Rattle.tokens.proofs.operator.arrow.Statement.{statement}
 use Rattle.tokens.proofs.operator.arrow.Tie as tie
 
-byte-requires : tie.Need-byte-requires
-byte-requires c κs = search needs
-
 add-t7 : tie.Need-add-t7
 add-t7 c =
     let s = c .before .before .before in
@@ -22,4 +19,4 @@ returns-2 : tie.Need-returns-2
 returns-2 c = let s = c .before .before .before in arrow-not (s .args .text .now) (s .args .at) (s .args .code) (s .args .right) (λ e. c .if1 .left (c .before .byte .ensures ∙ e))
 
 pub arrow-spec : {M : Type 1} → statement M
-arrow-spec = tie.close (tie.spec byte-requires add-t7 returns returns-2)
+arrow-spec = tie.close (tie.spec (λ c κs. search needs) add-t7 returns returns-2)

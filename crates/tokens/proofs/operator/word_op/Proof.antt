@@ -5,12 +5,6 @@ use borrow.Author.Needs.{needs}
 use Rattle.tokens.proofs.operator.word_op.Statement.{statement}
 use Rattle.tokens.proofs.operator.word_op.Tie as tie
 
-byte-requires : tie.Need-byte-requires
-byte-requires c κs = search needs
-
-is-name-byte-requires : tie.Need-is-name-byte-requires
-is-name-byte-requires c κs = search needs
-
 returns : tie.Need-returns
 returns c =
     let s = c .before .before .before .before in
@@ -24,4 +18,4 @@ returns-2 c =
     (c .before .before .byte .ensures)
 
 pub word-op-spec : {M : Type 1} → statement M
-word-op-spec = tie.close (tie.spec byte-requires is-name-byte-requires returns returns-2)
+word-op-spec = tie.close (tie.spec (λ c κs. search needs) (λ c κs. search needs) returns returns-2)

@@ -68,8 +68,6 @@ returns-2 : tie.Need-returns-2 Inv-loop μ-loop
 returns-2 c = let s = c .before .before .before in let l = c .before .loop in counted-end (s .args .text .now) (l .inv) (c .loop-test .left)
 
 pub deep-spec : {M : Type 1} → statement M
-deep-spec =
-    tie.close
-    (tie.spec
+deep-spec = tie.close (tie.spec
     Inv-loop μ-loop loop-holds (λ c. search needs) (λ c κs. search needs) add-opened (λ c κs. search needs) add-closed add-if1 returns add-i
     (λ c. search needs) loop-again returns-2)

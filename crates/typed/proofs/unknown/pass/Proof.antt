@@ -22,9 +22,6 @@ sub-known c = omega (arith, c .before .run-end .ensures .forward)
 part-known-start : tie.Need-part-known-start
 part-known-start c = omega (arith, c .before .run-end .ensures .forward)
 
-part-known-end : tie.Need-part-known-end
-part-known-end c = omega (arith, c .before .run-end .ensures .within)
-
 returns-2 : tie.Need-returns-2
 returns-2 c =
     let r = c .before .before .before .before .run-end in
@@ -42,7 +39,6 @@ returns-3 c =
     (subst (KnownIs names (take (r .result - a .i) (drop (a .i) (a .text .now)))) (c .if2 .left) (c .before .known .ensures))
 
 pub pass-spec : {M : Type 1} → statement M
-pass-spec =
-    tie.close
-    (tie.spec
-    (λ c κs. search needs) (λ c. search needs) returns sub-known part-known-start part-known-end (λ c κs. search needs) returns-2 returns-3)
+pass-spec = tie.close (tie.spec
+    (λ c κs. search needs) (λ c. search needs) returns sub-known part-known-start (λ c. omega (arith, c .before .run-end .ensures .within))
+    (λ c κs. search needs) returns-2 returns-3)

@@ -45,7 +45,5 @@ returns-2 c =
     run-all (l .inv) (c .loop-test .left)
 
 pub run-end-spec : {M : Type 1} → statement M
-run-end-spec =
-    tie.close
-    (tie.spec
+run-end-spec = tie.close (tie.spec
     Inv-loop μ-loop loop-holds (λ c. search needs) (λ c κs. search needs) returns add-i (λ c. search needs) loop-again returns-2)

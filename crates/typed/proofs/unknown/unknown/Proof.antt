@@ -44,7 +44,5 @@ returns-2 c =
     met-all (namesBy (s .args .names .now)) (s .args .text .now) (l .inv) (c .loop-test .left)
 
 pub unknown-spec : {M : Type 1} → statement M
-unknown-spec =
-    tie.close
-    (tie.spec
+unknown-spec = tie.close (tie.spec
     Inv-loop μ-loop loop-holds (λ c κs. search needs) (λ c. search needs) (λ c. search needs) returns loop-less loop-again returns-2)

@@ -7,9 +7,6 @@ use borrow.Author.Needs.{needs}
 use Rattle.verdict.proofs.agree.agrees.Statement.{statement}
 use Rattle.verdict.proofs.agree.agrees.Tie as tie
 
-accepts-requires : tie.Need-accepts-requires
-accepts-requires c κs = search needs
-
 returns : tie.Need-returns
 returns c = marked-good (c .before .accepts .result) (c .before .accepts .ensures) (c .if1 .taken)
 
@@ -20,4 +17,4 @@ returns-3 : tie.Need-returns-3
 returns-3 c = bad-rejects (λ p. true≢false (sym (c .before .before .accepts .ensures .1 p) ∙ c .if2 .left)) (c .before .if1 .left)
 
 pub agrees-spec : {M : Type 1} → statement M
-agrees-spec = tie.close (tie.spec accepts-requires returns returns-2 returns-3)
+agrees-spec = tie.close (tie.spec (λ c κs. search needs) returns returns-2 returns-3)

@@ -49,12 +49,6 @@ add-from c = let s = c .before .before .before .before .before .before .before .
     (c .before .before .before .before .before .before .loop .inv .1) in
     omega arith
 
-add-j : tie.Need-add-j Inv-loop μ-loop
-add-j c = omega arith
-
-loop-less : tie.Need-loop-less Inv-loop μ-loop
-loop-less c = omega arith
-
 loop-again : tie.Need-loop-again Inv-loop μ-loop
 loop-again c = let a = c .before .before .before .before .before .before .before .before .before .before .before .before .before .before .before .args in
     let l = c .before .before .before .before .before .before in (
@@ -86,8 +80,6 @@ returns-2 c = let l = c .before in
     record { upto = omega arith; before = λ t s h g. l .loop .inv .2 t s h (omega arith); here = λ t s h. absurd (omega arith) }
 
 pub first-disagreeing-spec : {M : Type 1} → statement M
-first-disagreeing-spec =
-    tie.close
-    (tie.spec
+first-disagreeing-spec = tie.close (tie.spec
     Inv-loop μ-loop (λ c κs. search needs) loop-holds shared-slice-read-length cast-length eval-requires shared-slice-read-agrees
-    (λ c κs. search needs) add-from add-j loop-less loop-again returns returns-2)
+    (λ c κs. search needs) add-from (λ c. omega arith) (λ c. omega arith) loop-again returns returns-2)

@@ -44,8 +44,6 @@ returns-3 c = let s = c .before .before .before .before .before .before .before 
     (c .before .before .if2 .left)) (c .before .mask .ensures) (c .places .ensures)
 
 pub leaf-spec : {M : Type 1} → statement M
-leaf-spec =
-    tie.close
-    (tie.spec
-    (λ c κs. search needs) (λ c. search needs) (λ c. search needs) (λ c. search needs) shared-slice-read-word returns returns-2
-    (λ c κs. search needs) (λ c κs. search needs) returns-3)
+leaf-spec = tie.close (tie.spec
+    (λ c κs. search needs) (λ c. search needs) (λ c. search needs) (λ c. search needs) shared-slice-read-word returns returns-2 (λ c κs. search needs)
+    (λ c κs. search needs) returns-3)
