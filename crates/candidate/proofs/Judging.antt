@@ -1,10 +1,10 @@
 -- One candidate: the table's tests are the walk's, so it comes to what the walk makes of it.
 -- Assumes nothing.
-use mathlib.Core.Path.{_≡_, refl, sym, ap, _∙_, subst}
+use mathlib.Core.Path.{_≡_, sym, ap, _∙_, subst}
 use mathlib.Core.Logic.{inl, inr}
 use mathlib.Core.Bool.{Bool, true, false, true≢false}
-use mathlib.Core.List.{List, [], _∷_, _++_}
-use Prim.Native.Nat.{ℕ, _+_, _*_, _≤_, _<_}
+use mathlib.Core.List.{List}
+use Prim.Native.Nat.{ℕ, _≤_, _<_}
 use native.Mathlib.Omega.{arith}
 use lib.ListN.{length, take}
 use denote.Enum.Declared.{tagOf}
@@ -14,7 +14,7 @@ use Rattle.rules.specs.declared.kinds.Place.{Place}
 use Rattle.formula.specs.declared.kinds.Node.{Node}
 use Rattle.formula.specs.Kinds.{nodeOf}
 use Rattle.formula.specs.Nodes as nodes
-use Rattle.walk.specs.Walk.{Candidate, going, judge, consider}
+use Rattle.walk.specs.Walk.{Candidate, judge, consider}
 use Rattle.walk.specs.Walk as walk
 use Rattle.walk.specs.Input.{Input, separating, offer}
 use Rattle.walk.specs.Kept.{Table}
@@ -27,7 +27,7 @@ use Rattle.rows.proofs.Matrices.{rows-made, made-fine}
 use Rattle.table.proofs.Known.{the-type as known-type}
 use Rattle.table.specs.Compare.{agreeing, KnownAnswer}
 use Rattle.table.specs.Keep.{KeepAnswer}
-use Rattle.table.specs.Formulas.{HoldsKept, RoomAt}
+use Rattle.table.specs.Formulas.{RoomAt}
 use Rattle.table.specs.Promises.{isAt}
 use Rattle.rows.specs.Formulas as matrices
 use Rattle.table.proofs.Acceptance.{agrees-separating}

@@ -1,11 +1,11 @@
 -- The counts after a candidate are the walk's.
 -- Assumes nothing.
-use mathlib.Core.Path.{_≡_, refl, ap, ap₂}
-use mathlib.Core.List.{List, [], _∷_}
-use Prim.Native.Nat.{ℕ, suc, _+_}
+use mathlib.Core.Path.{_≡_, ap, ap₂}
+use mathlib.Core.List.{[], _∷_}
+use Prim.Native.Nat.{ℕ, suc}
 use native.Mathlib.Omega.{arith}
 use lib.ListN.{length-append}
-use Rattle.walk.specs.Walk.{Tally, tally}
+use Rattle.walk.specs.Walk.{tally}
 use Rattle.candidate.specs.declared.Verdict.the-variants.{Found, Dropped, Full, Kept}
 use Rattle.candidate.specs.Counting.{oneMore, CountsAreWalks}
 

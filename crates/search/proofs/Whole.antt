@@ -3,9 +3,8 @@
 use mathlib.Core.Path.{_≡_, refl, sym, ap, _∙_, subst}
 use mathlib.Core.Logic.{_⊎_, inl, inr}
 use mathlib.Core.List.{List, [], _∷_, _++_}
-use Prim.Native.Nat.{ℕ, _+_, _≤_, _<_}
+use Prim.Native.Nat.{ℕ, _+_, _<_}
 use native.Mathlib.Omega.{arith}
-use Rattle.rules.specs.Limits.{mostSize}
 use Rattle.rules.specs.Refusals.{Row, Decided}
 use Rattle.walk.specs.Walk.{found, none, full, State, kept}
 use Rattle.walk.specs.Input.{Input}

@@ -32,15 +32,13 @@ use Rattle.rows.specs.Formulas.{nothing}
 use Rattle.rows.proofs.Matrices.{length-map}
 use Rattle.table.specs.Slices.{Cols, tableOver}
 use Rattle.checks.specs.Promises.{RoomThere}
-use Rattle.session.specs.Data.{outsideNumbers, tooShort, tooLong, bitAbove, markWrong}
-use Rattle.checks.specs.Refusals.{settingWrong, noRoom, codeWrong, searchRows}
-use Rattle.checks.proofs.Passing.{search-passes}
+use Rattle.checks.specs.Refusals.{settingWrong, searchRows}
 use Rattle.slices.specs.declared.state.State.{State}
 use Rattle.slices.specs.Costs.{inAll}
 use Rattle.slices.specs.Said.{counts}
 use Rattle.slices.specs.Slices.{startsIn, layerAt, stateAt, freshState, todo, Ongoing, StandsIn, StandsAt, stateWrong, mostBudget, resumeRows, advanceRows, StateIn}
 use Rattle.slices.specs.Resume.{Went}
-use Rattle.slices.specs.Inner.{PointAt, settled, GoAsks, GoDoes, positionOf, StateFits, OneOrTwo}
+use Rattle.slices.specs.Inner.{PointAt, GoAsks, GoDoes, positionOf, StateFits, OneOrTwo}
 use Rattle.slices.proofs.Checks.{unary-few, binary-few}
 use Rattle.slices.proofs.Rounds.{began, few-left, kept-sizes}
 use Rattle.slices.proofs.Settling.{settled-more, turn-none, turn-over, begun-is}

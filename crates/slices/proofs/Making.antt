@@ -1,9 +1,9 @@
 -- A candidate's code and fields make the walk's formula: the one that the table writes, and the one that the walk offers.
 -- Assumes nothing.
 use mathlib.Core.Path.{_≡_, refl, sym, ap, ap₂, _∙_}
-use mathlib.Core.Logic.{_⊎_, inl, inr}
-use mathlib.Core.Bool.{Bool, true, false, cond}
-use mathlib.Core.List.{List, [], _∷_, _++_, map, append-nil}
+use mathlib.Core.Logic.{inl, inr}
+use mathlib.Core.Bool.{Bool, true, false}
+use mathlib.Core.List.{List, [], _∷_, _++_, map}
 use Prim.Native.Nat.{ℕ, zero, suc, _+_, _≤_, _<_}
 use native.Mathlib.Omega.{arith}
 use lib.ListN.{length, getD}
@@ -12,17 +12,16 @@ use borrow.Author.Tests.{eq-eqb, ne-eqb}
 use Rattle.sequence.specs.Operators.{Unary, Binary, unaryCode, binaryCode, commutes, unaryOf, binaryOf}
 use Rattle.formula.specs.Formula.{Leaf, proposition, constant}
 use Rattle.formula.specs.Nodes.{leafCode, leafNumber}
-use Rattle.walk.specs.Walk.{Candidate, seed, unaryOn, binaryOn}
-use Rattle.rules.specs.Lists.{count, _∈_}
+use Rattle.walk.specs.Walk.{Candidate, seed}
+use Rattle.rules.specs.Lists.{count}
 use Rattle.walk.specs.Input as walk
 use Rattle.walk.specs.Input.{Input, Passes, offer}
 use Rattle.walk.specs.Kept.{Table}
-use Rattle.walk.proofs.Places.{sizeAt, placed}
-use Rattle.order.specs.Size.{Cand, cand, Layer, start, commuting, leaves, constantsIf}
+use Rattle.order.specs.Size.{Cand, cand, start, commuting, leaves, constantsIf}
 use Rattle.order.specs.Steps.{Listed, Safe}
 use Rattle.order.proofs.Layers as layers
-use Rattle.order.proofs.Lists.{map-append, map-map}
-use Rattle.rows.specs.Formulas.{nothing, matrixAt, LeafIn, Makes}
+use Rattle.order.proofs.Lists.{map-append}
+use Rattle.rows.specs.Formulas.{nothing, matrixAt, Makes}
 use Rattle.rows.proofs.Groups.{unary-or-binary, unary-or-leaf, binary-or-leaf}
 use Rattle.rows.specs.Formulas as rows
 use Rattle.sequence.proofs.Decoding.{unary-of, binary-of}

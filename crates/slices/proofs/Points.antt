@@ -28,9 +28,8 @@ use Rattle.candidate.specs.declared.Verdict.{Verdict}
 use Rattle.candidate.specs.declared.Verdict.the-variants.{Found, Dropped, Full, Kept}
 use Rattle.candidate.specs.Judge.{comes, Posed, Does}
 use Rattle.candidate.specs.declared.counts.Counts.{Counts}
-use Rattle.slices.specs.Costs.{inAll}
 use Rattle.slices.specs.Said.{tallyOf}
-use Rattle.slices.specs.Slices.{layerAt, todo}
+use Rattle.slices.specs.Slices.{layerAt}
 use Rattle.slices.specs.Inner.{endsWalk, make, Standing, PointAt}
 use Rattle.candidate.specs.Counting.{countedBy}
 use Rattle.candidate.proofs.Tallies.{counts-are-walks}

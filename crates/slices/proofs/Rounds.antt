@@ -3,8 +3,8 @@
 -- Assumes nothing.
 use mathlib.Core.Path.{_≡_, refl, sym, ap, ap₂, _∙_, subst}
 use mathlib.Core.Bool.{Bool, true, false, true≢false}
-use mathlib.Core.List.{List, [], _∷_, map}
-use Prim.Native.Nat.{ℕ, suc, _+_, _-_, _*_, _^_, _≤_, _<_}
+use mathlib.Core.List.{List, [], map}
+use Prim.Native.Nat.{ℕ, suc, _+_, _-_, _^_, _≤_, _<_}
 use native.Mathlib.Omega.{arith}
 use native.Mathlib.Numerals.{add-one}
 use native.Mathlib.Decide.{decLe}
@@ -16,11 +16,11 @@ use Rattle.rules.specs.declared.kinds.Place.{Place}
 use Rattle.formula.specs.declared.kinds.Node.{Node}
 use Rattle.formula.specs.Kinds.{nodeOf}
 use Rattle.formula.specs.Nodes as nodes
-use Rattle.walk.specs.Walk.{Candidate, none, found, full, Tally, tally, oneTried, State, going, ended, kept, layer, consider}
+use Rattle.walk.specs.Walk.{Candidate, none, found, full, oneTried, State, going, ended, kept, layer, consider}
 use Rattle.walk.specs.Input.{Input, Passes, offer, inputOf}
-use Rattle.walk.specs.Cut.{Cut, more, over}
+use Rattle.walk.specs.Cut.{Cut}
 use Rattle.walk.specs.Kept.{Table, goOn}
-use Rattle.walk.proofs.Places.{sizeAt, Split}
+use Rattle.walk.proofs.Places.{Split}
 use Rattle.order.specs.declared.Cursor.{Cursor}
 use Rattle.order.specs.declared.Step.{Step}
 use Rattle.order.specs.declared.Step.the-variants.{Candidate as Told, End}

@@ -1,12 +1,12 @@
 -- The cut walk: before the next candidate of a size, over to the next size, one candidate more, at the end.
 -- Assumes nothing.
-use mathlib.Core.Path.{_≡_, refl, sym, ap, _∙_}
-use mathlib.Core.List.{List, [], _∷_, foldl}
-use Prim.Native.Nat.{ℕ, zero, suc, _+_, _-_, _≤_, _<_}
+use mathlib.Core.Path.{_≡_, refl, ap, _∙_}
+use mathlib.Core.List.{List, [], _∷_}
+use Prim.Native.Nat.{ℕ, zero, suc, _-_, _≤_, _<_}
 use native.Mathlib.Omega.{arith}
 use lib.ListN.{length, take, drop}
 use borrow.Author.Tests.{lt-ltb, le-ltb}
-use Rattle.walk.specs.Walk.{Candidate, Ending, none, Tally, tally, State, going, ended, layer, consider}
+use Rattle.walk.specs.Walk.{Candidate, Ending, none, Tally, tally, going, ended, layer, consider}
 use Rattle.walk.specs.Cut.{Cut, more, over, settle, start, step, turn}
 use Rattle.walk.specs.Input.{Input, offer}
 use Rattle.walk.specs.Kept.{Table, begun, goOn}

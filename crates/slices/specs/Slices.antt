@@ -8,8 +8,8 @@ use mathlib.Core.List.{List, [], _∷_, _++_, map}
 use Prim.Native.Nat.{ℕ, _+_, _-_, _*_, _≤_, _<_}
 use lib.ListN.{length, drop}
 use lib.Dec.{eqb}
-use Rattle.rules.specs.Limits.{mostRoom, Outside}
-use Rattle.rules.specs.Refusals.{Row, Decided}
+use Rattle.rules.specs.Limits.{Outside}
+use Rattle.rules.specs.Refusals.{Row}
 use Rattle.rules.specs.Answers.{Said}
 use Rattle.session.specs.Data.{outsideNumbers, tooShort, tooLong, bitAbove, markWrong}
 use Rattle.formula.specs.declared.kinds.Node.{Node}

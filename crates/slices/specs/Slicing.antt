@@ -1,6 +1,6 @@
 -- What is promised of the search in slices, for states that calls handed out with room and input unaltered: request E7's sentences. Each is proved under its
 -- name in proofs/Slicing: fresh-stands, call-stands, stands-unique, tells-cut, grown-by-budget, budget-none, ends-in-time,
--- whole-by-turns, end-repeats; and for any state, made up or not: fresh-passes, left-passes, within-budget.
+-- end-repeats, whole-by-turns, enough-turns; and for any state, made up or not: fresh-passes, left-passes, within-budget.
 -- Assumes nothing.
 use mathlib.Core.Path.{_≡_}
 use mathlib.Core.Logic.{_⊎_}
@@ -48,8 +48,7 @@ abbrev pub BudgetNone : Type 0
 BudgetNone = (i : Input) (t₀ t : Cols) (n : ℕ) (state after : value.State) (t′ : Cols) → RoomThere i t₀ → StandsAt i t₀ n state t
     → Called i t 0 state (Goes after) t′ → (after ≡ state) × (t′ ≡ t)
 
--- "with budget 1 or more each turn it ends within as many turns as the walk has candidates": once as many are spent as the walk tries, the answer is
--- the whole walk's. With `StandsUnique`, "Any cutting ends as the whole search does"
+-- "A walk with no candidate left has ended, and the same call says so": once as many are spent as the walk tries, the answer is the whole walk's
 abbrev pub EndsInTime : Type 0
 EndsInTime = (i : Input) (t₀ : Cols) (n : ℕ) (state : value.State) (t : Cols) → StandsAt i t₀ n state t → tried (search i) ≤ n
     → stateSaid state ≡ walkSaid (search i)
@@ -59,8 +58,7 @@ abbrev pub EndRepeats : Type 0
 EndRepeats = (i : Input) (t₀ t : Cols) (budget n : ℕ) (state after : value.State) (t′ : Cols) → RoomThere i t₀ → StandsAt i t₀ n state t → tried (search i) ≤ n
     → Called i t budget state (Goes after) t′ → (after ≡ state) × (t′ ≡ t)
 
--- "it ends within as many turns as the walk has candidates", whatever the budgets of 1 or more were: a list of calls, each from the state and the slices
--- that the one before it left
+-- ---- the search turn by turn: calls with these budgets, each from the state and the slices that the one before it left
 pub data Turns (i : Input) : value.State → Cols → List ℕ → value.State → Cols → Type 0 where
   stop : (state : value.State) (t : Cols) → Turns i state t [] state t
   turn : (budget : ℕ) (rest : List ℕ) (state next last : value.State) (t t′ u : Cols) → Called i t budget state (Goes next) t′ → Turns i next t′ rest last u
@@ -71,6 +69,7 @@ abbrev pub total : List ℕ → ℕ
 total [] = 0
 total (budget ∷ rest) = budget + total rest
 
+-- no budget is 0
 abbrev pub Each1 : List ℕ → Type 0
 Each1 [] = Unit {0}
 Each1 (budget ∷ rest) = (1 ≤ budget) × Each1 rest
@@ -81,7 +80,7 @@ abbrev pub WholeByTurns : Type 0
 WholeByTurns = (i : Input) → Passes i → (t u : Cols) → RoomThere i t → (budgets : List ℕ) (last : value.State) → Turns i freshState t budgets last u
     → tried (search i) ≤ total budgets → (stateSaid last ≡ walkSaid (search i)) × (u ≡ tableOver (kept (search i)) t)
 
--- so as many turns as there are candidates are enough, where no budget is 0
+-- "with budget 1 or more each turn it ends within as many turns as the walk has candidates"
 abbrev pub EnoughTurns : Type 0
 EnoughTurns = (i : Input) → Passes i → (t u : Cols) → RoomThere i t → (budgets : List ℕ) (last : value.State) → Turns i freshState t budgets last u
     → Each1 budgets → tried (search i) ≤ length budgets → (stateSaid last ≡ walkSaid (search i)) × (u ≡ tableOver (kept (search i)) t)

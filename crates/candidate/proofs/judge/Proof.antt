@@ -1,6 +1,6 @@
 -- `judge` meets its contract: the table's tests are the walk's.
 -- Assumes nothing.
-use mathlib.Core.Path.{_≡_, refl, sym, _∙_}
+use mathlib.Core.Path.{refl, sym, _∙_}
 use native.Mathlib.Omega.{arith}
 use borrow.Author.Needs.{needs}
 use Rattle.candidate.proofs.Judging.{repeats, fresh, out-of-room, in-room, does-found, does-dropped, does-full, does-kept}

@@ -1,7 +1,6 @@
 -- `no_place` meets its contract.
 -- Assumes nothing.
 use mathlib.Core.Logic.{inl, inr}
-use native.Mathlib.Omega.{arith}
 use Rattle.candidate.proofs.no_place.Statement.{statement}
 use Rattle.candidate.proofs.no_place.Tie as tie
 

@@ -1,6 +1,5 @@
 -- `end_of` meets its contract: each test is the definition's.
 -- Assumes nothing.
-use native.Mathlib.Omega.{arith}
 use borrow.Author.Needs.{needs}
 use borrow.Author.Tests.{ne-eqb}
 use Rattle.search.proofs.end_of.Statement.{statement}

@@ -1,9 +1,7 @@
 -- `position_end` meets its contract: each test is the definition's.
 -- Assumes nothing.
-use mathlib.Core.Path.{refl}
-use native.Mathlib.Omega.{arith}
 use borrow.Author.Needs.{needs}
-use borrow.Author.Tests.{eq-eqb, ne-eqb}
+use borrow.Author.Tests.{ne-eqb}
 use Rattle.slices.proofs.good.position_end.Statement.{statement}
 use Rattle.slices.proofs.good.position_end.Tie as tie
 
