@@ -22,7 +22,7 @@ use Rattle.reader.specs.Parsing.{Columns, saidParsed, Parses}
 use Rattle.writing.specs.Writing.{Wrote}
 use Rattle.lines.proofs.Handed.{Wide, Handed, broken-at}
 use Rattle.line.specs.Line.{refusedAtLine}
-use Rattle.suspicion.specs.Suspicion.{roomy, firstNodes, verdictLine, Shows, TypedSays, TypedSays, TypedLinesOf, recordingOf}
+use Rattle.suspicion.specs.Suspicion.{roomy, firstNodes, verdictLine, Shows, TypedSays, FileSays, TypedLinesOf, recordingOf}
 use Rattle.suspicion.specs.Inner.{Checked, JudgedBy}
 
 -- a verdict has its line
@@ -58,7 +58,7 @@ module _ (file : List ℕ) (bytes : Bytes file) (l : Lent) (wide : Wide l) (a : 
       ∙ ap (λ (z : List ℕ). recording (length (p .sessions)) (length (p .names)) (marksOf p) (lengthsOf p) z) (h .all-words .is) in
       record {
         lines = lines;
-        says = subst (λ (g : Got Parts). TypedSays g typed lines) (sym (h .is))
+        says = subst (λ (g : Got Parts). FileSays g typed lines) (sym (h .is))
             (subst (λ (x : List ℕ). TypedSays typed x (recordingOf (h .parts)) lines) (sym front)
             (subst (λ (i : Recording). TypedSays typed (take n file) i lines) same says));
         wrote = wrote;
@@ -67,6 +67,6 @@ module _ (file : List ℕ) (bytes : Bytes file) (l : Lent) (wide : Wide l) (a : 
   pub broken-said : {o : ℕ} → a ≡ Broken o → Wrote old 0 (refusedAtLine 8 o) new k → TypedLinesOf typed file old new k
   broken-said {o} q w = record {
     lines = refusedAtLine 8 o;
-    says = subst (λ (g : Got Parts). TypedSays g typed (refusedAtLine 8 o)) (sym (broken-at file bytes l wide a marks lengths words unary binary e q)) refl;
+    says = subst (λ (g : Got Parts). FileSays g typed (refusedAtLine 8 o)) (sym (broken-at file bytes l wide a marks lengths words unary binary e q)) refl;
     wrote = w;
   }

@@ -39,7 +39,7 @@ use Rattle.round_trip.proofs.Promises.{read-spells, read-good}
 use Rattle.line.specs.Line.{refusedLine, refusedAtLine}
 use Rattle.writing.proofs.Digits.{written-front}
 use Rattle.suspicion.specs.Caret.{pointedLines}
-use Rattle.suspicion.specs.Suspicion.{recordingOf, roomy, firstNodes, verdictLine, Shows, TypedSays}
+use Rattle.suspicion.specs.Suspicion.{recordingOf, roomy, firstNodes, verdictLine, Shows, FileSays}
 use Rattle.suspicion.specs.Promises.{IsTyped, Answer, Meant, ShownFor, SuspicionMeans}
 use Rattle.suspicion.specs.Promises.Answer.{is-separates, is-disagrees, is-stops, is-unknown, is-large}
 use Rattle.suspicion.proofs.Apart.{separates-disagrees, separates-refused, separates-pointed, disagrees-refused, disagrees-pointed, disagrees-one}
@@ -205,14 +205,14 @@ module _ (p : Parts) (g : Good p) (text : List ℕ) where
       disagrees = λ j l q. absurd (disagrees-refused j 12 (sym q ∙ e));
     }
 
-module _ (file : List ℕ) (bytes : (i : ℕ) → getD file i 0 < 256) (text out : List ℕ) (says : TypedSays (wholeFile file) text out) where
-  broken-says : (GoodFile file → ⊥) → (w : Got Parts) → wholeFile file ≡ w → TypedSays w text out → (o : ℕ) × (wholeFile file ≡ bad o) × (out ≡ refusedAtLine 8 o)
+module _ (file : List ℕ) (bytes : (i : ℕ) → getD file i 0 < 256) (text out : List ℕ) (says : FileSays (wholeFile file) text out) where
+  broken-says : (GoodFile file → ⊥) → (w : Got Parts) → wholeFile file ≡ w → FileSays w text out → (o : ℕ) × (wholeFile file ≡ bad o) × (out ≡ refusedAtLine 8 o)
   broken-says f (got p next) e s = absurd (let (g, is) = passed-is-good file bytes p next e in f (p, g, is))
   broken-says f (bad o) e s = (o, e, s)
 
   shown-for : ShownFor file text out
   shown-for = record {
-    good = λ p g e. let s = subst (λ (w : Got Parts). TypedSays w text out) (good-passes file p g e) says in meant p g text out (answer p g text out (s .left) (s .answer)
+    good = λ p g e. let s = subst (λ (w : Got Parts). FileSays w text out) (good-passes file p g e) says in meant p g text out (answer p g text out (s .left) (s .answer)
         (s .parses) (s .shows));
     broken = λ f. broken-says f (wholeFile file) refl says;
   }

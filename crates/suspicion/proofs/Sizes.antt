@@ -22,7 +22,7 @@ use Rattle.line.specs.Line.{refusedWord, newline, sessionWord, disagreesWord, d
 use Rattle.line.proofs.Digits.{refused-short}
 use Rattle.writing.proofs.Digits.{few-digits}
 use Rattle.suspicion.specs.Caret.{caret, pointedLines}
-use Rattle.suspicion.specs.Suspicion.{roomy, verdictLine, Shows, TypedSays, TypedLinesOf}
+use Rattle.suspicion.specs.Suspicion.{roomy, verdictLine, Shows, FileSays, TypedLinesOf}
 use Rattle.suspicion.proofs.Typed.{stops-within, unknown-within}
 
 disagrees-short : (session : ℕ) → length (disagreesLine session) ≤ 39
@@ -67,7 +67,7 @@ module _ (i : Recording) (names typed : List ℕ) (c : Columns) where
       omega (arith, pointed-short typed o 13 (w .1) (w .0), ap length s)
   shows-short (parsed.Refused k) out a s = omega (arith, refused-short k, ap length s)
 
-pub says-short : (g : Got Parts) (typed out : List ℕ) → TypedSays g typed out → length out ≤ 8248
+pub says-short : (g : Got Parts) (typed out : List ℕ) → FileSays g typed out → length out ≤ 8248
 says-short (bad o) typed out s = omega (arith, refused-at-short 8 o, ap length s)
 says-short (got p next) typed out s = shows-short _ _ typed (s .left) (s .answer) out (s .parses) (s .shows)
 

@@ -18,7 +18,7 @@ use Rattle.reader.specs.Parsing.{Columns}
 use Rattle.reader.proofs.Unique.{parse-unique}
 use Rattle.writing.specs.Writing.{Wrote}
 use Rattle.writing.proofs.Writing.{wrote-unique, wrote-length}
-use Rattle.suspicion.specs.Suspicion.{roomy, firstNodes, verdictLine, Shows, TypedSays, TypedSays, TypedLinesOf}
+use Rattle.suspicion.specs.Suspicion.{roomy, firstNodes, verdictLine, Shows, TypedSays, FileSays, TypedLinesOf}
 
 -- one answer has one list of lines
 shows-one : (i : Recording) (typed : List ℕ) (c : Columns) (p : Parsed) (x y : List ℕ) → Shows i typed c p x → Shows i typed c p y → x ≡ y
@@ -29,7 +29,7 @@ shows-one i typed c (Stops o) x y a b = a ∙ sym b
 shows-one i typed c (Unknown o) x y a b = a ∙ sym b
 shows-one i typed c (Refused k) x y a b = a ∙ sym b
 
-says-one : (g : Got Parts) (typed x y : List ℕ) → TypedSays g typed x → TypedSays g typed y → x ≡ y
+says-one : (g : Got Parts) (typed x y : List ℕ) → FileSays g typed x → FileSays g typed y → x ≡ y
 says-one (bad o) typed x y a b = a ∙ sym b
 says-one (got p next) typed x y a b =
     let e = parse-unique _ typed roomy (a .answer) (b .answer) (a .left) (b .left) (a .parses) (b .parses) in

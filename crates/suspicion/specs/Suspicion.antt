@@ -59,12 +59,12 @@ pub record TypedSays (typed names : List ℕ) (i : Recording) (out : List ℕ) :
   pub shows : Shows i typed left answer out
 
 -- a broken file is refused first: the names are the file's
-abbrev pub TypedSays : Got Parts → List ℕ → List ℕ → Type 0
-TypedSays (bad o) typed out = out ≡ refusedAtLine 8 o
-TypedSays (got p next) typed out = TypedSays typed (section nameBytes (p .names)) (recordingOf p) out
+abbrev pub FileSays : Got Parts → List ℕ → List ℕ → Type 0
+FileSays (bad o) typed out = out ≡ refusedAtLine 8 o
+FileSays (got p next) typed out = TypedSays typed (section nameBytes (p .names)) (recordingOf p) out
 
 -- the lines stand at the start of the text, as far as there is room, and the rest of it stays
 pub record TypedLinesOf (typed file old new : List ℕ) (r : ℕ) : Type 0 where
   pub lines : List ℕ
-  pub says : TypedSays (wholeFile file) typed lines
+  pub says : FileSays (wholeFile file) typed lines
   pub wrote : Wrote old 0 lines new r
