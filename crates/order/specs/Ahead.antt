@@ -142,7 +142,7 @@ module _ (g : Layer) where
   unfoldable pub rest : Cursor → List Cand
   rest at = map candidateAt (ahead at)
 
--- where size s begins
+-- "first every kept formula of size s-1": where size s begins
 abbrev pub first : List ℕ → ℕ → Cursor
 first starts s = cursor 0 (cond (ltb 1 s) (getD starts (s - 1) 0) 0) 0 0 false
 

@@ -12,7 +12,8 @@ use Rattle.checks.specs.Refusals.{searchRowsWith}
 use Rattle.search.specs.Search.{Searched}
 use Rattle.out.specs.Out.{Named, wordFrom, written, longShort}
 
--- "out = case (1 found, 2 none, 3 full), size (found, full), tried, kept, and at found the root's code, left, right, size; out[8] = dropped"
+-- the words of `out` (docs/DECISIONS.md): case (1 found, 2 none, 3 full), size (found, full), tried, kept, and at found the root's code, left, right, size;
+-- out[8] = dropped
 abbrev pub searchWords : SearchAnswer → List Named
 searchWords (Found root n) =
     wordFrom 0 1

@@ -61,5 +61,6 @@ module _ (r m : ℕ) (masks words matrices : List ℕ) (code left right : ℕ) w
     pub rows-there : r ≤ length rows
     pub reads : Reads
 
+  -- "A formula's matrix is one word per session"
   abbrev pub RowsAnswer : List ℕ → List ℕ → Bool → Type 0
   RowsAnswer old new b = Told (RowsAsk old) (Filled r old RowIs new) (new ≡ old) b

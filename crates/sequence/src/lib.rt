@@ -21,6 +21,7 @@ pub enum Answer {
 }
 
 impl CharSeq {
+    // "The smallest length, the largest length and the full mask belong to the sequence type as its constants."
     pub const MIN_LENGTH: usize = 0;
 
     pub const MAX_LENGTH: usize = 64;

@@ -7,7 +7,7 @@ use Rattle.summary.specs.declared.values.First.{First}
 use Rattle.summary.specs.declared.values.First.the-variants.{Never, Snapshot}
 use Rattle.summary.specs.declared.values.Summary.{Summary}
 
--- "one blank between"
+-- a blank between (docs/DECISIONS.md)
 abbrev pub blank : List ℕ
 blank = 32 ∷ []
 
@@ -23,11 +23,11 @@ abbrev pub firstText : First → List ℕ
 firstText Never = 45 ∷ []
 firstText (Snapshot p) = decimal p
 
--- ".. the two firsts, count"
+-- "the two firsts .., count"
 abbrev pub summaryText : Summary → List ℕ
 summaryText s = blank ++ (firstText (s .holds) ++ (blank ++ (firstText (s .fails) ++ (blank ++ (decimal (s .count) ++ newline)))))
 
--- "session, place, the two firsts, count"
+-- "session, place, the two firsts .., count"
 abbrev pub placeLine : ℕ → ℕ → Summary → List ℕ
 placeLine j p s = decimal j ++ (blank ++ (decimal p ++ summaryText s))
 

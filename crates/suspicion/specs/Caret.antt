@@ -9,6 +9,6 @@ use Rattle.line.specs.Line.{newline, refusedAtLine}
 abbrev pub caret : List ℕ
 caret = 94 ∷ 10 ∷ []
 
--- "the refusal with its offset under a caret that points at the byte": what was typed, a line with as many spaces as the offset and a caret, and the refusal
+-- the refusal with its offset under a caret that points at the byte: what was typed, a line with as many spaces as the offset and a caret, and the refusal
 abbrev pub pointedLines : List ℕ → ℕ → ℕ → List ℕ
 pointedLines typed at number = (((typed ++ newline) ++ replicate at 32) ++ caret) ++ refusedAtLine number at

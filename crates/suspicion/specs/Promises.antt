@@ -30,7 +30,7 @@ pub record IsTyped (names : List (List ℕ)) (text : List ℕ) (t : Formula) : T
   pub one-tree : (u : Typed) → Reads text u → u ≡ typed names t
   pub one-formula : (u : Formula) → Named (length names) u → Reads text (typed names u) → u ≡ t
 
--- "answers whether the formula separates, or the first session that disagrees, or the refusal with its offset under a caret": of good parts,
+-- it answers whether the formula separates, or the first session that disagrees, or the refusal with its offset under a caret: of good parts,
 -- `separates`: what is typed is a formula, and it separates the sessions;
 -- `session N disagrees`: what is typed is a formula, session N has another mark than it gives, and every session before N agrees;
 -- the caret with 11: the first byte that can't continue a formula; with 13: what is typed is a formula, and this is its first unknown name;

@@ -62,7 +62,7 @@ module _ (r place : ℕ) (matrices rows : List ℕ) where
   abbrev pub noMatrix : Row
   noMatrix = record { number = 3; given = (length matrices < (place + 1) * r) ⊎ (length rows < r) }
 
-  -- "refusing 1 and 3"; a caller that is lent a slice more has a row of number 3 of its own
+  -- 1 and 3 refuse; a caller that is lent a slice more has a row of number 3 of its own
   abbrev pub compareRowsWith : List Row → List Row
   compareRowsWith own = outsideSessions ∷ (own ++ (noMatrix ∷ []))
 

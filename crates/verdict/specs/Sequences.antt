@@ -13,7 +13,7 @@ use Rattle.verdict.specs.Check.{checkRows}
 use Rattle.verdict.specs.declared.Sequenced.{Sequenced}
 use Rattle.verdict.specs.declared.Sequenced.the-variants.{Sequence, NoSession, Refused}
 
--- there is a session j, and s is the sequence there of the formula that the root spells: bit p is set exactly where the formula holds at p
+-- "bit i is snapshot i": there is a session j, and s is the sequence there of the formula that the root spells: bit p is set exactly where the formula holds at p
 pub record SequenceOn (i : Recording) (k : List Node) (root : Node) (j : ℕ) (s : CharSeq) : Type 0 where
   pub there : j < i .sessions
   pub formula : Formula
