@@ -1,5 +1,5 @@
 """The stored examples of run_reports: a reporter written from document 02's prose, position by position, and the examples. From the repository's root it
-writes crates/run_reports/src/main.rt (to be formatted by `rt fmt`) and crates/run_reports/stdout."""
+writes crates/run_reports/stdin and crates/run_reports/stdout."""
 
 def holds(nodes,n,words,node,i,L):
     code,l,r,s=node
@@ -66,152 +66,23 @@ if __name__=='__main__':
     ref("a child's place not below the count, and no text room: 9 before 3",9,root=(1,1,0,2),room=0)
     ref('a listed node with a fault that is not under the root: 9',9,nodes=[P,(16,1,0,1)])
     ref('no text room: 3',3,room=0)
-    def arr(xs,t): return '[' + ', '.join(f'{x}{t}' if i==0 else str(x) for i,x in enumerate(xs)) + ']' if xs else f'[0{t}; 0]'
-    src='''// Runs the report on stored examples: S1's formula, a shared node, listed nodes that are not under the root, empty sessions, length 64, every refusal, and
-// a report of the most bytes. The stored output is made from the prose, position by position (differential/reports.py).
-use formula::kinds::Node;
-use libc::STDOUT_FILENO;
-use report::Reported;
-use rules::kinds::Place;
-use writing::put;
-use writing::put_decimal;
-ghost use Prim.Native.Nat.{_≤_};
-
-fn at_most(n: usize, most: usize) -> usize
-    ensures { λ r. ⌜ r ≤ most ⌝ }
-{
-    if most < n {
-        return most;
-    }
-    n
-}
-
-// `text ..` or `refused ..`, in a line of its own.
-fn put_answer(line: &mut [u8], reported: Reported) -> usize {
-    match reported {
-        Reported::Text(length) => {
-            let a = put(line, 0, b"text ");
-            let b = put_decimal(line, a, length as u64);
-            put(line, b, b"\\n")
-        }
-        Reported::Refused(number) => {
-            let a = put(line, 0, b"refused ");
-            let b = put_decimal(line, a, number as u64);
-            put(line, b, b"\\n")
-        }
-    }
-}
-
-fn show(reported: Reported) {
-    let mut line = [0u8; 40];
-    let n = put_answer(&mut line, reported);
-    io::write_all(STDOUT_FILENO, &line[..at_most(n, 40)]);
-}
-
-// The report into a text that is full of dots: its name, the answer, and then the whole text.
-fn example(
-    name: &[u8],
-    r: usize,
-    m: usize,
-    marks: &[u8],
-    lengths: &[u8],
-    words: &[u64],
-    codes: &[u8],
-    lefts: &[u16],
-    rights: &[u16],
-    sizes: &[u8],
-    root: Node,
-    text: &mut [u8],
-) {
-    let reported = report::report(
-        r,
-        m,
-        marks,
-        lengths,
-        words,
-        codes,
-        lefts,
-        rights,
-        sizes,
-        root,
-        text,
-    );
-    io::write_all(STDOUT_FILENO, name);
-    show(reported);
-    io::write_all(STDOUT_FILENO, text);
-    io::write_all(STDOUT_FILENO, b"\\n");
-}
-
-// 32 sessions whose first half holds p, and 30 negations of it under the root, at places from 1,000 on: as long as a report can be.
-fn longest(text: &mut [u8]) {
-    let mut codes = [16u8; 1030];
-    let mut lefts = [0u16; 1030];
-    let rights = [0u16; 1030];
-    let mut sizes = [1u8; 1030];
-    let mut i: u16 = 1001;
-    while i < 1030 {
-        codes[i as usize] = 0;
-        lefts[i as usize] = i - 1;
-        sizes[i as usize] = (i - 999) as u8;
-        i += 1;
-    }
-    let root = Node {
-        code: 0,
-        left: Place(1029),
-        right: Place(0),
-        size: 31,
-    };
-    let reported = report::report(
-        32,
-        1,
-        &[1u8; 32],
-        &[64u8; 32],
-        &[0xffff_ffffu64; 32],
-        &codes,
-        &lefts,
-        &rights,
-        &sizes,
-        root,
-        text,
-    );
-    show(reported);
-}
-
-'''
-    main='fn main() {\n'
+    def line(name,r,m,marks,lengths,words,nodes,root,room):
+        lists=[[r,m],marks,lengths,words]+[[x[k] for x in nodes] for k in range(4)]+[root,[room]]
+        return '/'.join([name]+[' '.join(map(str,xs)) for xs in lists])+'\n'
+    asked=''
     exp=''
-    for n,(name,r,m,marks,lengths,words,nodes,root,room,t,expect) in enumerate(ex):
-        src+=f'''fn example_{n}() {{
-    example(
-        b"{name}\\n",
-        {r},
-        {m},
-        &{arr(marks,'u8')},
-        &{arr(lengths,'u8')},
-        &{arr(words,'u64')},
-        &{arr([x[0] for x in nodes],'u8')},
-        &{arr([x[1] for x in nodes],'u16')},
-        &{arr([x[2] for x in nodes],'u16')},
-        &{arr([x[3] for x in nodes],'u8')},
-        Node {{
-            code: {root[0]},
-            left: Place({root[1]}),
-            right: Place({root[2]}),
-            size: {root[3]},
-        }},
-        &mut [b'.'; {room}],
-    );
-}}
-
-'''
-        main+=f'    example_{n}();\n'
+    for name,r,m,marks,lengths,words,nodes,root,room,t,expect in ex:
+        asked+=line(name,r,m,marks,lengths,words,nodes,root,room)
         exp+=name+'\n'
         if expect: exp+=f'refused {expect}\n'+'.'*room+'\n'
         elif room<len(t): exp+='refused 3\n'+'.'*room+'\n'
         else: exp+=f'text {len(t)}\n'+t+'.'*(room-len(t))+'\n'
-    main+='    longest(&mut [0u8; report::LONGEST]);\n    longest(&mut [0u8; report::LONGEST - 1]);\n}\n'
-    long_=report([(64,[0xffffffff])]*32,[P]*1001+[(0,i-1,0,i-999) for i in range(1001,1030)],(0,1029,0,31))
-    assert len(long_)==15562,len(long_)
+    # 32 sessions whose first half holds p, and 30 negations of it under the root, at places from 1,000 on: as long as a report can be
+    chain=[P]*1001+[(0,i-1,0,i-999) for i in range(1001,1030)]
+    top=(0,1029,0,31)
+    longest=report([(64,[0xffffffff])]*32,chain,top)
+    assert len(longest)==15562,len(longest)
+    for room in (15562,15561): asked+=line('',32,1,[1]*32,[64]*32,[0xffffffff]*32,chain,top,room)
     exp+='text 15562\nrefused 3\n'
-    open('crates/run_reports/src/main.rt','w').write(src+main)
+    open('crates/run_reports/stdin','w').write(asked)
     open('crates/run_reports/stdout','w').write(exp)

@@ -3,7 +3,7 @@
  *
  * Link with target/staticlib/libscarfpylon.a, which `rt staticlib scarfpylon` writes (x86-64 Linux). The library keeps nothing between calls, takes
  * no memory but the stack (scarfpylon_parse up to 1.5 MB of it, for a text of 4,096 brackets), and of the C library needs only memcpy and memset. Every
- * function is defined for every input: what it returns and what it writes are proved (crates/scarfpylon). examples/c/s1.c is a whole program.
+ * function is defined for every input: what it returns and what it writes are proved (crates/scarfpylon and crates/out_*). examples/c/s1.c is a whole program.
  *
  * WHAT IT WORKS ON
  *
@@ -38,7 +38,7 @@
  * gives, in the order in which it tests for them: the first that applies is given, and it is given in no other case.
  *
  *      1   the number of sessions is not 1 to 32, or that of propositions not 1 to 16
- *      2   the bound is not 1 to 31, the room not 1 to 4,096, or the constants mark not 0 or 1
+ *      2   the bound is not 1 to 31, the room not 1 to 4,096, the constants mark not 0 or 1, or a budget above 1,000,000
  *      3   a slice is shorter than the function asks. Where it asks for a length, a longer slice is good, and what is beyond is not looked at
  *      4   a length above 64
  *      5   a bit set at or above the length; the operators take bit 0 at length 0, where it says whether an empty session accepts
@@ -50,10 +50,11 @@
  *     11   a text is no formula; 256 times the offset of the first byte that can't continue one is added, the text's length if it ends early
  *     12   a text of more than 4,096 bytes, or a formula of a size above 31 or with more than 64 brackets open at once
  *     13   a name that is not among the names; 256 times its offset is added
+ *     14   the state of a search in slices has a number out of range (scarfpylon_resume says which)
  *
  * So `result & 255` is the number, and for numbers 8, 11 and 13 `result >> 8` is the offset.
  *
- * Answers are written to the last slice, `out`, which has at least 8 words, at the search 16; a shorter one is refused with 3. A function names the
+ * Answers are written to the last slice, `out`, which has at least 8 words, at the search and scarfpylon_resume 16; a shorter one is refused with 3. A function names the
  * words that it writes; the others stay as they were.
  */
 #ifndef SCARFPYLON_H
@@ -111,6 +112,59 @@ uint64_t scarfpylon_search(size_t sessions, size_t propositions, size_t bound, s
                            uint8_t *codes, size_t codes_count, uint16_t *lefts, size_t lefts_count,
                            uint16_t *rights, size_t rights_count, uint8_t *sizes, size_t sizes_count,
                            uint64_t *matrices, size_t matrices_count,
+                           uint64_t *out, size_t out_count);
+
+/*
+ * The search in slices: a call goes on from the state of the call before, for at most `budget` candidates. A state is 16 words, which the caller keeps
+ * between calls, together with the nodes and matrices written so far.
+ *
+ *     state[0]   the size that is being gone through, 1 to the bound
+ *     state[1]   how many formulas are kept        state[2]   how many candidates were tried        state[13]  how many were dropped
+ *     state[3], state[4]  the left and the right place of the next candidate, each at most state[1]
+ *     state[5]   the position of its operator in its list: at size 1 in the list of leaves (the propositions, then false and true if `constants` is 1), else
+ *                in the unary list if state[6] is 0 and in the binary one if not; at most the list's length
+ *     state[6]   the size of the left child of a binary candidate, 0 before those
+ *     state[7]   1 where an operator that doesn't commute has been tried in one order and not yet in the other, else 0
+ *     state[8]   0 while there is more to try; at the end 1 found, 2 none, 3 the room is full
+ *     state[9] to state[12]  found: the root's code, left, right and size; else 0
+ *     state[14], state[15]  0
+ *
+ * A caller reads from it what it shows between two turns: size, tried, kept, dropped.
+ */
+
+/*
+ * Writes a fresh state, of which nothing is tried, into the first 16 words of `state`.
+ *
+ * Refuses with 3 (`state` below 16 words).
+ */
+uint64_t scarfpylon_fresh(uint64_t *state, size_t state_count);
+
+/*
+ * Goes on from a state. Everything up to `matrices` is as at the search and has to be the same in each call; the slices of the room come back as the call
+ * before left them, and the first 16 words of `state` too.
+ *
+ * Tries `budget` candidates, 0 to 1,000,000, or fewer if the walk ends before. Writes the kept formulas as the search does, the state after the call into the
+ * first 16 words of `state`, and
+ *     out[0]  4 more to try; 1, 2, 3 at the end, as at the search
+ *     out[1] to out[8]  at the end as at the search; else only out[2], out[3] and out[8]: tried, kept and dropped so far
+ * Where the last candidate is tried the same call says how the walk ended. Any cutting into calls ends as the search does, with the same words in `out` and the
+ * same slices; a call after the end repeats it, and a budget of 0 changes nothing.
+ * Refuses with 1, 2 (the budget too), 3 (what is read, the room, `state`, `out`), 4, 5, 6, 7, then 14: state[1] above `room` or above state[2], state[0] not 1 to
+ * `bound`, state[3] or state[4] above state[1], or state[5] above the length of its list. All input is tested in each call.
+ *
+ * A state that no call wrote, or a room that was changed: if it is not refused, the call tries at most `budget` candidates, reads and writes only what is lent,
+ * and leaves a state that is not refused either; nothing more is promised. No value of the words 6 to 15 is refused. Any number but 0 in state[7] is a 1, one
+ * above 3 in state[8] is a 0, of state[9] and state[12] the lowest 8 bits count, of state[10] and state[11] the lowest 16, and state[14] and state[15] are not
+ * looked at.
+ */
+uint64_t scarfpylon_resume(size_t sessions, size_t propositions, size_t bound, size_t room, uint8_t constants,
+                           const uint8_t *marks, size_t marks_count, const uint8_t *lengths, size_t lengths_count,
+                           const uint64_t *words, size_t words_count,
+                           const uint8_t *unary, size_t unary_count, const uint8_t *binary, size_t binary_count,
+                           uint8_t *codes, size_t codes_count, uint16_t *lefts, size_t lefts_count,
+                           uint16_t *rights, size_t rights_count, uint8_t *sizes, size_t sizes_count,
+                           uint64_t *matrices, size_t matrices_count,
+                           uint64_t budget, uint64_t *state, size_t state_count,
                            uint64_t *out, size_t out_count);
 
 /*

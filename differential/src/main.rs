@@ -36,6 +36,8 @@ const USAGE: &str = "differential: one of
   searches [COUNT]         whole searches: every small one and random ones, against the Rust's own search (default: 200000 random ones)
   searches --short         the same with fewer of both
   searches --archive ..    the same through the archive that ships, in a program of its own (default: 2000 random ones)
+  slices [COUNT]           searches cut into turns at random, against the same, and states and rooms that no call handed out (default: 100000 of each);
+                           --short and --archive as above
   calls [ROUNDS]           operators, check, print and read of the C boundary (default: 20 rounds); with --archive before it, as above
   parses [COUNT]           formulas read from text, against a reader written from document 02's prose: every short text and COUNT random ones
                            (default: 100000); with --archive before it, as above, the random ones alone (default: 2000)
@@ -44,7 +46,7 @@ const USAGE: &str = "differential: one of
   speed --beside FILE      how fast it runs beside an earlier library of ours (an absolute path); with the same profile
   until                    how fast `U` is in each form that was tried; only with --profile speed
   collision                an input on which the Rust's published hash loses a formula (with --features published-hash; without, exact keys)
-  sample                   writes the stored answers anew: crates/run_replay/stdin and stdout, crates/run_settled/stdout, crates/run_searches/src/sample.rt and stdout
+  sample                   writes the stored answers anew: crates/run_replay/stdin and stdout, crates/run_settled/stdout, crates/run_searches/stdin and stdout
   findings                 what the Rust does outside document 01's domain";
 
 fn main() {
@@ -68,6 +70,7 @@ fn main() {
             Err(_) => usage(),
         },
         ["searches", rest @ ..] => searches(rest),
+        ["slices", rest @ ..] => slices(rest),
         ["calls", rest @ ..] => calls(rest),
         ["parses", rest @ ..] => parses(rest),
         ["collision"] => search::collision(),
@@ -93,6 +96,20 @@ fn searches(words: &[&str]) -> i32 {
         _ => None,
     };
     extent.map_or_else(usage, |extent| search::run(way, extent))
+}
+
+fn slices(words: &[&str]) -> i32 {
+    let (way, most, rest) = match words {
+        ["--archive", rest @ ..] => (Way::Served, 500, rest),
+        rest => (Way::Linked, 100_000, rest),
+    };
+    let count = match rest {
+        [] => Some(most),
+        ["--short"] => Some(300),
+        [count] => count.parse().ok(),
+        _ => None,
+    };
+    count.map_or_else(usage, |count| search::slices(way, count))
 }
 
 fn calls(words: &[&str]) -> i32 {

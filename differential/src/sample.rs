@@ -71,19 +71,19 @@ fn sample() -> Sample {
             ("crates/run_replay/stdin", stdin),
             ("crates/run_replay/stdout", stdout),
             ("crates/run_settled/stdout", settled::lines()),
-            ("crates/run_searches/src/sample.rt", stored::module()),
-            ("crates/run_searches/stdout", searches()),
+            ("crates/run_searches/stdin", searches("stdin", stored::questions())),
+            ("crates/run_searches/stdout", searches("stdout", stored::lines())),
         ],
         from_rust: queries.len(),
         from_01: refusals.len(),
     }
 }
 
-/// What `searches` prints: its own lines, which come from document 01's prose and stay, and then the Rust's.
-fn searches() -> String {
-    let stands = fs::read_to_string(root().join("crates/run_searches/stdout")).unwrap_or_default();
+/// What `run_searches` reads or prints: its own lines, which come from document 01's prose and stay, and then the sample's.
+fn searches(file: &str, sampled: String) -> String {
+    let stands = fs::read_to_string(root().join("crates/run_searches").join(file)).unwrap_or_default();
     let own = stands.lines().filter(|line| !line.starts_with("sample "));
-    own.map(|line| line.to_string() + "\n").collect::<String>() + &stored::lines()
+    own.map(|line| line.to_string() + "\n").collect::<String>() + &sampled
 }
 
 /// Whether the stored files are what would be written now.

@@ -1,6 +1,6 @@
 // What a search refuses: the tests of session data, with its own numbers, rooms and codes among them.
-use sequence::operators::Group;
-use sequence::operators::operator_of;
+use operators::Group;
+use operators::operator_of;
 ghost use Prim.Native.Nat.{_≤_};
 ghost use lib.ListN.{length};
 ghost use Rattle.rules.specs.Limits.{mostSessions, mostRoom};

@@ -23,12 +23,12 @@ use Rattle.formula.specs.Nodes.{Node}
 use Rattle.formula.specs.declared.kinds.Node as declared
 use Rattle.formula.specs.Kinds.{nodeOf}
 use Rattle.formula.specs.Rule.{Broken, brokenList}
-use Rattle.formula.specs.Check.{checkRows}
+use Rattle.verdict.specs.Check.{checkRows}
 use Rattle.walk.specs.Walk.{found, ended}
 use Rattle.walk.specs.Input.{Input, search}
-use Rattle.walk.specs.Promises.{Table, nodes}
+use Rattle.walk.specs.Kept.{Table, nodes}
 use Rattle.writing.specs.Writing.{Wrote}
-use Rattle.search.specs.declared.counts.Counts.{Counts}
+use Rattle.candidate.specs.declared.counts.Counts.{Counts}
 use Rattle.search.specs.declared.SearchAnswer.{SearchAnswer}
 use Rattle.search.specs.declared.SearchAnswer.the-variants.{Found, None, Full, Refused}
 use Rattle.search.specs.Table.{Cols}

@@ -11,7 +11,7 @@ use Rattle.file.specs.Offence.{wholeFile}
 use Rattle.formula.specs.Nodes.{Node}
 use Rattle.walk.specs.Walk.{Ending, found, none, full, Tally, ended}
 use Rattle.walk.specs.Input.{search}
-use Rattle.walk.specs.Promises.{Table, nodes}
+use Rattle.walk.specs.Kept.{Table, nodes}
 use Rattle.walk.proofs.Promises.{walk-ends}
 use Rattle.writing.specs.Writing.{Wrote}
 use Rattle.writing.proofs.Writing.{wrote-unique, wrote-length}

@@ -9,7 +9,7 @@ use Rattle.file.specs.Offence.{wholeFile}
 use Rattle.formula.specs.Nodes.{Node}
 use Rattle.walk.specs.Walk.{Tally, found, ended}
 use Rattle.walk.specs.Input.{Input, search}
-use Rattle.walk.specs.Promises.{Table, nodes}
+use Rattle.walk.specs.Kept.{Table, nodes}
 use Rattle.writing.specs.Writing.{Wrote}
 use Rattle.lines.specs.Bench.{inputOf, Says}
 use Rattle.report.specs.Lines.{ReportText}
@@ -22,7 +22,7 @@ benchRoom = 200
 abbrev pub Finds : Input → Node → Table → Type 0
 Finds i root k = (n : Tally) × (search i ≡ ended (found root) k n)
 
--- "where a formula is found its whole output is the report, else the bench's first line": what the bench says where none is found is that line alone
+-- where a formula is found its whole output is the report, else the bench's first line (docs/DECISIONS.md): what the bench says where none is found is that line alone
 pub record Told (i : Input) (bench : List ℕ → Type 0) (out : List ℕ) : Type 0 where
   pub report : (root : Node) (k : Table) → Finds i root k → ReportText (i .recording) (nodes k) root out
   pub else : ((root : Node) (k : Table) → Finds i root k → ⊥) → bench out

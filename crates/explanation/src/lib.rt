@@ -8,7 +8,7 @@ ghost use lib.ListN.{length};
 ghost use Rattle.rules.specs.Refusals.{Decided};
 ghost use Rattle.session.specs.Recording.{recording};
 ghost use Rattle.formula.specs.Kinds.{nodeOf, nodes};
-ghost use Rattle.formula.specs.Check.{checkRows};
+ghost use Rattle.verdict.specs.Check.{checkRows};
 ghost use Rattle.walk.specs.Input.{inputOf};
 ghost use Rattle.explanation.specs.Explanation.{ExplanationOf};
 ghost use Rattle.explanation.specs.Inner.{Stands, OfGood, BenchSays, ToldOf, ReportOf};

@@ -1,9 +1,4 @@
-pub mod Filling
+-- An array in a local of a walked function; uniqueness.
 pub mod LocalArray
-pub mod Fields
-pub mod Cut
-pub mod Seen
 pub mod Unique
-pub mod Kept
-pub mod Placed
 pub mod OneParse

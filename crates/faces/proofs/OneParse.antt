@@ -7,7 +7,7 @@ use Rattle.formula.specs.declared.kinds.Node.{Node}
 use Rattle.reader.specs.declared.Parsed.{Parsed}
 use Rattle.reader.specs.Parsing.{saidParsed, Columns, Parses}
 use Rattle.reader.proofs.Unique.{parse-unique}
-use Rattle.faces.specs.Typed.{fields}
+use Rattle.nodes_out.specs.Columns.{fields}
 use Rattle.faces.proofs.Unique.{one-list}
 
 -- the answer, and the nodes

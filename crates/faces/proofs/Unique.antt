@@ -7,17 +7,18 @@ use Rattle.formula.specs.Nodes as walk
 use Rattle.session.specs.Recording.{Recording}
 use Rattle.walk.specs.Input.{Input}
 use Rattle.formula.specs.declared.kinds.Node.{Node}
-use Rattle.formula.specs.declared.Verdict.{Verdict}
+use Rattle.verdict.specs.declared.Verdict.{Verdict}
 use Rattle.text.specs.declared.Printed.{Printed}
-use Rattle.formula.specs.Check.{saidVerdict, CheckAnswer}
+use Rattle.verdict.specs.Check.{saidVerdict, CheckAnswer}
 use Rattle.text.specs.Print.{saidPrinted, Prints}
-use Rattle.formula.proofs.Unique.{check-unique}
+use Rattle.verdict.proofs.Unique.{check-unique}
 use Rattle.text.proofs.Unique.{print-unique}
 use Rattle.search.specs.declared.SearchAnswer.{SearchAnswer}
-use Rattle.search.specs.Table.{Cols}
+use Rattle.table.specs.Slices.{Cols}
 use Rattle.search.specs.Search.{Searched}
 use Rattle.search.proofs.Promises.{search-unique}
-use Rattle.faces.specs.Lists.{plain, codesOf, leftsOf, rightsOf, sizesOf, columns}
+use Rattle.nodes_in.specs.Lists.{plain, codesOf, leftsOf, rightsOf, sizesOf}
+use Rattle.nodes_out.specs.Columns.{columns}
 
 pub check-face-unique : (i : Recording) (ns : List Node) (root : walk.Node) (v w : Verdict)
     → CheckAnswer i (plain ns) root (saidVerdict v) → CheckAnswer i (plain ns) root (saidVerdict w) → v ≡ w

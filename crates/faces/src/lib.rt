@@ -1,23 +1,22 @@
 // Faces over lent lists of nodes: check, print, search and parse with a slice of `Node` structs where the core has four slices of numbers. Thin functions:
-// they copy nodes (`lists`, `parsing`) and hand them on to the work on numbers (`columns`, `parsing`).
-mod columns;
+// they copy nodes (`lists`, `parsing`) and hand them on by value to the crates that work on numbers (nodes_in, nodes_out).
 mod lists;
 mod parsing;
 
-use formula::Verdict;
 use formula::kinds::Node;
 use reader::Parsed;
 use search::SearchAnswer;
 use text::Printed;
+use verdict::Verdict;
 ghost use Rattle.formula.specs.Kinds.{nodeOf};
-ghost use Rattle.formula.specs.Check.{saidVerdict, CheckAnswer};
+ghost use Rattle.verdict.specs.Check.{saidVerdict, CheckAnswer};
 ghost use Rattle.session.specs.Recording.{recording};
 ghost use Rattle.text.specs.Print.{saidPrinted, Prints};
 ghost use Rattle.reader.specs.Parsing.{saidParsed, Parses};
 ghost use Rattle.search.specs.Search.{Searched};
 ghost use Rattle.walk.specs.Input.{inputOf};
-ghost use Rattle.faces.specs.Lists.{plain, columns};
-ghost use Rattle.faces.specs.Typed.{fields};
+ghost use Rattle.nodes_in.specs.Lists.{plain};
+ghost use Rattle.nodes_out.specs.Columns.{columns, fields};
 
 // The analyst's check of a node list, whoever wrote it.
 pub fn check(
@@ -32,7 +31,7 @@ pub fn check(
     ensures { λ v. ⌜ CheckAnswer (recording r m (now (marks .entry)) (now (lengths .entry)) (now (words .entry))) (plain (now (nodes .entry))) (nodeOf root) (saidVerdict v) ⌝ }
 {
     let list = lists::copied(nodes);
-    columns::check(r, m, marks, lengths, words, list, nodes.len(), root)
+    nodes_in::check(r, m, marks, lengths, words, list, nodes.len(), root)
 }
 
 // The text of the root's formula, at the start of the lent room.
@@ -40,7 +39,7 @@ pub fn print(names: &[u8], nodes: &[Node], root: Node, room: &mut [u8]) -> Print
     ensures { λ p. ⌜ Prints (now (names .entry)) (plain (now (nodes .entry))) (nodeOf root) (now (room .entry)) (saidPrinted p) (now (room .exit)) ⌝ }
 {
     let list = lists::copied(nodes);
-    columns::print(names, list, nodes.len(), root, room)
+    nodes_in::print(names, list, nodes.len(), root, room)
 }
 
 // The search, with the kept formulas in a lent list of nodes.
@@ -64,7 +63,7 @@ pub fn search(
         answer
         (columns (now (nodes .exit)) (now (matrices .exit))) ⌝ }
 {
-    let done = columns::search(
+    let done = nodes_out::search(
         r,
         m,
         bound,
@@ -85,6 +84,6 @@ pub fn search(
 pub fn parse(names: &[u8], text: &[u8], nodes: &mut [Node]) -> Parsed
     ensures { λ p. ⌜ Parses (now (names .entry)) (now (text .entry)) (fields (now (nodes .entry))) (fields (now (nodes .exit))) (saidParsed p) ⌝ }
 {
-    let read = parsing::read_text(names, text, nodes.len());
+    let read = nodes_out::parse(names, text, nodes.len());
     parsing::put(read, nodes)
 }

@@ -1,31 +1,16 @@
 // Nodes from a lent slice into an array, and back: the functions that touch a slice of structs, and no more.
 use formula::kinds::Node;
+use nodes_in::SEEN;
+use nodes_in::count_of;
+use nodes_out::Done;
+use nodes_out::ROOM;
 use rules::kinds::Place;
 use search::SearchAnswer;
 ghost use mathlib.Core.Path.{_≡_};
-ghost use Prim.Native.Nat.{min, _≤_};
+ghost use Prim.Native.Nat.{_≤_};
 ghost use lib.ListN.{length};
-ghost use Rattle.faces.specs.Inner.{seen, Copied, putOver};
-
-// As many nodes as the check and printing look at: one more than a list may have.
-pub(crate) const SEEN: usize = rules::ROOM + 1;
-
-// The largest room.
-pub(crate) const ROOM: usize = rules::ROOM;
-
-// What a search leaves: its answer, and the kept nodes at the start of an array.
-pub(crate) struct Done {
-    pub(crate) answer: SearchAnswer,
-    pub(crate) nodes: [Node; ROOM],
-    pub(crate) kept: usize,
-}
-
-// As many of a list's nodes as are looked at.
-pub(crate) fn count_of(length: usize) -> usize
-    ensures { λ r. ⌜ r ≡ min length seen ⌝ }
-{
-    if length < SEEN { length } else { SEEN }
-}
+ghost use Rattle.nodes_in.specs.Arrays.{seen, Copied};
+ghost use Rattle.nodes_out.specs.Arrays.{putOver};
 
 fn blank() -> [Node; SEEN]
     ensures { λ r. ⌜ length r ≡ seen ⌝ }

@@ -18,9 +18,9 @@ use Rattle.names.specs.Names.{nameLength, letter, name, isTaken, notTaken, name
 use Rattle.names.specs.Reserved.{reserved}
 use Rattle.reading.specs.Reading.{Got, got, bad, Reader, andThen, each, byte, within, counted, isIn, atEnd}
 use Rattle.reading.proofs.Readers.{got-bad}
-use Rattle.file.specs.Numbers.{propositions, sessions, bound}
+use Rattle.sections.specs.Numbers.{propositions, fileSessions, bound}
 use Rattle.file.specs.Format.{Parts}
-use Rattle.file.specs.Offence.{number, word, session, allSessions, isUnary, isBinary, code, codes, settings, parts, wholeFile}
+use Rattle.file.specs.Offence.{number, eightBytes, session, allSessions, isUnary, isBinary, code, codes, settings, parts, wholeFile}
 use Rattle.file.specs.Promises.{StaysRefused, longestItem, RefusedAlike}
 use Rattle.file.proofs.Prefix.{same-byte, same-name, same-word}
 
@@ -80,20 +80,20 @@ module _ (Gone Out : ℕ → Type 0) where
         codes-alike : (group : ℕ → Bool) → Alike (codes group f) (codes group g)
         codes-alike group = counted-alike 0 255 (code group) (λ before. bytes _)
 
-        module _ (names : (before : List (List ℕ)) → Alike (name before f) (name before g)) (words : (n : ℕ) → Alike (word n f) (word n g)) where
+        module _ (names : (before : List (List ℕ)) → Alike (name before f) (name before g)) (words : (n : ℕ) → Alike (eightBytes n f) (eightBytes n g)) where
           session-alike : (m : ℕ) → Alike (session m f) (session m g)
           unfolding session
           session-alike m =
               then-alike (byte (within 0 1) f) (byte (within 0 1) g) _ _ (bytes (within 0 1)) λ mark.
               then-alike (byte (within 0 width) f) (byte (within 0 width) g) _ _ (bytes (within 0 width)) λ n.
-              then-alike (each (λ _. word n) m [] f) (each (λ _. word n) m [] g) _ _ (each-alike (λ _. word n) (λ _. words n) m []) λ ws.
+              then-alike (each (λ _. eightBytes n) m [] f) (each (λ _. eightBytes n) m [] g) _ _ (each-alike (λ _. eightBytes n) (λ _. words n) m []) λ ws.
               got-alike (record { mark = mark; length = n; words = ws })
 
           parts-alike : Alike (parts f) (parts g)
           unfolding parts
           parts-alike =
               then-alike (namesUpTo propositions f) (namesUpTo propositions g) _ _ (counted-alike 1 propositions name names) λ ns.
-              then-alike (allSessions (length ns) f) (allSessions (length ns) g) _ _ (counted-alike 1 sessions (λ _. session (length ns)) (λ _. session-alike (length ns))) λ ss.
+              then-alike (allSessions (length ns) f) (allSessions (length ns) g) _ _ (counted-alike 1 fileSessions (λ _. session (length ns)) (λ _. session-alike (length ns))) λ ss.
               then-alike (codes isUnary f) (codes isUnary g) _ _ (codes-alike isUnary) λ us.
               then-alike (codes isBinary f) (codes isBinary g) _ _ (codes-alike isBinary) λ bs.
               then-alike (settings f) (settings g) _ _ settings-alike λ s.
@@ -148,8 +148,8 @@ module _ (f g : List ℕ) (more : length f ≤ length g) (agree : take (length f
       go at (got letters n) l = absurd l
       go at (bad b) l = l
 
-  word-on : (n : ℕ) → Alike Never AtEnd (word n f) (word n g)
-  unfolding word
+  word-on : (n : ℕ) → Alike Never AtEnd (eightBytes n f) (eightBytes n g)
+  unfolding eightBytes
   word-on n = record {
     left = λ at h. absurd h;
     same = λ at _. elim (decLe (at + 8) (length f)) [
@@ -212,8 +212,8 @@ module _ (f g : List ℕ) (o : ℕ) (in-f : o + longestItem ≤ length f) (in-g 
       go at h (got letters n) l = ends at h letters n l (isTaken before letters)
       go at h (bad b) l = l
 
-  word-near : (n : ℕ) → Alike Past Past (word n f) (word n g)
-  unfolding word
+  word-near : (n : ℕ) → Alike Past Past (eightBytes n f) (eightBytes n g)
+  unfolding eightBytes
   word-near n = record {
     left = λ at h. go at h (leb (at + 8) (length f)) (ltb (number (take 8 (drop at f))) (2 ^ n));
     same = λ at h. inl (same-word f g (o + longestItem) in-f in-g agree n at (omega (arith, upto h)));

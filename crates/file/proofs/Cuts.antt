@@ -13,11 +13,11 @@ use lib.Dec.{ltb, leb}
 use lib.ListN.{length, getD, take, drop, length-take, length-append}
 use lib.Seq.{take-nil, take-take, getD-take, drop-append-seam}
 use Rattle.words.specs.Word.{width}
-use Rattle.file.specs.Numbers.{sessions, propositions, bound}
+use Rattle.sections.specs.Numbers.{fileSessions, propositions, bound}
 use Rattle.names.specs.Names.{nameLength, letter, name, isTaken, notTaken, namesUpTo}
-use Rattle.file.specs.Format.{Session, Parts, fileBytes, Good}
+use Rattle.file.specs.Format.{FileSession, Parts, fileBytes, Good}
 use Rattle.reading.specs.Reading.{got, bad, Reader, andThen, each, byte, within, counted, atEnd}
-use Rattle.file.specs.Offence.{number, word, session, allSessions, isUnary, isBinary, code, codes, Settings, settings, parts, wholeFile}
+use Rattle.file.specs.Offence.{number, eightBytes, session, allSessions, isUnary, isBinary, code, codes, Settings, settings, parts, wholeFile}
 use Rattle.reading.proofs.Readers.{got-bad, got-next, in-turn, byte-sound}
 use Rattle.reading.proofs.Steps.{byte-next}
 use Rattle.reading.proofs.Spans.{Spans}
@@ -32,10 +32,10 @@ drop-take (suc n) (suc k) (a ∷ l) = let z : suc k - suc n ≡ k - n = omega ar
 
 -- ---- what is left to read of a session, of the settings and of a file, from each item on
 
-abbrev from-words : ℕ → ℕ → ℕ → Reader Session
-from-words m mark n f b = andThen (each (λ _. word n) m [] f b) (λ words next. got (record { mark = mark; length = n; words = words }) next)
+abbrev from-words : ℕ → ℕ → ℕ → Reader FileSession
+from-words m mark n f b = andThen (each (λ _. eightBytes n) m [] f b) (λ words next. got (record { mark = mark; length = n; words = words }) next)
 
-abbrev from-length : ℕ → ℕ → Reader Session
+abbrev from-length : ℕ → ℕ → Reader FileSession
 from-length m mark f a = andThen (byte (within 0 width) f a) (λ n b. from-words m mark n f b)
 
 abbrev from-bound : ℕ → Reader Settings
@@ -44,16 +44,16 @@ from-bound constants f b = andThen (byte (within 1 bound) f b) (λ bound next. g
 abbrev from-mark : Reader Settings
 from-mark f a = andThen (byte (within 0 1) f a) (λ constants b. from-bound constants f b)
 
-abbrev all : List (List ℕ) → List Session → List ℕ → List ℕ → Settings → Parts
+abbrev all : List (List ℕ) → List FileSession → List ℕ → List ℕ → Settings → Parts
 all ns ss us bs s = record { names = ns; sessions = ss; unary = us; binary = bs; constants = s .constants; bound = s .bound }
 
-abbrev from-settings : List (List ℕ) → List Session → List ℕ → List ℕ → Reader Parts
+abbrev from-settings : List (List ℕ) → List FileSession → List ℕ → List ℕ → Reader Parts
 from-settings ns ss us bs f d = andThen (settings f d) (λ s next. got (all ns ss us bs s) next)
 
-abbrev from-binary : List (List ℕ) → List Session → List ℕ → Reader Parts
+abbrev from-binary : List (List ℕ) → List FileSession → List ℕ → Reader Parts
 from-binary ns ss us f c = andThen (codes isBinary f c) (λ bs d. from-settings ns ss us bs f d)
 
-abbrev from-unary : List (List ℕ) → List Session → Reader Parts
+abbrev from-unary : List (List ℕ) → List FileSession → Reader Parts
 from-unary ns ss f b = andThen (codes isUnary f b) (λ us c. from-binary ns ss us f c)
 
 abbrev from-sessions : List (List ℕ) → Reader Parts
@@ -116,15 +116,17 @@ module _ (file : List ℕ) (k : ℕ) (short : k ≤ length file) where
       same letters n true q = absurd (got-bad (sym q))
       same letters n false q = got-next q
 
-  cut-word : (n : ℕ) → Cut (word n)
-  unfolding word
+  cut-word : (n : ℕ) → Cut (eightBytes n)
+  unfolding eightBytes
   cut-word n at w next e = go (leb (at + 8) (length file)) (ltb (number (take 8 (drop at file))) (2 ^ n)) refl refl e
     where
       go : (p q : Bool) → leb (at + 8) (length file) ≡ p → ltb (number (take 8 (drop at file))) (2 ^ n) ≡ q
           → cond p (cond q (got (number (take 8 (drop at file))) (at + 8)) (bad at)) (bad (length file)) ≡ got w next
           → (at ≤ next)
-          × (next ≤ k → cond (leb (at + 8) (length front)) (cond (ltb (number (take 8 (drop at front))) (2 ^ n)) (got (number (take 8 (drop at front))) (at + 8)) (bad at)) (bad (length front)) ≡ got w next)
-          × (at ≤ k → k < next → cond (leb (at + 8) (length front)) (cond (ltb (number (take 8 (drop at front))) (2 ^ n)) (got (number (take 8 (drop at front))) (at + 8)) (bad at)) (bad (length front)) ≡ bad k)
+          × (next ≤ k → cond (leb (at + 8) (length front)) (cond (ltb (number (take 8 (drop at front))) (2 ^ n)) (got (number (take 8 (drop at front))) (at + 8)) (bad at))
+          (bad (length front)) ≡ got w next)
+          × (at ≤ k → k < next → cond (leb (at + 8) (length front)) (cond (ltb (number (take 8 (drop at front))) (2 ^ n)) (got (number (take 8 (drop at front))) (at + 8)) (bad at))
+          (bad (length front)) ≡ bad k)
       go true true h t g =
           let m : at + 8 ≡ next = got-next g in (
             omega arith,
@@ -142,7 +144,7 @@ module _ (file : List ℕ) (k : ℕ) (short : k ≤ length file) where
   cut-session m =
       cut-then (byte (within 0 1)) (from-length m) (cut-byte (within 0 1)) λ mark.
       cut-then (byte (within 0 width)) (from-words m mark) (cut-byte (within 0 width)) λ n.
-      cut-then (each (λ _. word n) m []) (λ words _ next. got (record { mark = mark; length = n; words = words }) next) (cut-each (λ _. word n) (λ _. cut-word n) m []) λ words.
+      cut-then (each (λ _. eightBytes n) m []) (λ words _ next. got (record { mark = mark; length = n; words = words }) next) (cut-each (λ _. eightBytes n) (λ _. cut-word n) m []) λ words.
       cut-done (record { mark = mark; length = n; words = words })
 
   cut-settings : Cut settings
@@ -157,7 +159,7 @@ module _ (file : List ℕ) (k : ℕ) (short : k ≤ length file) where
   unfolding parts
   cut-parts =
       cut-then (namesUpTo propositions) from-sessions (cut-counted 1 propositions name cut-name) λ ns.
-      cut-then (allSessions (length ns)) (from-unary ns) (cut-counted 1 sessions (λ _. session (length ns)) (λ _. cut-session (length ns))) λ ss.
+      cut-then (allSessions (length ns)) (from-unary ns) (cut-counted 1 fileSessions (λ _. session (length ns)) (λ _. cut-session (length ns))) λ ss.
       cut-then (codes isUnary) (from-binary ns ss) (cut-counted 0 255 (code isUnary) (λ b. cut-byte _)) λ us.
       cut-then (codes isBinary) (from-settings ns ss us) (cut-counted 0 255 (code isBinary) (λ b. cut-byte _)) λ bs.
       cut-then settings (λ s _ next. got (all ns ss us bs s) next) cut-settings λ s.

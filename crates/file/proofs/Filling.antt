@@ -67,7 +67,8 @@ module _ (to₀ : List ℕ) (k : ℕ) (file : List ℕ) (at m : ℕ) where
         let l : m - i ≡ suc (m - (i + 1)) = omega arith in
         let y : suc (k + i) ≡ k + (i + 1) = omega arith in
         let step : wordsAt (m - i) (drop p file) ≡ w ∷ wordsAt (m - (i + 1)) (drop (p + 8) file) = rw (l, e, drop-drop 8 p file) in
-        let turned : sets to (k + i) (wordsAt (m - i) (drop p file)) ≡ sets (set to (k + i) w) (k + (i + 1)) (wordsAt (m - (i + 1)) (drop (p + 8) file)) = ap (sets to (k + i)) step ∙ ap (λ (x : ℕ). sets (set to (k + i) w) x (wordsAt (m - (i + 1)) (drop (p + 8) file))) y in
+        let turned : sets to (k + i) (wordsAt (m - i) (drop p file)) ≡ sets (set to (k + i) w) (k + (i + 1)) (wordsAt (m - (i + 1)) (drop (p + 8) file)) =
+        ap (sets to (k + i)) step ∙ ap (λ (x : ℕ). sets (set to (k + i) w) x (wordsAt (m - (i + 1)) (drop (p + 8) file))) y in
         record { upto = omega arith; long = length-set to (k + i) w ∙ s .long; room = omega (arith, s .room); is = sym turned ∙ s .is }
 
     pub words-end : m ≤ i → to ≡ sets to₀ k (wordsAt m (drop at file))

@@ -9,7 +9,8 @@ use lib.Dec.{lit<, lit≤}
 use lib.ListN.{length, replicate, length-append}
 use Rattle.words.specs.Word.{Wf}
 use Rattle.words.proofs.At.{lt-wf}
-use Rattle.file.specs.Format.{Session, Parts, fileBytes, GoodSession, Good}
+use Rattle.file.specs.Format.{FileSession, Parts, fileBytes, GoodSession, Good}
+use Rattle.sequence.specs.Operators.{decode}
 use Rattle.reading.specs.Reading.{one, section, got, each, byte}
 use Rattle.names.specs.Reserved.{reserved}
 use Rattle.names.specs.Names.{nameBytes, GoodName, name, namesUpTo}
@@ -61,7 +62,7 @@ unfolding Each
 repeated P a h zero before = tt
 repeated P a h (suc n) before = (h, repeated P a h n (before ++ (a ∷ [])))
 
-longest : Session
+longest : FileSession
 longest = record { mark = 1; length = 64; words = replicate 16 (2 ^ 64 - 1) }
 
 longest-good : GoodSession 16 longest
@@ -72,14 +73,14 @@ unary : List ℕ
 unary = 0 ∷ 1 ∷ 2 ∷ 3 ∷ 4 ∷ []
 
 unary-there : codes isUnary (section one unary) 0 ≡ got unary 6
-unfolding unary each byte flatMap
+unfolding unary each byte flatMap decode
 unary-there = refl
 
 binary : List ℕ
 binary = 5 ∷ 6 ∷ 7 ∷ 8 ∷ 9 ∷ 10 ∷ []
 
 binary-there : codes isBinary (section one binary) 0 ≡ got binary 7
-unfolding binary each byte flatMap
+unfolding binary each byte flatMap decode
 binary-there = refl
 
 pub biggest : Parts

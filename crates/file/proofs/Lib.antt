@@ -2,8 +2,6 @@ pub mod Numbers
 pub mod SessionLaws
 pub mod CodeLaws
 pub mod Whole
-pub mod Walks
-pub mod Turns
 pub mod Sections
 pub mod Filling
 pub mod Positions

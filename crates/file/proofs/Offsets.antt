@@ -10,14 +10,14 @@ use borrow.Author.Tests.{ltb-false, leb-false}
 use lib.Dec.{ltb, leb, eqb}
 use lib.ListN.{length, getD, take, drop, length-append}
 use Rattle.words.specs.Word.{width}
-use Rattle.file.specs.Numbers.{sessions, propositions, bound}
+use Rattle.sections.specs.Numbers.{fileSessions, propositions, bound}
 use Rattle.names.specs.Names.{nameLength, letter, name, isTaken, notTaken, namesUpTo, wholeNames}
 use Rattle.rules.specs.Lists.{Each}
 use Rattle.reading.specs.Reading.{Got, got, bad, Reader, andThen, each, byte, within, counted, atEnd}
-use Rattle.file.specs.Offence.{number, word, session, allSessions, isUnary, isBinary, code, codes, settings, parts, wholeFile}
+use Rattle.file.specs.Offence.{number, eightBytes, session, allSessions, isUnary, isBinary, code, codes, settings, parts, wholeFile}
 use Rattle.reading.proofs.Lists.{within-high}
 use Rattle.reading.proofs.Readers.{got-bad, byte-sound}
-use Rattle.file.proofs.CodeLaws.{New, new-sound}
+use Rattle.sections.proofs.CodeLaws.{New, new-sound}
 use Rattle.names.proofs.NameLaws.{names-sound}
 use Rattle.file.proofs.Whole.{few-unary, few-binary}
 
@@ -54,14 +54,16 @@ module _ (file : List ℕ) where
       go true false h g = let k : at ≡ o = cc in omega arith
       go false q h g = let k : length file ≡ o = cc in omega (arith, ltb-false at (length file) h)
 
-  row-upto : {A : Type 0} (item : List A → Reader A) (w : ℕ) → ((before : List A) (at : ℕ) → Upto (at + w) (item before file at)) → (n : ℕ) (before : List A) (at : ℕ) → Upto (at + n * w) (each item n before file at)
+  row-upto : {A : Type 0} (item : List A → Reader A) (w : ℕ) → ((before : List A) (at : ℕ) → Upto (at + w) (item before file at)) → (n : ℕ) (before : List A) (at : ℕ)
+      → Upto (at + n * w) (each item n before file at)
   unfolding each
   row-upto item w u zero before at = omega arith
   row-upto item w u (suc n) before at =
       next-upto (item before file at) (λ a next. each item n (before ++ (a ∷ [])) file next) (u before at) (omega (arith, suc-mul n w))
       (λ a next e h. higher (each item n (before ++ (a ∷ [])) file next) (row-upto item w u n (before ++ (a ∷ [])) next) (omega (arith, suc-mul n w)))
 
-  counted-upto : {A : Type 0} (lo hi : ℕ) (item : List A → Reader A) (w : ℕ) → ((before : List A) (at : ℕ) → Upto (at + w) (item before file at)) → (at : ℕ) → Upto (at + 1 + hi * w) (counted lo hi item file at)
+  counted-upto : {A : Type 0} (lo hi : ℕ) (item : List A → Reader A) (w : ℕ) → ((before : List A) (at : ℕ) → Upto (at + w) (item before file at)) → (at : ℕ)
+      → Upto (at + 1 + hi * w) (counted lo hi item file at)
   counted-upto lo hi item w u at =
       next-upto (byte (within lo hi) file at) (λ n next. each item n [] file next) (byte-upto (within lo hi) at) (omega arith)
       (λ n next e h.
@@ -85,8 +87,8 @@ module _ (file : List ℕ) where
 
   -- ---- sessions
 
-  pub word-upto : (n at : ℕ) → Upto (at + 8) (word n file at)
-  unfolding word
+  pub word-upto : (n at : ℕ) → Upto (at + 8) (eightBytes n file at)
+  unfolding eightBytes
   word-upto n at = go (leb (at + 8) (length file)) (ltb (number (take 8 (drop at file))) (2 ^ n)) refl
     where
       go : (p q : Bool) → leb (at + 8) (length file) ≡ p → Upto (at + 8) (cond p (cond q (got (number (take 8 (drop at file))) (at + 8)) (bad at)) (bad (length file)))
@@ -99,7 +101,7 @@ module _ (file : List ℕ) where
   session-upto m at =
       next-upto (byte (within 0 1) file at) _ (byte-upto (within 0 1) at) (omega arith) λ mark a e h.
       next-upto (byte (within 0 width) file a) _ (byte-upto (within 0 width) a) (omega arith) λ n b d i.
-      next-upto (each (λ _. word n) m [] file b) _ (row-upto (λ _. word n) 8 (λ _. word-upto n) m [] b) (omega arith) λ words next f j.
+      next-upto (each (λ _. eightBytes n) m [] file b) _ (row-upto (λ _. eightBytes n) 8 (λ _. word-upto n) m [] b) (omega arith) λ words next f j.
       (omega arith)
 
   -- ---- codes: as many as there are in the group, since none comes twice
@@ -146,7 +148,7 @@ module _ (file : List ℕ) where
 
   pub sessions-upto : (m : ℕ) → m ≤ propositions → (at : ℕ) → Upto (at + 4161) (allSessions m file at)
   sessions-upto m h at =
-      higher (allSessions m file at) (counted-upto 1 sessions (λ _. session m) (2 + m * 8) (λ _. session-upto m) at) (omega arith)
+      higher (allSessions m file at) (counted-upto 1 fileSessions (λ _. session m) (2 + m * 8) (λ _. session-upto m) at) (omega arith)
 
   pub parts-upto : Upto 4450 (parts file 0)
   unfolding parts

@@ -11,7 +11,7 @@ use lib.ListN.{length, drop, length-map}
 use lib.Seq.{sets}
 use Rattle.file.specs.declared.ReadAnswer.{ReadAnswer}
 use Rattle.file.specs.declared.ReadAnswer.the-variants.{Parts as AllParts, Broken, Room}
-use Rattle.file.specs.Numbers.{sessions, propositions}
+use Rattle.sections.specs.Numbers.{fileSessions, propositions}
 use Rattle.file.specs.Format.{Parts, Good}
 use Rattle.reading.specs.Reading.{section, Got, got, bad}
 use Rattle.names.specs.Names.{nameBytes}
@@ -37,7 +37,7 @@ module _ (file : List ℕ) where
     pub binaries : length (parts .binary) ≡ v
     pub mark : parts .constants ≡ constants
     pub size : parts .bound ≡ bound
-    pub few : r ≤ sessions
+    pub few : r ≤ fileSessions
     pub narrow : m ≤ propositions
     pub room : a + 1 + r * (2 + 8 * m) + u + 2 + v + 3 ≡ length file
     pub marks : strided (2 + 8 * m) r (drop (a + 1) file) ≡ marksOf parts
@@ -127,12 +127,32 @@ module _ (file : List ℕ) where
             module _ (hu : u ≤ length unary) where
               pub room-binary : length binary < v → after (said Room) marks lengths words unary binary ≡ readOf file all
               room-binary h =
-                  no-room (rw (k .count, k .width, k .unaries, k .binaries, le-leb r (length marks) hm, le-leb r (length lengths) hl, le-leb (m * r) (length words) hw, le-leb u (length unary) hu, lt-leb v (length binary) h))
+                  no-room (rw (
+                    k .count,
+                    k .width,
+                    k .unaries,
+                    k .binaries,
+                    le-leb r (length marks) hm,
+                    le-leb r (length lengths) hl,
+                    le-leb (m * r) (length words) hw,
+                    le-leb u (length unary) hu,
+                    lt-leb v (length binary) h,
+                  ))
 
               module _ (hb : v ≤ length binary) where
                 enough : roomFor (k .parts) all ≡ true
                 enough =
-                    rw (k .count, k .width, k .unaries, k .binaries, le-leb r (length marks) hm, le-leb r (length lengths) hl, le-leb (m * r) (length words) hw, le-leb u (length unary) hu, le-leb v (length binary) hb)
+                    rw (
+                      k .count,
+                      k .width,
+                      k .unaries,
+                      k .binaries,
+                      le-leb r (length marks) hm,
+                      le-leb r (length lengths) hl,
+                      le-leb (m * r) (length words) hw,
+                      le-leb u (length unary) hu,
+                      le-leb v (length binary) hb,
+                    )
 
                 new-marks : sets marks 0 (strided (2 + 8 * m) r (drop (a + 1) file)) ≡ over (marksOf (k .parts)) marks
                 new-marks = ap (sets marks 0) (k .marks) ∙ filled (marksOf (k .parts)) marks (omega (arith, length-map (k .parts .sessions) (λ s. s .mark), k .count))

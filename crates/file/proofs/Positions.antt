@@ -10,7 +10,7 @@ use lib.ListN.{length, drop, length-append}
 use lib.Seq.{sets, sets-eq, drop-drop, drop-at, take-at}
 use Rattle.words.specs.Word.{Wf}
 use Rattle.words.proofs.At.{wf-lt}
-use Rattle.file.specs.Format.{Session, Parts, wordBytes, sessionBytes, fileBytes, GoodSession, Good}
+use Rattle.file.specs.Format.{FileSession, Parts, wordBytes, sessionBytes, fileBytes, GoodSession, Good}
 use Rattle.reading.specs.Reading.{one, section}
 use Rattle.names.specs.Names.{nameBytes}
 use Rattle.rules.specs.Lists.{Each}
@@ -42,25 +42,26 @@ words-there n (w ∷ ws) before rest e =
 -- ---- sessions
 
 module _ (m : ℕ) where
-  length-session : (s : Session) → GoodSession m s → length (sessionBytes s) ≡ 2 + 8 * m
+  length-session : (s : FileSession) → GoodSession m s → length (sessionBytes s) ≡ 2 + 8 * m
   length-session s g = omega (arith, length-words-bytes (s .words), g .count)
 
-  pub length-sessions : (ss before : List Session) → Each (λ _ s. GoodSession m s) before ss → length (flatMap sessionBytes ss) ≡ length ss * (2 + 8 * m)
+  pub length-sessions : (ss before : List FileSession) → Each (λ _ s. GoodSession m s) before ss → length (flatMap sessionBytes ss) ≡ length ss * (2 + 8 * m)
   unfolding flatMap Each
   length-sessions [] before e = omega arith
   length-sessions (s ∷ ss) before e =
       rw (suc-mul (length ss) (2 + 8 * m)) (omega (arith, length-append (sessionBytes s) (flatMap sessionBytes ss), length-session s (e .0), length-sessions ss (before ++ (s ∷ [])) (e .1)))
 
-  later : (s : Session) (ss : List Session) (rest : List ℕ) → GoodSession m s → drop (2 + 8 * m) (flatMap sessionBytes (s ∷ ss) ++ rest) ≡ flatMap sessionBytes ss ++ rest
+  later : (s : FileSession) (ss : List FileSession) (rest : List ℕ) → GoodSession m s → drop (2 + 8 * m) (flatMap sessionBytes (s ∷ ss) ++ rest) ≡ flatMap sessionBytes ss ++ rest
   unfolding flatMap
   later s ss rest g = ap (drop (2 + 8 * m)) (append-assoc (sessionBytes s) (flatMap sessionBytes ss) rest) ∙ drop-at (sessionBytes s) (flatMap sessionBytes ss ++ rest) (2 + 8 * m) (length-session s g)
 
-  pub marks-there : (ss before : List Session) (rest : List ℕ) → Each (λ _ s. GoodSession m s) before ss → strided (2 + 8 * m) (length ss) (flatMap sessionBytes ss ++ rest) ≡ map (λ s. s .mark) ss
+  pub marks-there : (ss before : List FileSession) (rest : List ℕ) → Each (λ _ s. GoodSession m s) before ss → strided (2 + 8 * m) (length ss) (flatMap sessionBytes ss ++ rest) ≡ map (λ s. s .mark) ss
   unfolding strided flatMap Each
   marks-there [] before rest e = refl
   marks-there (s ∷ ss) before rest e = ap (λ (l : List ℕ). s .mark ∷ l) (ap (strided (2 + 8 * m) (length ss)) (later s ss rest (e .0)) ∙ marks-there ss (before ++ (s ∷ [])) rest (e .1))
 
-  pub lengths-there : (ss before : List Session) (rest : List ℕ) → Each (λ _ s. GoodSession m s) before ss → strided (2 + 8 * m) (length ss) (drop 1 (flatMap sessionBytes ss ++ rest)) ≡ map (λ s. s .length) ss
+  pub lengths-there : (ss before : List FileSession) (rest : List ℕ) → Each (λ _ s. GoodSession m s) before ss
+      → strided (2 + 8 * m) (length ss) (drop 1 (flatMap sessionBytes ss ++ rest)) ≡ map (λ s. s .length) ss
   unfolding strided flatMap Each
   lengths-there [] before rest e = refl
   lengths-there (s ∷ ss) before rest e =
@@ -69,7 +70,8 @@ module _ (m : ℕ) where
       let swap : drop (2 + 8 * m) (drop 1 all) ≡ drop 1 (drop (2 + 8 * m) all) = drop-drop (2 + 8 * m) 1 all ∙ ap (λ (n : ℕ). drop n all) n ∙ sym (drop-drop 1 (2 + 8 * m) all) in
       ap (λ (l : List ℕ). s .length ∷ l) (ap (strided (2 + 8 * m) (length ss)) (swap ∙ ap (drop 1) (later s ss rest (e .0))) ∙ lengths-there ss (before ++ (s ∷ [])) rest (e .1))
 
-  pub session-words-there : (ss before : List Session) (rest : List ℕ) → Each (λ _ s. GoodSession m s) before ss → sessionWords m (length ss) (flatMap sessionBytes ss ++ rest) ≡ flatMap (λ s. s .words) ss
+  pub session-words-there : (ss before : List FileSession) (rest : List ℕ) → Each (λ _ s. GoodSession m s) before ss
+      → sessionWords m (length ss) (flatMap sessionBytes ss ++ rest) ≡ flatMap (λ s. s .words) ss
   unfolding sessionWords flatMap Each
   session-words-there [] before rest e = refl
   session-words-there (s ∷ ss) before rest e =
@@ -82,7 +84,7 @@ module _ (m : ℕ) where
       ap (sessionWords m (length ss)) (later s ss rest g) ∙ session-words-there ss (before ++ (s ∷ [])) rest (e .1) in
       ap (λ (l : List ℕ). l ++ sessionWords m (length ss) (drop (2 + 8 * m) (flatMap sessionBytes (s ∷ ss) ++ rest))) ws ∙ ap (λ (l : List ℕ). s .words ++ l) more
 
-  pub length-all-words : (ss before : List Session) → Each (λ _ s. GoodSession m s) before ss → length (flatMap (λ s. s .words) ss) ≡ m * length ss
+  pub length-all-words : (ss before : List FileSession) → Each (λ _ s. GoodSession m s) before ss → length (flatMap (λ s. s .words) ss) ≡ m * length ss
   unfolding flatMap Each
   length-all-words [] before e = omega arith
   length-all-words (s ∷ ss) before e =
@@ -152,7 +154,8 @@ module _ (p : Parts) (file : List ℕ) (g : Good p) (e : fileBytes p ≡ file) w
 
   to-binary : (rest : List ℕ) × (drop (length front + 1 + length (p .sessions) * (2 + 8 * m) + length (p .unary) + 2) file ≡ flatMap one (p .binary) ++ rest)
   to-binary =
-      let z : length front + 1 + length (p .sessions) * (2 + 8 * m) + length (p .unary) + 2 ≡ 0 + length front + 1 + length blocks + 1 + length (flatMap one (p .unary)) + 1 = omega (arith, sized, ap length (ones (p .unary))) in
+      let z : length front + 1 + length (p .sessions) * (2 + 8 * m) + length (p .unary) + 2 ≡ 0 + length front + 1 + length blocks + 1 + length (flatMap one (p .unary)) + 1 =
+      omega (arith, sized, ap length (ones (p .unary))) in
       (_, ap (λ (n : ℕ). drop n file) z ∙ from-binary .is ∙ append-assoc (flatMap one (p .binary)) settings (drop (length file) file))
 
   pub layout : Layout p file

@@ -12,14 +12,14 @@ use borrow.Author.Tests.{lt-ltb, le-leb, ne-eqb}
 use lib.ListN.{length, getD, take, drop, length-take, length-append}
 use lib.Seq.{getD-take, take-all, take-take}
 use Rattle.words.specs.Word.{width}
-use Rattle.file.specs.Numbers.{sessions, propositions, bound}
+use Rattle.sections.specs.Numbers.{fileSessions, propositions, bound}
 use Rattle.names.specs.Names.{nameLength, letter, name, namesUpTo}
 use Rattle.rules.specs.Lists.{Each}
 use Rattle.reading.specs.Reading.{Got, got, bad, Reader, andThen, each, byte, within, counted, atEnd}
-use Rattle.file.specs.Offence.{word, session, allSessions, isUnary, isBinary, code, codes, settings, parts, wholeFile}
+use Rattle.file.specs.Offence.{eightBytes, session, allSessions, isUnary, isBinary, code, codes, settings, parts, wholeFile}
 use Rattle.reading.proofs.Lists.{within-high}
 use Rattle.reading.proofs.Readers.{byte-sound}
-use Rattle.file.proofs.CodeLaws.{New, new-sound}
+use Rattle.sections.proofs.CodeLaws.{New, new-sound}
 use Rattle.names.proofs.NameLaws.{names-sound}
 use Rattle.file.proofs.Whole.{few-unary, few-binary}
 use Rattle.file.proofs.Cuts.{drop-take}
@@ -40,7 +40,8 @@ module _ (front file : List ℕ) (k : ℕ) (short : k ≤ length front) (long : 
       let s : getD front at 0 ≡ getD file at 0 = sym (getD-take k front at 0 h) ∙ ap (λ (l : List ℕ). getD l at 0) agree ∙ getD-take k file at 0 h in
       rw (lt-ltb at (length front) i, lt-ltb at (length file) j, s)
 
-  module _ {A : Type 0} (item : List A → Reader A) (w : ℕ) (ends : (before : List A) (at : ℕ) → Upto (at + w) (item before file at)) (same : (before : List A) (at : ℕ) → at + w ≤ k → item before front at ≡ item before file at) where
+  module _ {A : Type 0} (item : List A → Reader A) (w : ℕ) (ends : (before : List A) (at : ℕ) → Upto (at + w) (item before file at))
+      (same : (before : List A) (at : ℕ) → at + w ≤ k → item before front at ≡ item before file at) where
     same-row : (n : ℕ) (before : List A) (at : ℕ) → at + n * w ≤ k → each item n before front at ≡ each item n before file at
     unfolding each
     same-row zero before at h = refl
@@ -64,8 +65,8 @@ module _ (front file : List ℕ) (k : ℕ) (short : k ≤ length front) (long : 
 
   -- ---- sessions
 
-  pub same-word : (n at : ℕ) → at + 8 ≤ k → word n front at ≡ word n file at
-  unfolding word
+  pub same-word : (n at : ℕ) → at + 8 ≤ k → eightBytes n front at ≡ eightBytes n file at
+  unfolding eightBytes
   same-word n at h =
       let i : at + 8 ≤ length front = omega arith in
       let j : at + 8 ≤ length file = omega arith in
@@ -80,7 +81,7 @@ module _ (front file : List ℕ) (k : ℕ) (short : k ≤ length front) (long : 
   same-session m at h =
       same-then (byte (within 0 1) front at) (byte (within 0 1) file at) _ _ (same-byte (within 0 1) at (omega arith)) (byte-upto file (within 0 1) at) λ mark a e i.
       same-then (byte (within 0 width) front a) (byte (within 0 width) file a) _ _ (same-byte (within 0 width) a (omega arith)) (byte-upto file (within 0 width) a) λ n b d j.
-      rw (same-row (λ _. word n) 8 (λ _. word-upto file n) (λ _. same-word n) m [] b (omega arith))
+      rw (same-row (λ _. eightBytes n) 8 (λ _. word-upto file n) (λ _. same-word n) m [] b (omega arith))
 
   -- ---- codes: after as many as there are in the group, one more byte is looked at and refused
 
@@ -114,7 +115,7 @@ module _ (front file : List ℕ) (k : ℕ) (short : k ≤ length front) (long : 
   same-names at h = same-counted name 17 (name-upto file) same-name 1 propositions at (omega arith)
 
   same-sessions : (m : ℕ) → m ≤ propositions → (at : ℕ) → at + 4161 ≤ k → allSessions m front at ≡ allSessions m file at
-  same-sessions m l at h = same-counted (λ _. session m) (2 + m * 8) (λ _. session-upto file m) (λ _. same-session m) 1 sessions at (omega arith)
+  same-sessions m l at h = same-counted (λ _. session m) (2 + m * 8) (λ _. session-upto file m) (λ _. same-session m) 1 fileSessions at (omega arith)
 
   module _ (beyond : 4450 < k) where
     same-parts : parts front 0 ≡ parts file 0

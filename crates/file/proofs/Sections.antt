@@ -1,52 +1,29 @@
--- One session, the settings and the whole file, step by step as the code takes them.
+-- The settings and the whole file, step by step as the code takes them.
 -- Assumes nothing.
 use mathlib.Core.Path.{_≡_, refl, sym, ap, _∙_}
 use mathlib.Core.Bool.{Bool, true, false, cond}
-use mathlib.Core.List.{List, []}
+use mathlib.Core.List.{List}
 use Prim.Native.Nat.{ℕ, _+_, _<_}
 use native.Mathlib.Omega.{arith}
 use borrow.Author.Tests.{eq-eqb, ne-eqb}
 use lib.Dec.{eqb}
 use lib.ListN.{length, getD}
-use Rattle.words.specs.Word.{width}
 use Rattle.reading.specs.declared.Step.{Step}
 use Rattle.reading.specs.declared.Step.the-variants.{Read, Broken}
 use Rattle.file.specs.declared.Tail.{Tail}
 use Rattle.file.specs.declared.Tail.the-variants.{Read as TailRead, Broken as TailBroken}
 use Rattle.file.specs.declared.ReadAnswer.{ReadAnswer}
 use Rattle.file.specs.declared.ReadAnswer.the-variants.{Parts as AllParts, Broken as FileBroken}
-use Rattle.file.specs.Numbers.{propositions, bound}
+use Rattle.sections.specs.Numbers.{propositions, bound}
 use Rattle.names.specs.Names.{nameBytes, namesUpTo}
-use Rattle.file.specs.Format.{Session, Parts}
-use Rattle.reading.specs.Reading.{section, Got, got, bad, andThen, each, byte, within, atEnd, stepOf}
-use Rattle.file.specs.Offence.{word, session, allSessions, isUnary, isBinary, codes, Settings, settings, parts, wholeFile}
-use Rattle.file.specs.Inner.{wordCount, tailOf, tailAt, numbersOf, answerOf}
+use Rattle.file.specs.Format.{FileSession, Parts}
+use Rattle.reading.specs.Reading.{section, Got, got, bad, andThen, byte, within, atEnd, stepOf}
+use Rattle.file.specs.Offence.{allSessions, isUnary, isBinary, codes, Settings, settings, parts, wholeFile}
+use Rattle.file.specs.Inner.{tailOf, tailAt, numbersOf, answerOf}
 use Rattle.reading.proofs.Steps.{step-read, step-broken, byte-read, byte-next}
 use Rattle.names.proofs.NameLaws.{names-sound}
 
 module _ (file : List ℕ) where
-  -- ---- one session
-
-  module _ (m at : ℕ) (r : Step) (e : r ≡ stepOf (λ b. b) (byte (within 0 1) file at)) where
-    pub session-no-mark : {o : ℕ} → r ≡ Broken o → Broken o ≡ stepOf wordCount (session m file at)
-    unfolding session
-    session-no-mark q = rw (step-broken (λ b. b) r (byte (within 0 1) file at) e q)
-
-    module _ {k a : ℕ} (q : r ≡ Read k a) (s : Step) (d : s ≡ stepOf (λ b. b) (byte (within 0 width) file a)) where
-      pub session-no-length : {o : ℕ} → s ≡ Broken o → Broken o ≡ stepOf wordCount (session m file at)
-      unfolding session
-      session-no-length p = rw (byte-read r (byte (within 0 1) file at) e q, step-broken (λ b. b) s (byte (within 0 width) file a) d p)
-
-      counts : (n : ℕ) (g : Got (List ℕ)) → stepOf length g ≡ stepOf wordCount (andThen g (λ words next. got (record { mark = k; length = n; words = words }) next))
-      counts n (got ws next) = refl
-      counts n (bad o) = refl
-
-      pub session-words : {n b : ℕ} → s ≡ Read n b → (t : Step) → t ≡ stepOf length (each (λ _. word n) m [] file b) → t ≡ stepOf wordCount (session m file at)
-      unfolding session
-      session-words {n} {b} p t h =
-          rw (byte-read r (byte (within 0 1) file at) e q, byte-read s (byte (within 0 width) file a) d p)
-          (h ∙ counts n (each (λ _. word n) m [] file b))
-
   -- ---- settings, with nothing after them
 
   module _ (at : ℕ) (r : Step) (e : r ≡ stepOf (λ b. b) (byte (within 2 2) file at)) where
@@ -84,7 +61,14 @@ module _ (file : List ℕ) where
           pub tail-whole : next ≡ length file → TailRead (getD file a 0) (getD file b 0) ≡ tailOf (tailAt file at)
           unfolding settings atEnd
           tail-whole n =
-              rw (byte-read r (byte (within 2 2) file at) e q, byte-read s (byte (within 0 1) file a) d p, byte-read t (byte (within 1 bound) file b) h g, eq-eqb next (length file) n, mark-there .2, bound-there .2)
+              rw (
+                byte-read r (byte (within 2 2) file at) e q,
+                byte-read s (byte (within 0 1) file a) d p,
+                byte-read t (byte (within 1 bound) file b) h g,
+                eq-eqb next (length file) n,
+                mark-there .2,
+                bound-there .2,
+              )
 
   -- ---- the whole file
 
@@ -124,7 +108,7 @@ module _ (file : List ℕ) where
         judge-sessions p = rw (names-read .1, step-broken length s (allSessions (length ns) file a) sessions-step p)
 
         module _ {n b : ℕ} (p : s ≡ Read n b) (t : Step) (f : t ≡ stepOf length (codes isUnary file b)) where
-          sessions-read : (ss : List Session) × (allSessions (length ns) file a ≡ got ss b) × (length ss ≡ n)
+          sessions-read : (ss : List FileSession) × (allSessions (length ns) file a ≡ got ss b) × (length ss ≡ n)
           sessions-read = step-read length s (allSessions (length ns) file a) sessions-step p
 
           pub judge-unary : {o : ℕ} → t ≡ Broken o → FileBroken o ≡ answerOf file

@@ -14,9 +14,9 @@ use lib.ListN.{length, take, drop, length-append, length-take, length-drop, take
 use lib.Seq.{drop-drop, getD-take, getD-drop}
 use Rattle.words.specs.Word.{width, Wf}
 use Rattle.words.proofs.At.{lt-wf, wf-lt}
-use Rattle.file.specs.Format.{Session, wordBytes, sessionBytes, lowFirst, GoodSession}
+use Rattle.file.specs.Format.{FileSession, wordBytes, sessionBytes, lowFirst, GoodSession}
 use Rattle.reading.specs.Reading.{one, got, bad, each, byte, within}
-use Rattle.file.specs.Offence.{number, word, session}
+use Rattle.file.specs.Offence.{number, eightBytes, session}
 use Rattle.reading.proofs.Spans.{Spans, both, first, second, taken}
 use Rattle.reading.proofs.Lists.{within-high, within-is}
 use Rattle.reading.proofs.Readers.{got-bad, got-value, got-next, in-turn, byte-sound, byte-complete, Sound, Complete, row-sound, row-complete}
@@ -36,11 +36,12 @@ abbrev eight : List ℕ → ℕ → List ℕ
 eight file at = take 8 (drop at file)
 
 module _ (file : List ℕ) where
-  pub word-sound : Bytes file → (n : ℕ) → n ≤ width → (at w next : ℕ) → word n file at ≡ got w next → Wf n w × Spans file at (wordBytes w) next
-  unfolding word
+  pub word-sound : Bytes file → (n : ℕ) → n ≤ width → (at w next : ℕ) → eightBytes n file at ≡ got w next → Wf n w × Spans file at (wordBytes w) next
+  unfolding eightBytes
   word-sound bs n s at w next e = go (leb (at + 8) (length file)) (ltb (number (eight file at)) (2 ^ n)) refl refl e
     where
-      go : (p q : Bool) → leb (at + 8) (length file) ≡ p → ltb (number (eight file at)) (2 ^ n) ≡ q → cond p (cond q (got (number (eight file at)) (at + 8)) (bad at)) (bad (length file)) ≡ got w next → Wf n w × Spans file at (wordBytes w) next
+      go : (p q : Bool) → leb (at + 8) (length file) ≡ p → ltb (number (eight file at)) (2 ^ n) ≡ q
+          → cond p (cond q (got (number (eight file at)) (at + 8)) (bad at)) (bad (length file)) ≡ got w next → Wf n w × Spans file at (wordBytes w) next
       go true true h t g =
           let run = eight file at in
           let v : number run ≡ w = got-value g in
@@ -48,14 +49,15 @@ module _ (file : List ℕ) where
           let r : at + 8 ≤ length file = leb-true (at + 8) (length file) h in
           let k : length run ≡ 8 = omega (arith, length-take 8 (drop at file), length-drop at file) in
           let low : lowFirst 8 (number run) ≡ run = ap (λ (x : ℕ). lowFirst x (number run)) (sym k) ∙ low-number run (bytes-take 8 (drop at file) (bytes-drop at file bs)) in
-          let is : drop at file ≡ lowFirst 8 (number run) ++ drop (at + 8) file = sym (take-append-drop 8 (drop at file)) ∙ ap (λ (l : List ℕ). run ++ l) (drop-drop 8 at file) ∙ ap (λ (l : List ℕ). l ++ drop (at + 8) file) (sym low) in
+          let is : drop at file ≡ lowFirst 8 (number run) ++ drop (at + 8) file =
+          sym (take-append-drop 8 (drop at file)) ∙ ap (λ (l : List ℕ). run ++ l) (drop-drop 8 at file) ∙ ap (λ (l : List ℕ). l ++ drop (at + 8) file) (sym low) in
           let spans : Spans file at (wordBytes (number run)) (at + 8) = record { is = is; end = omega (arith, length-low 8 (number run)) } in
           (rw (← v) (lt-wf s (ltb-true (number run) (2 ^ n) t)), rw (← v, ← m) spans)
       go true false h t g = absurd (got-bad (sym g))
       go false q h t g = absurd (got-bad (sym g))
 
-  pub word-complete : (n at w next : ℕ) → Wf n w → Spans file at (wordBytes w) next → word n file at ≡ got w next
-  unfolding word
+  pub word-complete : (n at w next : ℕ) → Wf n w → Spans file at (wordBytes w) next → eightBytes n file at ≡ got w next
+  unfolding eightBytes
   word-complete n at w next f s =
       let k = length-low 8 w in
       let m : at + 8 ≡ next = omega (arith, s .end, k) in
@@ -67,13 +69,13 @@ module _ (file : List ℕ) where
   abbrev pub Fits : ℕ → List ℕ → ℕ → Type 0
   Fits n before w = Wf n w
 
-  pub words-sound : Bytes file → (n : ℕ) → n ≤ width → Sound (λ _. word n) (Fits n) wordBytes file
+  pub words-sound : Bytes file → (n : ℕ) → n ≤ width → Sound (λ _. eightBytes n) (Fits n) wordBytes file
   words-sound bs n s before at w next e = word-sound bs n s at w next e
 
-  pub words-complete : (n : ℕ) → Complete (λ _. word n) (Fits n) wordBytes file
+  pub words-complete : (n : ℕ) → Complete (λ _. eightBytes n) (Fits n) wordBytes file
   words-complete n before at w next f s = word-complete n at w next f s
 
-  pub session-sound : Bytes file → (m at : ℕ) (s : Session) (next : ℕ) → session m file at ≡ got s next → GoodSession m s × Spans file at (sessionBytes s) next
+  pub session-sound : Bytes file → (m at : ℕ) (s : FileSession) (next : ℕ) → session m file at ≡ got s next → GoodSession m s × Spans file at (sessionBytes s) next
   unfolding session
   session-sound bs m at s next e =
       let t = in-turn (byte (within 0 1) file at) _ e in
@@ -81,17 +83,20 @@ module _ (file : List ℕ) where
       let u = in-turn (byte (within 0 width) file (t .1)) _ (t .3) in
       let length = byte-sound (within 0 width) file (t .1) (u .2) in
       let short = within-high 0 width (u .0) (length .0) in
-      let v = in-turn (each (λ _. word (u .0)) m [] file (u .1)) _ (u .3) in
-      let r = row-sound (λ _. word (u .0)) (Fits (u .0)) wordBytes file (words-sound bs (u .0) short) m [] (u .1) (v .2) in
+      let v = in-turn (each (λ _. eightBytes (u .0)) m [] file (u .1)) _ (u .3) in
+      let r = row-sound (λ _. eightBytes (u .0)) (Fits (u .0)) wordBytes file (words-sound bs (u .0) short) m [] (u .1) (v .2) in
       let w : v .0 ≡ r .new = r .is in
       let is : record { mark = t .0; length = u .0; words = v .0 } ≡ s = got-value (v .3) in
       let n : v .1 ≡ next = got-next (v .3) in
-      let good : GoodSession m (record { mark = t .0; length = u .0; words = v .0 }) = record { mark = within-high 0 1 (t .0) (mark .0); short = short; count = rw w (r .count); words = rw w (r .fits) } in
+      let good : GoodSession m (record { mark = t .0; length = u .0; words = v .0 }) =
+      record { mark = within-high 0 1 (t .0) (mark .0); short = short; count = rw w (r .count); words = rw w (r .fits) } in
       let run : Spans file (u .1) (flatMap wordBytes (v .0)) (v .1) = rw w (r .spans) in
-      let spans = both file (one (t .0)) (one (u .0) ++ flatMap wordBytes (v .0)) (mark .1) (both file (one (u .0)) (flatMap wordBytes (v .0)) (length .1) run) in
-      (subst (GoodSession m) is good, subst (λ (x : Session). Spans file at (sessionBytes x) next) is (subst (λ (x : ℕ). Spans file at (sessionBytes (record { mark = t .0; length = u .0; words = v .0 })) x) n spans))
+      let spans = both file (one (t .0)) (one (u .0) ++ flatMap wordBytes (v .0)) (mark .1) (both file (one (u .0)) (flatMap wordBytes (v .0)) (length .1) run) in (
+        subst (GoodSession m) is good,
+        subst (λ (x : FileSession). Spans file at (sessionBytes x) next) is (subst (λ (x : ℕ). Spans file at (sessionBytes (record { mark = t .0; length = u .0; words = v .0 })) x) n spans),
+      )
 
-  pub session-complete : (m at : ℕ) (s : Session) (next : ℕ) → GoodSession m s → Spans file at (sessionBytes s) next → session m file at ≡ got s next
+  pub session-complete : (m at : ℕ) (s : FileSession) (next : ℕ) → GoodSession m s → Spans file at (sessionBytes s) next → session m file at ≡ got s next
   unfolding session
   session-complete m at s next g r =
       let ws = flatMap wordBytes (s .words) in
@@ -101,10 +106,10 @@ module _ (file : List ℕ) where
         byte-complete (within 0 1) file at (s .mark) (within-is 0 1 (s .mark) (omega arith) (g .mark)) (first file (one (s .mark)) (one (s .length) ++ ws) r),
         byte-complete (within 0 width) file (at + 1) (s .length) (within-is 0 width (s .length) (omega arith) (g .short)) (first file (one (s .length)) ws a),
         ← (g .count),
-        row-complete (λ _. word (s .length)) (Fits (s .length)) wordBytes file (words-complete (s .length)) (s .words) [] (at + 1 + 1) (g .words) b,
+        row-complete (λ _. eightBytes (s .length)) (Fits (s .length)) wordBytes file (words-complete (s .length)) (s .words) [] (at + 1 + 1) (g .words) b,
       )
 
-  abbrev pub Fit : ℕ → List Session → Session → Type 0
+  abbrev pub Fit : ℕ → List FileSession → FileSession → Type 0
   Fit m before s = GoodSession m s
 
   pub sessions-sound : Bytes file → (m : ℕ) → Sound (λ _. session m) (Fit m) sessionBytes file

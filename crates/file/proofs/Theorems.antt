@@ -15,7 +15,7 @@ use Rattle.rules.specs.Refusals.{Decided}
 use Rattle.sequence.specs.Operators.{Unary, Binary, unaryCode, binaryCode}
 use Rattle.file.specs.declared.ReadAnswer.{ReadAnswer}
 use Rattle.file.specs.declared.ReadAnswer.the-variants.{Parts as AllParts, Broken, Room}
-use Rattle.file.specs.Format.{Session, Parts, sessionBytes, fileBytes, GoodSession, GoodUnary, GoodBinary, Good, GoodFile}
+use Rattle.file.specs.Format.{FileSession, Parts, sessionBytes, fileBytes, GoodSession, GoodUnary, GoodBinary, Good, GoodFile}
 use Rattle.reading.specs.Reading.{one, section, Got, got, bad}
 use Rattle.names.specs.Names.{nameBytes, wholeNames}
 use Rattle.rules.specs.Lists.{Each}
@@ -60,28 +60,30 @@ one-reading p q g h e = got-value (sym (good-passes (fileBytes q) p g e) ∙ rou
 pub front-is-names : (p : Parts) → Good p → wholeNames (take (length (section nameBytes (p .names))) (fileBytes p)) ≡ got (p .names) (length (section nameBytes (p .names)))
 front-is-names p g =
     let front = section nameBytes (p .names) in
-    let e : take (length front) (fileBytes p) ≡ front = take-append-seam front (section sessionBytes (p .sessions) ++ (section one (p .unary) ++ (section one (p .binary) ++ section one (p .constants ∷ p .bound ∷ [])))) in
+    let e : take (length front) (fileBytes p) ≡ front =
+    take-append-seam front (section sessionBytes (p .sessions) ++ (section one (p .unary) ++ (section one (p .binary) ++ section one (p .constants ∷ p .bound ∷ [])))) in
     rw e (names-accepts front (p .names) .1 ((g .someNames, g .fewNames, g .names), refl))
 
 -- ---- what is handed out
 
 module _ (m : ℕ) where
-  abbrev Sessions : List Session → List Session → Type 0
+  abbrev Sessions : List FileSession → List FileSession → Type 0
   Sessions before ss = Each (λ _ s. GoodSession m s) before ss
 
-  marks-good : (ss before : List Session) → Sessions before ss → (i : ℕ) → i < length ss → getD (map (λ s. s .mark) ss) i 0 ≤ 1
+  marks-good : (ss before : List FileSession) → Sessions before ss → (i : ℕ) → i < length ss → getD (map (λ s. s .mark) ss) i 0 ≤ 1
   unfolding Each
   marks-good [] before e i h = absurd (omega arith)
   marks-good (s ∷ ss) before e zero h = e .0 .mark
   marks-good (s ∷ ss) before e (suc i) h = marks-good ss (before ++ (s ∷ [])) (e .1) i (omega arith)
 
-  lengths-good : (ss before : List Session) → Sessions before ss → (i : ℕ) → i < length ss → getD (map (λ s. s .length) ss) i 0 ≤ width
+  lengths-good : (ss before : List FileSession) → Sessions before ss → (i : ℕ) → i < length ss → getD (map (λ s. s .length) ss) i 0 ≤ width
   unfolding Each
   lengths-good [] before e i h = absurd (omega arith)
   lengths-good (s ∷ ss) before e zero h = e .0 .short
   lengths-good (s ∷ ss) before e (suc i) h = lengths-good ss (before ++ (s ∷ [])) (e .1) i (omega arith)
 
-  words-good : (ss before : List Session) → Sessions before ss → (i : ℕ) → i < length ss → (p : ℕ) → p < m → Wf (getD (map (λ s. s .length) ss) i 0) (getD (flatMap (λ s. s .words) ss) (i * m + p) 0)
+  words-good : (ss before : List FileSession) → Sessions before ss → (i : ℕ) → i < length ss → (p : ℕ) → p < m → Wf
+      (getD (map (λ s. s .length) ss) i 0) (getD (flatMap (λ s. s .words) ss) (i * m + p) 0)
   unfolding Each flatMap
   words-good [] before e i h p l = absurd (omega arith)
   words-good (s ∷ ss) before e zero h p l =

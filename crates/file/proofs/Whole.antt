@@ -3,42 +3,64 @@
 use mathlib.Core.Path.{_≡_, subst}
 use mathlib.Core.Bool.{Bool}
 use mathlib.Core.List.{List, [], _++_}
-use Prim.Native.Nat.{ℕ, _+_, _≤_}
+use Prim.Native.Nat.{ℕ, _+_, _≤_, _<_}
 use native.Mathlib.Omega.{arith}
+use lib.Dec.{lit<, lit≤}
 use lib.ListN.{length}
-use Rattle.file.specs.Numbers.{propositions, sessions}
-use Rattle.file.specs.Format.{Parts, Session, sessionBytes, fileBytes, Good}
+use Rattle.sections.specs.Numbers.{propositions, fileSessions}
+use Rattle.file.specs.Format.{Parts, FileSession, sessionBytes, fileBytes, Good}
 use Rattle.reading.specs.Reading.{one, section, got}
 use Rattle.names.specs.Names.{nameBytes, namesUpTo}
 use Rattle.rules.specs.Lists.{Each}
 use Rattle.file.specs.Offence.{session, code, isUnary, isBinary, allSessions, codes, Settings, settings, parts, wholeFile}
 use Rattle.reading.proofs.Spans.{Spans, both, first, second}
-use Rattle.reading.proofs.Lists.{within-low, within-high}
+use Rattle.sequence.specs.Operators.{Unary, Binary, unaryCode, binaryCode, not, weakNext, strongNext, finally, globally, or, and, until, release, implies, equiv}
 use Rattle.reading.proofs.Readers.{got-value, got-next, in-turn, Section, section-sound, section-complete}
 use Rattle.reading.proofs.Ends.{each-map, end-sound, end-complete, whole-run, run-whole}
 use Rattle.names.proofs.NameLaws.{names-sound, names-complete}
 use Rattle.file.proofs.Numbers.{Bytes}
 use Rattle.file.proofs.SessionLaws.{Fit, sessions-sound, sessions-complete}
-use Rattle.file.proofs.CodeLaws.{New, new-sound, new-complete, unary-good, good-unary, binary-good, good-binary, settingsBytes, settings-sound, settings-complete}
+use Rattle.sections.proofs.CodeLaws.{unary-at, binary-at, New, new-sound, new-complete}
+use Rattle.file.proofs.CodeLaws.{unary-good, good-unary, binary-good, good-binary, settingsBytes, settings-sound, settings-complete}
 use Rattle.session.proofs.Few.{few}
 
+-- the codes of a group follow one another, so it has no more of them than operators
+unary-most : (op : Unary) → unaryCode op < 5
+unary-most not = lit< tt
+unary-most weakNext = lit< tt
+unary-most strongNext = lit< tt
+unary-most finally = lit< tt
+unary-most globally = lit< tt
+
+binary-most : (op : Binary) → (5 ≤ binaryCode op) × (binaryCode op < 11)
+binary-most or = (lit≤ tt, lit< tt)
+binary-most and = (lit≤ tt, lit< tt)
+binary-most until = (lit≤ tt, lit< tt)
+binary-most release = (lit≤ tt, lit< tt)
+binary-most implies = (lit≤ tt, lit< tt)
+binary-most equiv = (lit≤ tt, lit< tt)
+
 pub few-unary : (l : List ℕ) → Each (New isUnary) [] l → length l ≤ 5
-few-unary l e = few 0 5 (New isUnary) (λ b c n. omega arith) (λ b c n. omega (arith, within-high 0 4 c (n .0))) (λ b c n. n .1) l e
+few-unary l e =
+    few 0 5 (New isUnary) (λ b c n. omega arith) (λ b c n. let u = unary-at c (n .0) in omega (arith, unary-most (u .0), u .1)) (λ b c n. n .1) l e
 
 pub few-binary : (l : List ℕ) → Each (New isBinary) [] l → length l ≤ 6
-few-binary l e = few 5 6 (New isBinary) (λ b c n. within-low 5 10 c (n .0)) (λ b c n. omega (arith, within-high 5 10 c (n .0))) (λ b c n. n .1) l e
+few-binary l e =
+    few 5 6 (New isBinary)
+    (λ b c n. let u = binary-at c (n .0) in omega (arith, binary-most (u .0) .0, u .1))
+    (λ b c n. let u = binary-at c (n .0) in omega (arith, binary-most (u .0) .1, u .1)) (λ b c n. n .1) l e
 
 module _ (file : List ℕ) where
   -- ---- the sections
 
-  abbrev pub Sessions : ℕ → ℕ → List Session → ℕ → Type 0
-  Sessions m at all next = Section (λ _. session m) (Fit file m) sessionBytes file 1 sessions at all next
+  abbrev pub Sessions : ℕ → ℕ → List FileSession → ℕ → Type 0
+  Sessions m at all next = Section (λ _. session m) (Fit file m) sessionBytes file 1 fileSessions at all next
 
-  pub all-sound : Bytes file → (m at : ℕ) {all : List Session} {next : ℕ} → allSessions m file at ≡ got all next → Sessions m at all next
-  all-sound bs m at e = section-sound (λ _. session m) (Fit file m) sessionBytes file (sessions-sound file bs m) 1 sessions at e
+  pub all-sound : Bytes file → (m at : ℕ) {all : List FileSession} {next : ℕ} → allSessions m file at ≡ got all next → Sessions m at all next
+  all-sound bs m at e = section-sound (λ _. session m) (Fit file m) sessionBytes file (sessions-sound file bs m) 1 fileSessions at e
 
-  pub all-complete : (m at : ℕ) (all : List Session) {next : ℕ} → Sessions m at all next → allSessions m file at ≡ got all next
-  all-complete m at all w = section-complete (λ _. session m) (Fit file m) sessionBytes file (sessions-complete file m) 1 sessions at all w
+  pub all-complete : (m at : ℕ) (all : List FileSession) {next : ℕ} → Sessions m at all next → allSessions m file at ≡ got all next
+  all-complete m at all w = section-complete (λ _. session m) (Fit file m) sessionBytes file (sessions-complete file m) 1 fileSessions at all w
 
   abbrev pub Codes : (ℕ → Bool) → ℕ → List ℕ → ℕ → Type 0
   Codes group at all next = Section (code group) (New group) one file 0 255 at all next

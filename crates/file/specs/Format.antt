@@ -6,21 +6,17 @@ use Prim.Native.Nat.{ℕ, zero, suc, _/_, _%_, _≤_}
 use lib.ListN.{length}
 use Rattle.words.specs.Word.{width, WfRecorded}
 use Rattle.sequence.specs.Operators.{Unary, Binary, unaryCode, binaryCode}
-use Rattle.file.specs.Numbers.{sessions, propositions, bound}
+use Rattle.sections.specs.Numbers.{fileSessions, propositions, bound}
+pub use Rattle.sections.specs.Sections.{FileSession}
 use Rattle.reading.specs.Reading.{section, one}
 use Rattle.names.specs.Names.{nameBytes, GoodName}
 use Rattle.rules.specs.Lists.{Each}
 
 -- ---- the parts
 
-pub record Session : Type 0 where
-  pub mark : ℕ
-  pub length : ℕ
-  pub words : List ℕ
-
 pub record Parts : Type 0 where
   pub names : List (List ℕ)
-  pub sessions : List Session
+  pub sessions : List FileSession
   pub unary : List ℕ
   pub binary : List ℕ
   pub constants : ℕ
@@ -37,7 +33,7 @@ abbrev pub wordBytes : ℕ → List ℕ
 wordBytes w = lowFirst 8 w
 
 -- "sessions (mark, length, then m words ..)"
-abbrev pub sessionBytes : Session → List ℕ
+abbrev pub sessionBytes : FileSession → List ℕ
 sessionBytes s = one (s .mark) ++ (one (s .length) ++ flatMap wordBytes (s .words))
 
 -- "Sections in fixed order ..: names ..; sessions ..; unary codes; binary codes; settings (count 2: constants mark, B). Nothing follows."
@@ -52,7 +48,7 @@ fileBytes p =
 -- ---- which parts are good
 
 -- "What the table refuses with 1, 2, 4, 5, 6 or 7 is 8 here": a mark other than 0 or 1 (6), a length above 64 (4), a bit set at or above the length (5)
-pub record GoodSession (m : ℕ) (s : Session) : Type 0 where
+pub record GoodSession (m : ℕ) (s : FileSession) : Type 0 where
   pub mark : s .mark ≤ 1
   pub short : s .length ≤ width
   pub count : length (s .words) ≡ m
@@ -71,7 +67,7 @@ pub record Good (p : Parts) : Type 0 where
   pub fewNames : length (p .names) ≤ propositions
   pub names : Each GoodName [] (p .names)
   pub someSessions : 1 ≤ length (p .sessions)
-  pub fewSessions : length (p .sessions) ≤ sessions
+  pub fewSessions : length (p .sessions) ≤ fileSessions
   pub sessions : Each (λ _ s. GoodSession (length (p .names)) s) [] (p .sessions)
   pub unary : Each GoodUnary [] (p .unary)
   pub binary : Each GoodBinary [] (p .binary)

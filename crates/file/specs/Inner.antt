@@ -1,6 +1,5 @@
 -- How the reader's private functions speak of what they found. No public contract cites this file, so nothing here has to be believed.
 -- Assumes nothing.
-use mathlib.Core.Bool.{Bool, true, false}
 use mathlib.Core.List.{List, [], _∷_, _++_}
 use Prim.Native.Nat.{ℕ, zero, suc, _+_, _*_}
 use lib.ListN.{length, getD, take, drop}
@@ -8,22 +7,10 @@ use Rattle.file.specs.declared.Tail.{Tail}
 use Rattle.file.specs.declared.Tail.the-variants.{Read as TailRead, Broken as TailBroken}
 use Rattle.file.specs.declared.ReadAnswer.{ReadAnswer}
 use Rattle.file.specs.declared.ReadAnswer.the-variants.{Parts as AllParts, Broken as FileBroken}
-use Rattle.file.specs.Format.{Parts, Session}
+use Rattle.file.specs.Format.{Parts}
 use Rattle.reading.specs.Reading.{section, Got, got, bad, atEnd}
 use Rattle.names.specs.Names.{nameBytes}
-use Rattle.file.specs.Offence.{number, isUnary, isBinary, Settings, settings, wholeFile}
-
-abbrev pub nothing : {A : Type 0} → A → ℕ
-nothing a = 0
-
-abbrev pub wordCount : Session → ℕ
-wordCount s = length (s .words)
-
--- ---- codes
-
-abbrev pub groupOf : Bool → ℕ → Bool
-groupOf true c = isUnary c
-groupOf false c = isBinary c
+use Rattle.file.specs.Offence.{number, Settings, settings, wholeFile}
 
 -- ---- settings, and the whole
 

@@ -1,6 +1,5 @@
 -- What a reader must believe of the session file.
 -- `Inner` is only for the reader's private functions: no public contract cites it.
-pub mod Numbers
 pub mod Format
 pub mod Offence
 pub mod Reading

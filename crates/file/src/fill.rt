@@ -1,5 +1,5 @@
 // The writing pass: parts of a good file go into lent slices.
-use crate::bytes::word_at;
+use sections::bytes::word_from;
 ghost use mathlib.Core.Path.{_≡_};
 ghost use Prim.Native.Nat.{_+_, _*_, _≤_, _<_};
 ghost use lib.ListN.{length, drop};
@@ -28,7 +28,7 @@ fn fill_session(to: &mut [u64], k: usize, file: &[u8], at: usize, m: usize)
     let mut i: usize = 0;
     let mut p = at;
     while i < m {
-        to[k + i] = word_at(file, p);
+        to[k + i] = word_from(file, p);
         p += 8;
         i += 1;
     }

@@ -1,25 +1,20 @@
 // The session file and its reader (trace.rs: `Trace` and `Operators`): a pass that judges the whole file and writes nothing, and then a pass that
 // writes.
-mod bytes;
-mod codes;
 mod fill;
-mod sessions;
 
-use codes::codes_section;
 use fill::fill_bytes;
 use fill::fill_words;
 use reading::Step;
 use reading::byte_within;
-use sessions::sessions_section;
+use sections::codes::codes_section;
+use sections::sessions::sessions_section;
 ghost use mathlib.Core.Path.{_≡_};
 ghost use Prim.Native.Nat.{_+_, _<_};
 ghost use Rattle.file.specs.Reading.{said, after, lent, readOf};
 ghost use Rattle.file.specs.Inner.{tailOf, tailAt, answerOf};
 
-// Document 01's numbers for a file; for the contracts they are in specs/Numbers.antt. The counts are the file's own, since a
-// later request raises the library's alone.
-const SESSIONS: usize = 32;
-
+// Document 01's numbers for a file; for the contracts they are in sections' specs/Numbers.antt. The count is the file's own, since a later request raises
+// the library's alone.
 const PROPOSITIONS: usize = 16;
 
 const BOUND: usize = rules::BOUND;

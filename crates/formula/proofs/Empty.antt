@@ -4,7 +4,8 @@ use mathlib.Core.Logic.{_↔_, inl, inr, ⊎-elim}
 use native.Mathlib.Omega.{arith}
 use Rattle.sequence.specs.Operators.{not, weakNext, strongNext, finally, globally, or, and, until, release, implies, equiv}
 use Rattle.formula.specs.Formula.{Formula, leaf, unary, binary, proposition, constant, Trace, Accepts}
-use Rattle.formula.specs.Empty.{OnEmpty, Empty, EmptyTrace}
+use Rattle.formula.specs.Empty.{OnEmpty, Empty}
+use Rattle.formula.specs.Promises.{EmptyTrace}
 
 module _ (τ : Trace) (e : Empty τ) where
   table : (t : Formula) → Accepts τ t ↔ OnEmpty t

@@ -9,19 +9,19 @@ use native.Mathlib.Decide.{ℕ-discrete, decLt, decLe}
 use native.Mathlib.Omega.{arith}
 use lib.Dec.{lit≤}
 use lib.ListN.{length}
-use Rattle.sequence.specs.declared.operators.Operator.{Operator}
-use Rattle.sequence.specs.Table.{Listed, noRow}
-use Rattle.sequence.specs.Table.Listed.{unary as unary-row, binary as binary-row, neither as no-row}
+use Rattle.operators.specs.declared.Operator.{Operator}
+use Rattle.operators.specs.Table.{Listed, noRow}
+use Rattle.operators.specs.Table.Listed.{unary as unary-row, binary as binary-row, neither as no-row}
 use Rattle.sequence.proofs.Groups.{unary-below, binary-between}
-use Rattle.sequence.proofs.Table.{row-at}
+use Rattle.operators.proofs.Table.{row-at}
 use Rattle.formula.specs.Formula.{Leaf, proposition, constant}
 use Rattle.formula.specs.Nodes.{Node, nodeAt, leafCode, leafNumber}
 use Rattle.rules.specs.Limits.{mostSize, mostRoom}
 use Rattle.formula.specs.Rule.{IsUnary, IsBinary, IsLeaf, Known, Fault, Broken, propositionCode}
 use Rattle.formula.specs.Rule.Fault.{unaryPlace, leftPlace, rightPlace, unknownCode, noProposition, leftUnused, rightUnused, leafSize, unarySize, binarySize, tooLarge}
 use Rattle.formula.specs.Rule.Broken.{tooMany, listed, rooted}
-use Rattle.formula.specs.Inner.{LeafIn, Fits, AllFit}
-use Rattle.formula.specs.Inner.Fits.{leaf, unary, binary}
+use Rattle.formula.specs.Faultless.{LeafIn, Fits, AllFit}
+use Rattle.formula.specs.Faultless.Fits.{leaf, unary, binary}
 
 -- ---- codes
 

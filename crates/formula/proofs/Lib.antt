@@ -3,8 +3,5 @@ pub mod Listed
 pub mod Faults
 pub mod Tests
 pub mod Spelled
-pub mod Evaluation
 pub mod Empty
-pub mod Checking
 pub mod Unique
-pub mod Sequencing

@@ -14,8 +14,8 @@ use Rattle.formula.specs.Nodes.{Node, nodeAt, Spells, codes, leafCode, l
 use Rattle.rules.specs.Limits.{mostSize}
 use Rattle.formula.proofs.Trees.{spells-size}
 use Rattle.formula.specs.Rule.{Broken}
-use Rattle.formula.specs.Inner.{Fits, AllFit}
-use Rattle.formula.specs.Inner.Fits.{leaf as a-leaf, unary as a-unary, binary as a-binary}
+use Rattle.formula.specs.Faultless.{Fits, AllFit}
+use Rattle.formula.specs.Faultless.Fits.{leaf as a-leaf, unary as a-unary, binary as a-binary}
 use Rattle.formula.specs.Promises.{OneFormula}
 use Rattle.formula.proofs.Faults.{fits-small, whole-fits}
 

@@ -1,20 +1,21 @@
 -- What the tests of nodes, one after the other, say of the list.
 -- Assumes nothing.
 use mathlib.Core.Path.{_≡_, sym, subst}
-use mathlib.Core.Logic.{⊎-elim}
+use mathlib.Core.Logic.{inl, inr, ⊎-elim}
 use mathlib.Core.Bool.{Bool, true, false}
-use mathlib.Core.List.{List, [], _∷_}
+use mathlib.Core.List.{List, [], _∷_, _++_}
 use Prim.Native.Nat.{ℕ, _+_, _≤_, _<_}
 use native.Mathlib.Nat.{eq-or-lt-of-le}
 use native.Mathlib.Omega.{arith}
 use lib.ListN.{length}
-use Rattle.rules.specs.Refusals.{Decided}
+use Rattle.rules.specs.Refusals.{Row, Decided}
 use Rattle.rules.proofs.Refusals.{decided-given, decided-not}
 use Rattle.formula.specs.Nodes.{Node, nodeAt}
 use Rattle.rules.specs.Limits.{mostRoom}
 use Rattle.formula.specs.Rule.{Fault, brokenList}
 use Rattle.formula.specs.Rule.Broken.{tooMany, listed, rooted}
-use Rattle.formula.specs.Inner.{Fits, Judged, AllFit, AllJudged}
+use Rattle.formula.specs.Faultless.{Fits, AllFit}
+use Rattle.formula.specs.Inner.{Judged, AllJudged}
 use Rattle.formula.proofs.Faults.{fits-whole}
 
 module _ (m : ℕ) (k : List Node) where
@@ -46,3 +47,10 @@ module _ (m : ℕ) (k : List Node) where
         let g : Fits m k n root = subst (Judged m k n root) r i in
         decided-not (brokenList m k root)
         (fits-whole m k root (omega arith) (subst (AllFit m k) (sym e) f) (subst (λ (x : ℕ). Fits m k x root) (sym e) g))
+
+-- a number that is decided stays, whatever comes after
+pub decided-early : (rows more : List Row) (a : ℕ) → Decided rows a → (a ≡ 0 → ⊥) → Decided (rows ++ more) a
+unfolding Decided
+decided-early [] more a d n = absurd (n d)
+decided-early (row ∷ rows) more a (inl p) n = inl p
+decided-early (row ∷ rows) more a (inr p) n = inr (p .0, decided-early rows more a (p .1) n)

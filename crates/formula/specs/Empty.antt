@@ -1,11 +1,11 @@
--- Document 02, E4: "the usual reading of the empty trace", as it is written there, and the statement that the clauses of `Ltlf` say it.
+-- Document 02, E4: "the usual reading of the empty trace", as it is written there.
 -- Assumes nothing.
 use mathlib.Core.Path.{_≡_}
 use mathlib.Core.Bool.{true}
 use mathlib.Core.Logic.{_↔_, _⊎_}
 use Prim.Native.Nat.{ℕ}
 use Rattle.sequence.specs.Operators.{not, weakNext, strongNext, finally, globally, or, and, until, release, implies, equiv}
-use Rattle.formula.specs.Formula.{Formula, leaf, unary, binary, proposition, constant, Trace, Accepts}
+use Rattle.formula.specs.Formula.{Formula, leaf, unary, binary, proposition, constant, Trace}
 
 -- "propositions, false, `X[!]`, `F` and `U` are not accepted; true, `X`, `G` and `R` are; the Boolean operators follow their children"
 abbrev pub OnEmpty : Formula → Type 0
@@ -27,7 +27,3 @@ OnEmpty (binary equiv l r) = OnEmpty l ↔ OnEmpty r
 pub record Empty (τ : Trace) : Type 0 where
   pub no-snapshot : τ .length ≡ 0
   pub nothing : (p : ℕ) → τ .holds p 0 → ⊥
-
--- that table is the reading (empty-trace, in proofs/Empty)
-abbrev pub EmptyTrace : Type 1
-EmptyTrace = (τ : Trace) → Empty τ → (t : Formula) → Accepts τ t ↔ OnEmpty t

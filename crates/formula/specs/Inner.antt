@@ -1,98 +1,19 @@
 -- How private functions speak of nodes that pass the rule. No public contract cites this file, so nothing here has to be believed.
 -- Assumes nothing.
-use mathlib.Core.Path.{_≡_}
 use mathlib.Core.Bool.{Bool, true, false}
-use mathlib.Core.Logic.{_↔_, _⊎_}
-use mathlib.Core.List.{List, [], _∷_}
-use Prim.Native.Nat.{ℕ, _+_, _*_, _≤_, _<_}
-use lib.ListN.{length, getD}
-use Rattle.words.specs.Word.{width, At, Wf}
-use Rattle.sequence.specs.declared.CharSeq.{CharSeq}
-use Rattle.sequence.specs.Sequence.{Accepts, Denotes}
-use Rattle.sequence.specs.Operators.{Unary, Binary, unaryCode, binaryCode}
-use Rattle.formula.specs.Formula.{Leaf, proposition, constant, Formula, Trace, Holds}
-use Rattle.formula.specs.Nodes.{Node, nodeAt, Spells, codes, leafCode, leafNumber}
-use Rattle.session.specs.Recording.{Recording, lengthOf, wordOf}
-use Rattle.formula.specs.Recorded.{markedTrace}
-use Rattle.rules.specs.Limits.{mostSize}
-use Rattle.rules.specs.Kinds.{mostNumber}
+use mathlib.Core.List.{List}
+use Prim.Native.Nat.{ℕ, _<_}
+use Rattle.formula.specs.Nodes.{Node, nodeAt}
 use Rattle.formula.specs.Rule.{Fault}
-use Rattle.formula.specs.Check.{saidVerdict, Agrees}
-use Rattle.formula.specs.declared.Verdict.{Verdict}
-
-abbrev pub LeafIn : ℕ → Leaf → Type 0
-LeafIn m (proposition p) = p < m
-LeafIn m (constant b) = Unit {0}
+use Rattle.formula.specs.Faultless.{Fits, AllFit}
 
 module _ (m : ℕ) (k : List Node) where
-  -- a node without fault, by what it is
-  pub data Fits (below : ℕ) (n : Node) : Type 0 where
-    leaf : (c : Leaf) → n .code ≡ leafCode c → n .left ≡ leafNumber c → LeafIn m c → n .right ≡ 0 → n .size ≡ 1 → Fits below n
-    unary : (op : Unary) → n .code ≡ unaryCode op → n .left < below → n .right ≡ 0
-        → n .size ≡ 1 + nodeAt k (n .left) .size → n .size ≤ mostSize → Fits below n
-    binary : (op : Binary) → n .code ≡ binaryCode op → n .left < below → n .right < below
-        → n .size ≡ 1 + nodeAt k (n .left) .size + nodeAt k (n .right) .size → n .size ≤ mostSize → Fits below n
-
   -- what a test of one node says
   abbrev pub Judged : ℕ → Node → Bool → Type 0
-  Judged below n true = Fits below n
+  Judged below n true = Fits m k below n
   Judged below n false = Fault m k below n
-
-  -- the first `count` nodes are without fault
-  abbrev pub AllFit : ℕ → Type 0
-  AllFit count = (p : ℕ) → p < count → Fits p (nodeAt k p)
 
   -- what a test of the whole list says
   abbrev pub AllJudged : ℕ → Bool → Type 0
-  AllJudged count true = AllFit count
+  AllJudged count true = AllFit m k count
   AllJudged count false = (p : ℕ) × (p < count) × Fault m k p (nodeAt k p)
-
--- ---- evaluation
-
--- what was recorded of a session of n snapshots whose words stand from `from` on
-abbrev pub traceAt : ℕ → List ℕ → ℕ → Trace
-traceAt n words from = record { length = n; holds = λ p. At (getD words (from + p) 0) }
-
--- what the evaluator asks: a session's words are well formed, and the list, and the node over its first places, without fault
-pub record Ready (n : ℕ) (words : List ℕ) (from : ℕ) (k : List Node) (below : ℕ) (node : Node) : Type 0 where
-  pub short : n ≤ width
-  pub propositions : ℕ
-  pub few : propositions ≤ mostNumber
-  pub there : from + propositions ≤ length words
-  pub clear : (p : ℕ) → p < propositions → Wf n (getD words (from + p) 0)
-  pub all : AllFit propositions k (length k)
-  pub within : below ≤ length k
-  pub fits : Fits propositions k below node
-
--- what it answers: the sequence of whatever formula the node spells
-abbrev pub Evaluated : ℕ → List ℕ → ℕ → List Node → Node → CharSeq → Type 0
-Evaluated n words from k node r = (t : Formula) → Spells codes k node t → Denotes n (Holds (traceAt n words from) t) r
-
--- ---- the check
-
--- what a session says, where s is the formula's sequence there
-abbrev pub AgreesSeq : ℕ → CharSeq → Bool → Type 0
-AgreesSeq mark s r = (r ≡ true) ↔ ((mark ≡ 1) ↔ Accepts s)
-
--- the session data and the list have passed
-pub record Checkable (i : Recording) (k : List Node) (root : Node) : Type 0 where
-  pub marks-there : i .sessions ≤ length (i .marks)
-  pub lengths-there : i .sessions ≤ length (i .lengths)
-  pub words-there : i .propositions * i .sessions ≤ length (i .words)
-  pub few : i .propositions ≤ mostNumber
-  pub short : (j : ℕ) → j < i .sessions → lengthOf i j ≤ width
-  pub clear : (j p : ℕ) → j < i .sessions → p < i .propositions → Wf (lengthOf i j) (wordOf i j p)
-  pub all : AllFit (i .propositions) k (length k)
-  pub fits : Fits (i .propositions) k (length k) root
-
--- the sessions before j agree with whatever formula the root spells, and j does not or is their number
-pub record Found (i : Recording) (k : List Node) (root : Node) (j : ℕ) : Type 0 where
-  pub upto : j ≤ i .sessions
-  pub before : (t : Formula) → Spells codes k root t → (h : ℕ) → h < j → Agrees (markedTrace i h) t
-  pub here : (t : Formula) → Spells codes k root t → j < i .sessions → Agrees (markedTrace i j) t → ⊥
-
--- the verdict, where j is the first of so many sessions that disagrees, or their number
-abbrev pub VerdictOn : ℕ → ℕ → Verdict → Type 0
-VerdictOn sessions j v =
-    ((j < sessions) × (saidVerdict v ≡ record { number = 0; values = 0 ∷ j ∷ [] }))
-    ⊎ ((sessions ≤ j) × (saidVerdict v ≡ record { number = 0; values = 1 ∷ [] }))

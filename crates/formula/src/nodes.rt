@@ -2,8 +2,8 @@
 use crate::kinds::Node;
 use crate::kinds::PROPOSITION;
 use crate::kinds::TRUE;
+use operators::Group;
 use rules::kinds::Place;
-use sequence::operators::Group;
 ghost use mathlib.Core.Path.{_≡_};
 ghost use mathlib.Core.List.{[], _∷_};
 ghost use Prim.Native.Nat.{_≤_, _<_};
@@ -175,7 +175,7 @@ fn node_good(
     requires { ⌜ below ≤ countOf (now codes) (now lefts) (now rights) (now sizes) ⌝ }
     ensures { λ r. ⌜ Judged m (nodes (now (codes .entry)) (now (lefts .entry)) (now (rights .entry)) (now (sizes .entry))) below (nodeOf node) r ⌝ }
 {
-    let group = sequence::operators::operator_of(node.code).group;
+    let group = operators::operator_of(node.code).group;
     match group {
         Group::Unary => unary_good(m, codes, lefts, rights, sizes, below, node),
         Group::Binary => binary_good(m, codes, lefts, rights, sizes, below, node),

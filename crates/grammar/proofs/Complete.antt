@@ -9,11 +9,12 @@ use borrow.Author.Tests.{lt-ltb, eq-eqb, eqb-true}
 use lib.Dec.{eqb}
 use lib.ListN.{length, length-append}
 use Rattle.sequence.specs.Operators.{Unary, unaryToken}
-use Rattle.grammar.specs.Token.{Atom, name, constant, Token, pre, mid, atom, opens, closes, spell, spellAtom, isWord, Good, Apart, Spells, end, gap, token}
+use Rattle.grammar.specs.Token.{Atom, name, constant, Token, pre, mid, atom, opens, closes, spell, spellAtom, isWord, Good, Apart, SpelledBy, end, gap, token}
 use Rattle.sequence.specs.Operators.Unary.{not, weakNext, strongNext, finally, globally}
 use Rattle.sequence.specs.Operators.Binary.{or, and, until, release, implies, equiv}
 use Rattle.names.specs.Names.{sameBytes}
-use Rattle.grammar.specs.Scan.{Kind, wordy, square, sign, kind, Class, prefixed, leafy, neither, classify, State, ready, apart, after, word, rest, Step, dead, go, emit, onReady, onReadySign, onAfter, onAfterSign, onWord, onApart, step, Scan, good, bad, finish, behind, follow, scan}
+use Rattle.grammar.specs.Scan.{Kind, wordy, square, sign, kind, Class, prefixed, leafy, neither, classify, State, ready, apart, after, word, rest, Step, dead, go, emit}
+use Rattle.grammar.specs.Scan.{onReady, onReadySign, onAfter, onAfterSign, onWord, onApart, step, Scan, good, bad, finish, behind, follow, scan}
 use Rattle.grammar.specs.Passing.{ahead}
 use Rattle.grammar.proofs.Flat.{Phase, awaits, has, Flat, done, leaves, prefixes, opened, infixes, closed}
 use Rattle.reading.proofs.Lists.{true-false}
@@ -56,7 +57,8 @@ module _ (w : List ℕ) (d : ℕ) where
       by-test false q = refl
 
   -- a whole word, where no word goes on: a prefix operator, a leaf, or neither
-  pub ended-prefix : {u : Unary} → classify w ≡ prefixed u → (text : List ℕ) → Apart text → (sameBytes w (unaryToken weakNext) ≡ true → NoSquare text) → scan (word w d) text ≡ ahead 0 (pre u ∷ []) (scan (ready d) text)
+  pub ended-prefix : {u : Unary} → classify w ≡ prefixed u → (text : List ℕ) → Apart text → (sameBytes w (unaryToken weakNext) ≡ true → NoSquare text)
+      → scan (word w d) text ≡ ahead 0 (pre u ∷ []) (scan (ready d) text)
   unfolding scan step finish
   ended-prefix {u} c [] a n = rw c
   ended-prefix {u} c (b ∷ text) a n = at-kind (kind b) (kind-is b)
@@ -147,10 +149,13 @@ module _ {ts : List Token} (text : List ℕ) (ih : (p : Phase) (d : ℕ) → Fla
   read-token : (t : Token) → Good t → (isWord t ≡ true → Apart text) → {p : Phase} {d : ℕ} → Flat p d (t ∷ ts) → scan (at p d) (spell t ++ text) ≡ good (t ∷ ts)
   unfolding scan step kind classify
   read-token (pre not) g a {d = d} (prefixes u f) = rw (ih awaits d f)
-  read-token (pre weakNext) g a {d = d} (prefixes u f) = read-word d text (unaryToken weakNext) (record { letters = (refl, tt); short = omega arith }) (prefix-good (unaryToken weakNext) d refl text (a refl) (ih awaits d f))
+  read-token (pre weakNext) g a {d = d} (prefixes u f) = read-word d text (unaryToken weakNext) (record { letters = (refl, tt); short = omega arith })
+      (prefix-good (unaryToken weakNext) d refl text (a refl) (ih awaits d f))
   read-token (pre strongNext) g a {d = d} (prefixes u f) = rw (read-rest d 33 (93 ∷ []) (pre strongNext) text (ih awaits d f))
-  read-token (pre finally) g a {d = d} (prefixes u f) = read-word d text (unaryToken finally) (record { letters = (refl, tt); short = omega arith }) (prefix-good (unaryToken finally) d refl text (a refl) (ih awaits d f))
-  read-token (pre globally) g a {d = d} (prefixes u f) = read-word d text (unaryToken globally) (record { letters = (refl, tt); short = omega arith }) (prefix-good (unaryToken globally) d refl text (a refl) (ih awaits d f))
+  read-token (pre finally) g a {d = d} (prefixes u f) = read-word d text (unaryToken finally) (record { letters = (refl, tt); short = omega arith })
+      (prefix-good (unaryToken finally) d refl text (a refl) (ih awaits d f))
+  read-token (pre globally) g a {d = d} (prefixes u f) = read-word d text (unaryToken globally) (record { letters = (refl, tt); short = omega arith })
+      (prefix-good (unaryToken globally) d refl text (a refl) (ih awaits d f))
   read-token (mid or) g a {d = d} (infixes o f) = rw (ih awaits d f)
   read-token (mid and) g a {d = d} (infixes o f) = rw (ih awaits d f)
   read-token (mid until) g a {d = d} (infixes o f) = rw (read-apart d text (a refl), ih awaits d f)
@@ -158,12 +163,16 @@ module _ {ts : List Token} (text : List ℕ) (ih : (p : Phase) (d : ℕ) → Fla
   read-token (mid implies) g a {d = d} (infixes o f) = rw (read-rest d 62 [] (mid implies) text (ih awaits d f))
   read-token (mid equiv) g a {d = d} (infixes o f) = rw (read-rest d 45 (62 ∷ []) (mid equiv) text (ih awaits d f))
   read-token (atom (name w)) g a {d = d} (leaves l f) = read-word d text w (record { letters = letter-first w g; short = g .short }) (leaf-good w d (class-name w (g .free)) text (a refl) (ih has d f))
-  read-token (atom (constant true)) g a {d = d} (leaves l f) = read-word d text (spellAtom (constant true)) (record { letters = (refl, (refl, (refl, (refl, tt)))); short = omega arith }) (leaf-good (spellAtom (constant true)) d refl text (a refl) (ih has d f))
-  read-token (atom (constant false)) g a {d = d} (leaves l f) = read-word d text (spellAtom (constant false)) (record { letters = (refl, (refl, (refl, (refl, (refl, tt))))); short = omega arith }) (leaf-good (spellAtom (constant false)) d refl text (a refl) (ih has d f))
+  read-token (atom (constant true)) g a {d = d} (leaves l f) = read-word d text (spellAtom (constant true))
+      (record { letters = (refl, (refl, (refl, (refl, tt)))); short = omega arith })
+      (leaf-good (spellAtom (constant true)) d refl text (a refl) (ih has d f))
+  read-token (atom (constant false)) g a {d = d} (leaves l f) = read-word d text (spellAtom (constant false))
+      (record { letters = (refl, (refl, (refl, (refl, (refl, tt))))); short = omega arith })
+      (leaf-good (spellAtom (constant false)) d refl text (a refl) (ih has d f))
   read-token opens g a {d = d} (opened f) = rw (ih awaits (suc d) f)
   read-token closes g a (closed {d} f) = rw (ih has d f)
 
-pub complete : {ts : List Token} {text : List ℕ} → Spells ts text → {p : Phase} {d : ℕ} → Flat p d ts → scan (at p d) text ≡ good ts
+pub complete : {ts : List Token} {text : List ℕ} → SpelledBy ts text → {p : Phase} {d : ℕ} → Flat p d ts → scan (at p d) text ≡ good ts
 unfolding scan step kind finish
 complete end done = refl
 complete (gap s) {p = awaits} f = rw (complete s f)

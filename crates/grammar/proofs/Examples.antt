@@ -77,7 +77,8 @@ readings =
     ∷ to (binary or P (binary and Q R)) (112 ∷ 124 ∷ 113 ∷ 38 ∷ 114 ∷ [])  -- `p|q&r`
     ∷ to (binary implies P (binary equiv Q R)) (112 ∷ 32 ∷ 45 ∷ 62 ∷ 32 ∷ 113 ∷ 32 ∷ 60 ∷ 45 ∷ 62 ∷ 32 ∷ 114 ∷ [])  -- `p -> q <-> r`
     ∷ to (binary until (unary not P) (binary release Q R)) (33 ∷ 112 ∷ 32 ∷ 85 ∷ 32 ∷ 113 ∷ 32 ∷ 82 ∷ 32 ∷ 114 ∷ [])  -- `!p U q R r`
-    ∷ to (binary implies (binary or (binary and (binary release P Q) R) P) Q) (112 ∷ 32 ∷ 82 ∷ 32 ∷ 113 ∷ 32 ∷ 38 ∷ 32 ∷ 114 ∷ 32 ∷ 124 ∷ 32 ∷ 112 ∷ 32 ∷ 45 ∷ 62 ∷ 32 ∷ 113 ∷ [])  -- `p R q & r | p -> q`
+    ∷ to (binary implies (binary or (binary and (binary release P Q) R) P) Q)
+    (112 ∷ 32 ∷ 82 ∷ 32 ∷ 113 ∷ 32 ∷ 38 ∷ 32 ∷ 114 ∷ 32 ∷ 124 ∷ 32 ∷ 112 ∷ 32 ∷ 45 ∷ 62 ∷ 32 ∷ 113 ∷ [])  -- `p R q & r | p -> q`
     ∷ to (binary until (unary finally P) Q) (70 ∷ 40 ∷ 112 ∷ 41 ∷ 85 ∷ 40 ∷ 113 ∷ 41 ∷ [])  -- `F(p)U(q)`
     ∷ to (unary globally (binary implies P (leaf (constant true)))) (71 ∷ 40 ∷ 112 ∷ 32 ∷ 45 ∷ 62 ∷ 32 ∷ 116 ∷ 114 ∷ 117 ∷ 101 ∷ 41 ∷ [])  -- `G(p -> true)`
     ∷ to P (40 ∷ 40 ∷ 112 ∷ 41 ∷ 41 ∷ [])  -- `((p))`

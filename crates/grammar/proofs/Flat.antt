@@ -87,7 +87,8 @@ meaning (prefixes u f) =
 meaning (opened {d} {ts} f) =
     let m = meaning f in
     let xs = m .0 in
-    let e : opens ∷ ts ≡ (opens ∷ (xs ++ (closes ∷ []))) ++ (m .4 .0) = ap (λ (x : List Token). opens ∷ x) (m .2 ∙ ap (λ (x : List Token). xs ++ x) (m .4 .1) ∙ sym (append-assoc xs (closes ∷ []) (m .4 .0))) in
+    let e : opens ∷ ts ≡ (opens ∷ (xs ++ (closes ∷ []))) ++ (m .4 .0) = ap (λ (x : List Token). opens ∷ x)
+    (m .2 ∙ ap (λ (x : List Token). xs ++ x) (m .4 .1) ∙ sym (append-assoc xs (closes ∷ []) (m .4 .0))) in
     rw e (m .4 .2 (opens ∷ (xs ++ (closes ∷ []))) (_, bracket (m .3 .1)))
 meaning (infixes {d} {ts} o f) = λ us a.
     let m = meaning f in

@@ -7,7 +7,7 @@ use mathlib.Core.Option.{Option, some, none}
 use Prim.Native.Nat.{ℕ}
 use native.Mathlib.Omega.{arith}
 use lib.Dec.{eqb}
-use Rattle.grammar.specs.Token.{name, constant, Token, pre, mid, atom, opens, closes, spell, spellAtom, isWord, Good, Apart, Spells, end, gap, token}
+use Rattle.grammar.specs.Token.{name, constant, Token, pre, mid, atom, opens, closes, spell, spellAtom, isWord, Good, Apart, SpelledBy, end, gap, token}
 use Rattle.sequence.specs.Operators.Unary.{not, weakNext, strongNext, finally, globally}
 use Rattle.sequence.specs.Operators.Binary.{or, and, until, release, implies, equiv}
 use Rattle.sequence.specs.Operators.{unaryToken, binaryToken}
@@ -119,7 +119,7 @@ module _ (text : List ℕ) {ts : List Token} where
 whole : (text : List ℕ) {ts : List Token} (t : Token) (w : List ℕ) → LetterFirst w → wordToken w (classify w) ≡ t → Apart text → lex free text ≡ some ts → lex free (w ++ text) ≡ some (t ∷ ts)
 whole text {ts} t w l c a e = begun text w l (ended w text a e ∙ ap (λ (x : Token). some (x ∷ ts)) c)
 
-lexed : {ts : List Token} {text : List ℕ} → Spells ts text → lex free text ≡ some ts
+lexed : {ts : List Token} {text : List ℕ} → SpelledBy ts text → lex free text ≡ some ts
 unfolding lex kind classify
 lexed end = refl
 lexed (gap s) = rw (lexed s)
@@ -143,5 +143,5 @@ lexed (token {ts} {text} t g a s) = by-token t g a (lexed s)
     by-token opens g a e = rw e
     by-token closes g a e = rw e
 
-pub one-spelling : {ts us : List Token} {text : List ℕ} → Spells ts text → Spells us text → ts ≡ us
+pub one-spelling : {ts us : List Token} {text : List ℕ} → SpelledBy ts text → SpelledBy us text → ts ≡ us
 one-spelling s r = let p = lexed s in let q = lexed r in cc

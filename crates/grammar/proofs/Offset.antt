@@ -7,7 +7,8 @@ use Prim.Native.Nat.{ℕ, zero, suc, _≤_, _<_}
 use native.Mathlib.Omega.{arith}
 use lib.ListN.{length, take}
 use Rattle.grammar.specs.Token.{Atom, Token, closes, Apart}
-use Rattle.grammar.specs.Scan.{kind, Class, prefixed, leafy, neither, classify, State, ready, apart, after, word, rest, Step, dead, go, step, Scan, good, bad, finish, finishWord, behind, follow, scan}
+use Rattle.grammar.specs.Scan.{kind, Class, prefixed, leafy, neither, classify, State, ready, apart, after, word, rest, Step, dead, go, step, Scan, good, bad, finish}
+use Rattle.grammar.specs.Scan.{finishWord, behind, follow, scan}
 use Rattle.grammar.proofs.Words.{ClassIs, class-is}
 use Rattle.grammar.proofs.Complete.{bad-good, prefix-good, leaf-good, read-word, read-rest}
 

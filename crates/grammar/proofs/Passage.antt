@@ -129,7 +129,8 @@ module _ (text : List ℕ) where
   pub is-leaf : {at next : ℕ} (l : Atom) → ((d : ℕ) → Passes text (ready d) at (atom l ∷ []) (after d) next) → Expression text operand at next (leaf l)
   is-leaf l p = record { tokens = atom l ∷ []; passes = p; derived = grammar.alone l }
 
-  pub is-prefix : {at mid next : ℕ} {t : Typed} (u : Unary) → ((d : ℕ) → Passes text (ready d) at (pre u ∷ []) (ready d) mid) → Expression text operand mid next t → Expression text operand at next (unary u t)
+  pub is-prefix : {at mid next : ℕ} {t : Typed} (u : Unary) → ((d : ℕ) → Passes text (ready d) at (pre u ∷ []) (ready d) mid) → Expression text
+      operand mid next t → Expression text operand at next (unary u t)
   is-prefix u p x = record { tokens = pre u ∷ x .tokens; passes = λ d. pass-then (p d) (x .passes d); derived = prefix u (x .derived) }
 
   -- ---- the returns of `infix`: an operand, and what goes on

@@ -11,7 +11,8 @@ use Rattle.sequence.specs.Operators.{Binary}
 use Rattle.sequence.specs.Operators.Binary.{or, and, until, release, implies, equiv}
 use Rattle.names.specs.Names.{isNameByte}
 use Rattle.grammar.specs.Token.{Token, mid}
-use Rattle.grammar.specs.Scan.{Sign, blank, bang, opener, closer, amp, bar, dash, less, other, Kind, wordy, square, sign, kind, State, ready, apart, after, rest, dead, go, step, Scan, good, bad, finish, behind, scan}
+use Rattle.grammar.specs.Scan.{Sign, blank, bang, opener, closer, amp, bar, dash, less, other, Kind, wordy, square, sign, kind, State, ready, apart, after, rest, dead, go}
+use Rattle.grammar.specs.Scan.{step, Scan, good, bad, finish, behind, scan}
 use Rattle.grammar.specs.Passing.{ahead, Peek, op, nothing, cut, further, expect, alone, peekSign, peekKind, peek}
 use Rattle.grammar.proofs.Words.{SignIs, KindIs, kind-is, kind-word}
 use Rattle.grammar.proofs.Complete.{read-apart}

@@ -10,7 +10,7 @@ use Rattle.sequence.specs.Operators.{unaryToken, binaryToken}
 use Rattle.formula.specs.Formula.{leaf, unary, binary, Leaf, proposition, Formula}
 use Rattle.formula.specs.Formula as formula
 use Rattle.text.specs.Text.{space, bracketed, leafText, text}
-use Rattle.grammar.specs.Token.{constant, Typed, Token, pre, mid, atom, opens, closes, Apart, Spells, end, gap, token}
+use Rattle.grammar.specs.Token.{constant, Typed, Token, pre, mid, atom, opens, closes, Apart, SpelledBy, end, gap, token}
 use Rattle.grammar.specs.Grammar.{Derives, alone, prefix, bracket, between, Reads}
 use Rattle.grammar.specs.Naming.{atomOf, typed, GoodLeaf, AllNamed}
 use Rattle.grammar.proofs.Levels.{sides, lower}
@@ -33,12 +33,13 @@ derives (binary o l r) = let s = sides o in lower (omega arith) (between o (lowe
 
 -- the text spells the tokens, before whatever begins with no word's byte
 abbrev Prints : List Token → List ℕ → Type 0
-Prints ts text = (us : List Token) (more : List ℕ) → Apart more → Spells us more → Spells (ts ++ us) (text ++ more)
+Prints ts text = (us : List Token) (more : List ℕ) → Apart more → SpelledBy us more → SpelledBy (ts ++ us) (text ++ more)
 
 -- in brackets, before anything
-wrap : (ts : List Token) (text : List ℕ) → Prints ts text → {us : List Token} {more : List ℕ} → Spells us more → Spells (inBrackets ts ++ us) (bracketed text ++ more)
+wrap : (ts : List Token) (text : List ℕ) → Prints ts text → {us : List Token} {more : List ℕ} → SpelledBy us more → SpelledBy (inBrackets ts ++ us) (bracketed text ++ more)
 wrap ts text p {us} {more} s =
-    let inner : Spells ((ts ++ (closes ∷ [])) ++ us) ((text ++ (41 ∷ [])) ++ more) = rw (append-assoc ts (closes ∷ []) us, append-assoc text (41 ∷ []) more) (p (closes ∷ us) (41 ∷ more) refl (plain closes tt refl s)) in
+    let inner : SpelledBy ((ts ++ (closes ∷ [])) ++ us) ((text ++ (41 ∷ [])) ++ more) = rw
+    (append-assoc ts (closes ∷ []) us, append-assoc text (41 ∷ []) more) (p (closes ∷ us) (41 ∷ more) refl (plain closes tt refl s)) in
     plain opens tt refl inner
 
 module _ (names : List (List ℕ)) where
@@ -56,7 +57,8 @@ module _ (names : List (List ℕ)) where
   prints (binary o l r) g us more a s =
       let ls = tokens (typed names l) in
       let rs = tokens (typed names r) in
-      let right : Spells (mid o ∷ (inBrackets rs ++ us)) (binaryToken o ++ (space ∷ (bracketed (text names r) ++ more))) = token (mid o) tt (λ _. refl) (gap (wrap rs (text names r) (prints r (g .1)) s)) in
+      let right : SpelledBy (mid o ∷ (inBrackets rs ++ us)) (binaryToken o ++ (space ∷ (bracketed (text names r) ++ more))) = token (mid o) tt
+      (λ _. refl) (gap (wrap rs (text names r) (prints r (g .1)) s)) in
       rw (
         append-assoc (inBrackets ls) (mid o ∷ inBrackets rs) us,
         append-assoc (bracketed (text names l)) (space ∷ (binaryToken o ++ (space ∷ bracketed (text names r)))) more,
@@ -66,5 +68,5 @@ module _ (names : List (List ℕ)) where
 
   pub printed : (t : Formula) → AllNamed names t → Reads (text names t) (typed names t)
   printed t g =
-      let s : Spells (tokens (typed names t)) (text names t) = rw append-nil at (rw append-nil at (prints t g [] [] tt end)) in
+      let s : SpelledBy (tokens (typed names t)) (text names t) = rw append-nil at (rw append-nil at (prints t g [] [] tt end)) in
       record { tokens = tokens (typed names t); spelt = s; derived = derives (typed names t) }

@@ -215,13 +215,15 @@ mutual
   more-sound (suc k) n p xs t [] h d c e = stays n [] h d tt e
   more-sound (suc k) n p xs t (pre v ∷ ts) h d c e = stays n (pre v ∷ ts) h d tt e
   more-sound (suc k) n p xs t (mid o ∷ ts) {u} {rest} h d c e =
-      let pick : (b : Bool) → leb n (level o) ≡ b → cond b (andThen (readInfix k (rightLevel o) ts) (λ r more. readMore k n (binary o t r) more)) (got t (mid o ∷ ts)) ≡ got u rest → Onward n xs (mid o ∷ ts) u rest = λ b. elim b [
+      let pick : (b : Bool) → leb n (level o) ≡ b → cond b (andThen (readInfix k (rightLevel o) ts) (λ r more. readMore k n (binary o t r) more))
+      (got t (mid o ∷ ts)) ≡ got u rest → Onward n xs (mid o ∷ ts) u rest = λ b. elim b [
         | true ↦ λ w q.
             let so = sides o in
             let s = in-turn (readInfix k (rightLevel o) ts) (λ r more. readMore k n (binary o t r) more) q in
             let y = infix-sound k (rightLevel o) ts (omega arith) (s .2) in
             let ys = y .0 .0 in
-            let m = more-sound k n (level o) (xs ++ (mid o ∷ ys)) (binary o t (s .0)) (s .1) (leb-true n (level o) w) (between o (lower c d) (y .0 .2)) (next-map (λ v g. takes-over o v g) (s .1) (y .1)) (s .3) in (
+            let m = more-sound k n (level o) (xs ++ (mid o ∷ ys)) (binary o t (s .0)) (s .1) (leb-true n (level o) w)
+            (between o (lower c d) (y .0 .2)) (next-map (λ v g. takes-over o v g) (s .1) (y .1)) (s .3) in (
               mid o ∷ (ys ++ m .0),
               ap (λ (x : List Token). mid o ∷ x) (two-parts ys (m .0) rest (y .0 .1) (m .1)),
               rw (append-assoc xs (mid o ∷ ys) (m .0)) at (m .2),

@@ -12,21 +12,23 @@ use Rattle.sequence.specs.Operators.Unary.{not, weakNext, strongNext}
 use Rattle.sequence.specs.Operators.Binary.{or, and, until, release, implies, equiv}
 use Rattle.sequence.specs.Operators.{unaryToken}
 use Rattle.names.specs.Names.{isNameByte, sameBytes}
-use Rattle.grammar.specs.Token.{Token, pre, mid, atom, opens, closes, spell, isWord, Good, Apart, Spells, end, gap, token}
-use Rattle.grammar.specs.Scan.{Sign, blank, bang, opener, closer, amp, bar, dash, less, other, Kind, wordy, square, sign, kind, Class, prefixed, leafy, neither, classify, State, ready, apart, after, word, rest, Step, dead, go, emit, onReady, onReadySign, onAfter, onAfterSign, onEnded, onWord, onApart, coming, step, Scan, good, bad, finish, finishWord, behind, follow, scan}
+use Rattle.grammar.specs.Token.{Token, pre, mid, atom, opens, closes, spell, isWord, Good, Apart, SpelledBy, end, gap, token}
+use Rattle.grammar.specs.Scan.{Sign, blank, bang, opener, closer, amp, bar, dash, less, other, Kind, wordy, square, sign, kind, Class, prefixed, leafy, neither, classify}
+use Rattle.grammar.specs.Scan.{State, ready, apart, after, word, rest, Step, dead, go, emit, onReady, onReadySign, onAfter, onAfterSign, onEnded, onWord, onApart, coming}
+use Rattle.grammar.specs.Scan.{step, Scan, good, bad, finish, finishWord, behind, follow, scan}
 use Rattle.grammar.proofs.Flat.{awaits, has, Flat, done, leaves, prefixes, opened, infixes, closed}
 use Rattle.reading.proofs.Lists.{true-false}
-use Rattle.names.proofs.Same.{same-eq}
+use Rattle.spelling.proofs.Same.{same-eq}
 use Rattle.grammar.proofs.Words.{WordBytes, SignIs, KindIs, kind-is, Begun, ClassIs, class-is}
 use Rattle.grammar.proofs.Complete.{bad-good}
 
 -- what a state that takes a text's tokens says of them
 pub Means : State → List ℕ → List Token → Type 0
-Means (ready d) text ts = Spells ts text × Flat awaits d ts
-Means (apart d) text ts = Apart text × Spells ts text × Flat awaits d ts
-Means (after d) text ts = Spells ts text × Flat has d ts
-Means (word w d) text ts = Begun w → Spells ts (w ++ text) × Flat awaits d ts
-Means (rest c cs t d) text ts = (us : List Token) × (more : List ℕ) × (ts ≡ t ∷ us) × (text ≡ c ∷ (cs ++ more)) × Spells us more × Flat awaits d us
+Means (ready d) text ts = SpelledBy ts text × Flat awaits d ts
+Means (apart d) text ts = Apart text × SpelledBy ts text × Flat awaits d ts
+Means (after d) text ts = SpelledBy ts text × Flat has d ts
+Means (word w d) text ts = Begun w → SpelledBy ts (w ++ text) × Flat awaits d ts
+Means (rest c cs t d) text ts = (us : List Token) × (more : List ℕ) × (ts ≡ t ∷ us) × (text ≡ c ∷ (cs ++ more)) × SpelledBy us more × Flat awaits d us
 
 of-behind : (out : List Token) (x : Scan) {ts : List Token} → behind out x ≡ good ts → (us : List Token) × (x ≡ good us) × (ts ≡ out ++ us)
 of-behind out (good us) e = (us, refl, cc)
@@ -45,11 +47,11 @@ grown (a ∷ w) b g h l = record { letters = (g .letters .0, all w (g .letters .
     all (a ∷ w) o = (o .0, all w (o .1))
 
 -- a token that is no word
-pub plain : (t : Token) → Good t → isWord t ≡ false → {ts : List Token} {text : List ℕ} → Spells ts text → Spells (t ∷ ts) (spell t ++ text)
+pub plain : (t : Token) → Good t → isWord t ≡ false → {ts : List Token} {text : List ℕ} → SpelledBy ts text → SpelledBy (t ∷ ts) (spell t ++ text)
 plain t g n s = token t g (λ w. absurd (true-false w n)) s
 
 -- the same, with the tokens and the text by equations
-plain-of : (t : Token) → Good t → isWord t ≡ false → {ts us : List Token} {text : List ℕ} (more : List ℕ) → ts ≡ t ∷ us → text ≡ spell t ++ more → Spells us more → Spells ts text
+plain-of : (t : Token) → Good t → isWord t ≡ false → {ts us : List Token} {text : List ℕ} (more : List ℕ) → ts ≡ t ∷ us → text ≡ spell t ++ more → SpelledBy us more → SpelledBy ts text
 plain-of t g n more p q s = rw (p, q) (plain t g n s)
 
 -- ---- one byte, with the text behind it
@@ -63,10 +65,10 @@ module _ (text : List ℕ) (ih : (s : State) (ts : List Token) → scan s text �
   next out s e = let b = of-behind out (scan s text) e in (b .0, b .2, ih s (b .0) (b .1))
 
   abbrev Ready : ℕ → ℕ → List Token → Type 0
-  Ready d b ts = Spells ts (b ∷ text) × Flat awaits d ts
+  Ready d b ts = SpelledBy ts (b ∷ text) × Flat awaits d ts
 
   abbrev After : ℕ → ℕ → List Token → Type 0
-  After d b ts = Spells ts (b ∷ text) × Flat has d ts
+  After d b ts = SpelledBy ts (b ∷ text) × Flat has d ts
 
   ready-sign : (d b : ℕ) (s : Sign) → SignIs b s → {ts : List Token} → Then (onReadySign d s) ts → Ready d b ts
   unfolding Means
@@ -119,13 +121,14 @@ module _ (text : List ℕ) (ih : (s : State) (ts : List Token) → scan s text �
   after-kind d b square h e = absurd (bad-good e)
   after-kind d b (sign s) h e = after-sign d b s (h .1) e
 
-  apart-kind : (d b : ℕ) (k : Kind) → KindIs b k → {ts : List Token} → Then (onApart d k) ts → (isNameByte b ≡ false) × Spells ts (b ∷ text) × Flat awaits d ts
+  apart-kind : (d b : ℕ) (k : Kind) → KindIs b k → {ts : List Token} → Then (onApart d k) ts → (isNameByte b ≡ false) × SpelledBy ts (b ∷ text) × Flat awaits d ts
   apart-kind d b (wordy l) h e = absurd (bad-good e)
   apart-kind d b square h e = absurd (bad-good e)
   apart-kind d b (sign s) h e = let r = ready-sign d b s (h .1) e in (h .0, r .0, r .1)
 
   -- a word that has ended
-  ended : (w : List ℕ) (d b : ℕ) (s : Sign) → Begun w → isNameByte b ≡ false → SignIs b s → (c : Class) → ClassIs w c → {ts : List Token} → Then (onEnded c d s) ts → Spells ts (w ++ (b ∷ text)) × Flat awaits d ts
+  ended : (w : List ℕ) (d b : ℕ) (s : Sign) → Begun w → isNameByte b ≡ false → SignIs b s → (c : Class) → ClassIs w c → {ts : List Token} → Then
+      (onEnded c d s) ts → SpelledBy ts (w ++ (b ∷ text)) × Flat awaits d ts
   ended w d b s g a h (prefixed u) c e =
       let n = of-emit (pre u) (onReadySign d s) (λ t. scan t text) e in
       let r = ready-sign d b s h (n .1) in
@@ -136,18 +139,18 @@ module _ (text : List ℕ) (ih : (s : State) (ts : List Token) → scan s text �
       rw (n .2, ← (c .0)) (token (atom l) (c .1 g) (λ _. a) (r .0), leaves l (r .1))
   ended w d b s g a h neither c e = absurd (bad-good e)
 
-  word-kind : (w : List ℕ) (d b : ℕ) (k : Kind) → KindIs b k → {ts : List Token} → Then (onWord w d b k) ts → Begun w → Spells ts (w ++ (b ∷ text)) × Flat awaits d ts
+  word-kind : (w : List ℕ) (d b : ℕ) (k : Kind) → KindIs b k → {ts : List Token} → Then (onWord w d b k) ts → Begun w → SpelledBy ts (w ++ (b ∷ text)) × Flat awaits d ts
   unfolding Means
   word-kind w d b (wordy l) h {ts} e g = short (ltb (length w) 16) refl e
     where
-      short : (p : Bool) → ltb (length w) 16 ≡ p → Then (cond p (go [] (word (w ++ (b ∷ [])) d)) dead) ts → Spells ts (w ++ (b ∷ text)) × Flat awaits d ts
+      short : (p : Bool) → ltb (length w) 16 ≡ p → Then (cond p (go [] (word (w ++ (b ∷ [])) d)) dead) ts → SpelledBy ts (w ++ (b ∷ text)) × Flat awaits d ts
       short true q e =
           let n = next [] (word (w ++ (b ∷ [])) d) e in
           rw (n .1, ← (append-assoc w (b ∷ []) text)) (n .2 (grown w b g (h .0) (ltb-true (length w) 16 q)))
       short false q e = absurd (bad-good e)
   word-kind w d b square h {ts} e g = strong (sameBytes w (unaryToken weakNext)) refl e
     where
-      strong : (p : Bool) → sameBytes w (unaryToken weakNext) ≡ p → Then (cond p (go [] (rest 33 (93 ∷ []) (pre strongNext) d)) dead) ts → Spells ts (w ++ (b ∷ text)) × Flat awaits d ts
+      strong : (p : Bool) → sameBytes w (unaryToken weakNext) ≡ p → Then (cond p (go [] (rest 33 (93 ∷ []) (pre strongNext) d)) dead) ts → SpelledBy ts (w ++ (b ∷ text)) × Flat awaits d ts
       strong true q e =
           let n = next [] (rest 33 (93 ∷ []) (pre strongNext) d) e in
           let r = n .2 in
@@ -169,7 +172,7 @@ module _ (text : List ℕ) (ih : (s : State) (ts : List Token) → scan s text �
 
 -- ---- whole texts
 
-finish-word : (w : List ℕ) (d : ℕ) (c : Class) → ClassIs w c → {ts : List Token} → finishWord c d ≡ good ts → Begun w → Spells ts (w ++ []) × Flat awaits d ts
+finish-word : (w : List ℕ) (d : ℕ) (c : Class) → ClassIs w c → {ts : List Token} → finishWord c d ≡ good ts → Begun w → SpelledBy ts (w ++ []) × Flat awaits d ts
 finish-word w d (prefixed u) c e g = absurd (bad-good e)
 finish-word w zero (leafy l) c {ts} e g =
     let q : ts ≡ atom l ∷ [] = cc in
@@ -191,6 +194,6 @@ means (b ∷ text) (after d) ts e = after-kind text (means text) d b (kind b) (k
 means (b ∷ text) (word w d) ts e = word-kind text (means text) w d b (kind b) (kind-is b) e
 means (b ∷ text) (rest c cs t d) ts e = rest-byte text (means text) c cs t d b (eqb b c) refl e
 
-pub sound : (text : List ℕ) {ts : List Token} → scan (ready 0) text ≡ good ts → Spells ts text × Flat awaits 0 ts
+pub sound : (text : List ℕ) {ts : List Token} → scan (ready 0) text ≡ good ts → SpelledBy ts text × Flat awaits 0 ts
 unfolding Means
 sound text {ts} e = means text (ready 0) ts e

@@ -110,7 +110,8 @@ starts-alive text s = by-scan (scanText text) refl
     by-scan (bad k) q =
         ⊎-elim
         (λ h.
-        let e : take (suc k) text ++ (drop (suc k) text ++ s .0) ≡ text ++ s .0 = sym (append-assoc (take (suc k) text) (drop (suc k) text) (s .0)) ∙ ap (λ (x : List ℕ). x ++ s .0) (take-append-drop (suc k) text) in
+        let e : take (suc k) text ++ (drop (suc k) text ++ s .0) ≡ text ++ s .0 = sym (append-assoc (take (suc k) text) (drop (suc k) text) (s .0)) ∙
+        ap (λ (x : List ℕ). x ++ s .0) (take-append-drop (suc k) text) in
         absurd (scanning.bad-good (sym (h .1 (drop (suc k) text ++ s .0)) ∙ ap scanText e ∙ formula-scan (s .1 .1))))
         (λ h. eq-eqb k (length text) h)
         (at-bad (ready 0) text q)

@@ -11,7 +11,7 @@ use lib.Dec.{eqb, lit≤}
 use lib.ListN.{length}
 use Rattle.rules.specs.Lists.{Each}
 use Rattle.reading.proofs.Lists.{true-false, not-in}
-use Rattle.names.proofs.Same.{same-refl, same-eq}
+use Rattle.spelling.proofs.Same.{same-refl, same-eq}
 use Rattle.names.proofs.NameLaws.{Letter}
 use Rattle.text.proofs.Tokens.{unary-reserved, binary-reserved, constant-reserved}
 use Rattle.grammar.specs.Token.{name, pre, spellAtom, isWord, GoodAtom}

@@ -8,7 +8,7 @@ use lib.ListN.{length, take}
 use Rattle.sequence.specs.Operators.{Unary, Binary}
 use Rattle.sequence.specs.Operators.Binary.{or, and, until, release, implies, equiv}
 use Rattle.formula.specs.Formula.{leaf, unary, binary}
-use Rattle.grammar.specs.Token.{Atom, Typed, Token, pre, mid, atom, opens, closes, Spells}
+use Rattle.grammar.specs.Token.{Atom, Typed, Token, pre, mid, atom, opens, closes, SpelledBy}
 
 -- "then .. `U` and `R` (right), `&` (left), `|` (left), lowest `->` and `<->` together (right)"
 abbrev pub level : Binary → ℕ
@@ -54,7 +54,7 @@ pub data Derives : ℕ → List Token → Typed → Type 0 where
 -- the text is a formula, and this is its tree
 pub record Reads (text : List ℕ) (tree : Typed) : Type 0 where
   pub tokens : List Token
-  pub spelt : Spells tokens text
+  pub spelt : SpelledBy tokens text
   pub derived : Derives 0 tokens tree
 
 abbrev pub IsFormula : List ℕ → Type 0

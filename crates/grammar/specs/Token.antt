@@ -72,7 +72,7 @@ Apart [] = Unit
 Apart (b ∷ text) = isNameByte b ≡ false
 
 -- "any number of spaces between tokens, needed only between two words"; before the first and after the last too
-pub data Spells : List Token → List ℕ → Type 0 where
-  end : Spells [] []
-  gap : {ts : List Token} {text : List ℕ} → Spells ts text → Spells ts (space ∷ text)
-  token : {ts : List Token} {text : List ℕ} (t : Token) → Good t → (isWord t ≡ true → Apart text) → Spells ts text → Spells (t ∷ ts) (spell t ++ text)
+pub data SpelledBy : List Token → List ℕ → Type 0 where
+  end : SpelledBy [] []
+  gap : {ts : List Token} {text : List ℕ} → SpelledBy ts text → SpelledBy ts (space ∷ text)
+  token : {ts : List Token} {text : List ℕ} (t : Token) → Good t → (isWord t ≡ true → Apart text) → SpelledBy ts text → SpelledBy (t ∷ ts) (spell t ++ text)

@@ -1,6 +1,6 @@
 -- From a search's answer to the lines that are written for it.
 -- Assumes nothing.
-use mathlib.Core.Path.{_≡_, sym, ap, _∙_, subst}
+use mathlib.Core.Path.{_≡_, refl, sym, ap, _∙_, subst}
 use mathlib.Core.List.{List, _++_, map}
 use Prim.Native.Nat.{ℕ, _+_, _≤_}
 use native.Mathlib.Omega.{arith}
@@ -12,22 +12,22 @@ use Rattle.formula.specs.Nodes.{Spells, codes}
 use Rattle.formula.specs.Nodes as walk
 use Rattle.walk.specs.Walk.{found}
 use Rattle.walk.specs.Input.{Input}
-use Rattle.walk.specs.Promises as promises
+use Rattle.walk.specs.Kept as tables
 use Rattle.formula.specs.declared.kinds.Node.{Node}
 use Rattle.formula.specs.Kinds.{nodeOf, nodes}
 use Rattle.formula.specs.Rule.{Broken}
 use Rattle.text.specs.Text.{text}
 use Rattle.text.proofs.Promises.{text-in}
 use Rattle.writing.specs.Writing.{Wrote}
-use Rattle.search.specs.declared.counts.Counts.{Counts}
+use Rattle.candidate.specs.declared.counts.Counts.{Counts}
 use Rattle.search.specs.declared.SearchAnswer.{SearchAnswer}
 use Rattle.search.specs.declared.SearchAnswer.the-variants.{Found, None, Full, Refused}
 use Rattle.search.specs.Table.{Cols}
 use Rattle.search.specs.Search.{tallyOf, Searched}
-use Rattle.lines.specs.Line.{newline, foundLine, noneLine, fullLine, refusedLine}
+use Rattle.line.specs.Line.{newline, foundLine, noneLine, fullLine, refusedLine}
 use Rattle.lines.specs.Bench.{inputOf}
 use Rattle.lines.specs.Inner.{Showable, ShownBy, Given, Written}
-use Rattle.lines.proofs.Digits.{found-short, full-short, none-short, refused-short}
+use Rattle.line.proofs.Digits.{found-short, full-short, none-short, refused-short}
 use Rattle.lines.proofs.Kept.{columns}
 use Rattle.lines.proofs.Shown.{front}
 use Rattle.lines.proofs.Searching.{Roomy, FoundAt, found-at, none-says, full-says, refused-says}
@@ -38,6 +38,9 @@ part-in new old list n e h = omega (arith, ap length e, length-append new (drop 
 
 pub part-is : (new old list : List ℕ) (n : ℕ) → list ≡ over new old → n ≡ length new → take n list ≡ new
 part-is new old list n e h = ap (take n) e ∙ front new old n h
+
+same-columns : {a b c d a′ b′ c′ d′ : List ℕ} → a ≡ a′ → b ≡ b′ → c ≡ c′ → d ≡ d′ → nodes a b c d ≡ nodes a′ b′ c′ d′
+same-columns e f g h = rw e (rw f (rw g (rw h refl)))
 
 -- the columns of a table in which a formula was found
 module _ {p : Parts} {g : Good p} {room : ℕ} {t : Cols} {roomy : Roomy t} {u : Cols} {root : Node} {c : Counts} (this : FoundAt p g room t roomy u root c) where
@@ -74,17 +77,14 @@ module _ {p : Parts} {g : Good p} {room : ℕ} {t : Cols} {roomy : Roomy t} {u :
   abbrev pub lent : List walk.Node
   lent = nodes (take n (u .codes)) (take n (u .lefts)) (take n (u .rights)) (take n (u .sizes))
 
-  pub kept-nodes : lent ≡ promises.nodes (this .table)
+  pub kept-nodes : lent ≡ tables.nodes (this .table)
   kept-nodes =
       let k = this .table in
       let b = part-is (map (λ c. c .node .code) k) (t .codes) (u .codes) n (ap (λ (x : Cols). x .codes) (this .holds)) (long (λ x. x .code)) in
       let c = part-is (map (λ c. c .node .left) k) (t .lefts) (u .lefts) n (ap (λ (x : Cols). x .lefts) (this .holds)) (long (λ x. x .left)) in
       let d = part-is (map (λ c. c .node .right) k) (t .rights) (u .rights) n (ap (λ (x : Cols). x .rights) (this .holds)) (long (λ x. x .right)) in
       let f = part-is (map (λ c. c .node .size) k) (t .sizes) (u .sizes) n (ap (λ (x : Cols). x .sizes) (this .holds)) (long (λ x. x .size)) in
-      ap (λ (x : List ℕ). nodes x (take n (u .lefts)) (take n (u .rights)) (take n (u .sizes))) b
-      ∙ ap (λ (x : List ℕ). nodes (map (λ c. c .node .code) k) x (take n (u .rights)) (take n (u .sizes))) c
-      ∙ ap (λ (x : List ℕ). nodes (map (λ c. c .node .code) k) (map (λ c. c .node .left) k) x (take n (u .sizes))) d
-      ∙ ap (λ (x : List ℕ). nodes (map (λ c. c .node .code) k) (map (λ c. c .node .left) k) (map (λ c. c .node .right) k) x) f
+      same-columns b c d f
       ∙ columns k
 
   pub nodes-many : length lent ≡ n
@@ -135,10 +135,16 @@ module _ (file : List ℕ) (i : Input) (p : Parts) (g : Given file i p) (t : Col
             outside = λ o. absurd (this .inside o);
           };
           wrote = v;
-          fits = omega (arith, length-append (foundLine (root .size) (c .tried) (length (lent this)) (c .dropped)) (text (p .names) f ++ newline), length-append (text (p .names) f) newline);
+          fits = omega (
+            arith,
+            length-append (foundLine (root .size) (c .tried) (length (lent this)) (c .dropped)) (text (p .names) f ++ newline),
+            length-append (text
+                (p .names) f) newline,
+          );
         }
 
-  pub none-returns : {n : Counts} → a ≡ None n → {old new : List ℕ} {r : ℕ} → 512 ≤ length old → Wrote old 0 (noneLine (n .tried) (n .kept) (n .dropped)) new r → Written p (i .room) old r new
+  pub none-returns : {n : Counts} → a ≡ None n → {old new : List ℕ} {r : ℕ} → 512 ≤ length old → Wrote old 0 (noneLine (n .tried) (n .kept) (n .dropped)) new r → Written p
+      (i .room) old r new
   none-returns {n} e h v = record {
     lines = noneLine (n .tried) (n .kept) (n .dropped);
     says = none-says p (g .good) (i .room) t roomy u n (moved (None n) e);
@@ -146,7 +152,8 @@ module _ (file : List ℕ) (i : Input) (p : Parts) (g : Given file i p) (t : Col
     fits = omega (arith, none-short (n .tried) (n .kept) (n .dropped));
   }
 
-  pub full-returns : {size : ℕ} {n : Counts} → a ≡ Full size n → {old new : List ℕ} {r : ℕ} → 512 ≤ length old → Wrote old 0 (fullLine size (n .tried) (n .kept) (n .dropped)) new r → Written p (i .room) old r new
+  pub full-returns : {size : ℕ} {n : Counts} → a ≡ Full size n → {old new : List ℕ} {r : ℕ} → 512 ≤ length old → Wrote old 0 (fullLine size (n .tried) (n .kept)
+      (n .dropped)) new r → Written p (i .room) old r new
   full-returns {size} {n} e h v = record {
     lines = fullLine size (n .tried) (n .kept) (n .dropped);
     says = full-says p (g .good) (i .room) t roomy u size n (moved (Full size n) e);

@@ -27,10 +27,10 @@ use Rattle.file.proofs.Theorems.{front-is-names}
 use Rattle.walk.specs.Input.{Input}
 use Rattle.writing.specs.Writing.{Wrote}
 use Rattle.walk.specs.Input as walking
-use Rattle.lines.specs.Line.{brokenLine}
+use Rattle.line.specs.Line.{brokenLine}
 use Rattle.lines.specs.Bench.{inputOf, Says, LinesOf}
 use Rattle.lines.specs.Inner.{Given, GivenBy, WrittenFor}
-use Rattle.lines.proofs.Digits.{broken-short}
+use Rattle.line.proofs.Digits.{broken-short}
 use Rattle.lines.proofs.Shown.{front}
 
 -- the lent slices hold any good file's parts
@@ -55,7 +55,8 @@ module _ (p : Parts) (g : Good p) (l : Lent) (wide : Wide l) where
   room-for =
       let a : leb (length (p .sessions)) (length (l .marks)) ≡ true = le-leb (length (p .sessions)) (length (l .marks)) (omega (arith, wide .marks, g .fewSessions)) in
       let b : leb (length (p .sessions)) (length (l .lengths)) ≡ true = le-leb (length (p .sessions)) (length (l .lengths)) (omega (arith, wide .lengths, g .fewSessions)) in
-      let c : leb (length (p .names) * length (p .sessions)) (length (l .words)) ≡ true = le-leb (length (p .names) * length (p .sessions)) (length (l .words)) (omega (arith, wide .words, words-few)) in
+      let c : leb (length (p .names) * length (p .sessions)) (length (l .words)) ≡ true = le-leb (length (p .names) * length (p .sessions)) (length (l .words)) (omega
+      (arith, wide .words, words-few)) in
       let d : leb (length (p .unary)) (length (l .unary)) ≡ true = le-leb (length (p .unary)) (length (l .unary)) (omega (arith, wide .unary, unary-few)) in
       let e : leb (length (p .binary)) (length (l .binary)) ≡ true = le-leb (length (p .binary)) (length (l .binary)) (omega (arith, wide .binary, binary-few)) in
       rw (a, b, c, d, e)
@@ -151,7 +152,8 @@ module _ (file : List ℕ) (bytes : Bytes file) (l : Lent) (wide : Wide l) (a : 
     where
       go : (w : Got Parts) → wholeFile file ≡ w → Handed r m n u b constants bound
       go (bad o′) i =
-          let x : said (AllParts r m n u b constants bound) ≡ record { number = 8; values = o′ ∷ [] } = ap said (sym q) ∙ ap (λ (x : After). x .answer) e ∙ ap (λ (g : Got Parts). outcome g l .answer) i in
+          let x : said (AllParts r m n u b constants bound) ≡ record { number = 8; values = o′ ∷ [] } = ap said (sym q) ∙ ap (λ (x : After). x .answer) e ∙ ap (λ
+          (g : Got Parts). outcome g l .answer) i in
           absurd (omega (arith, number x))
       go (got p next) i =
           let t = passed-is-good file bytes p next i in
@@ -166,8 +168,10 @@ module _ (file : List ℕ) (bytes : Bytes file) (l : Lent) (wide : Wide l) (a : 
           let hb : b ≡ length (p .binary) = cc v in
           let hc : constants ≡ p .constants = cc v in
           let hd : bound ≡ p .bound = cc v in
-          let hw : m * r ≡ length (wordsOf p) = ap (λ (z : ℕ). z * r) hm ∙ ap (λ (z : ℕ). length (p .names) * z) hr ∙ sym (length-all-words (length (p .names)) (p .sessions) [] (g .sessions)) in
-          let f : take n file ≡ take (length (section nameBytes (p .names))) (fileBytes p) = ap (λ (z : ℕ). take z file) hn ∙ ap (take (length (section nameBytes (p .names)))) (sym (t .1)) in
+          let hw : m * r ≡ length (wordsOf p) = ap (λ (z : ℕ). z * r) hm ∙ ap (λ (z : ℕ). length (p .names) * z) hr ∙ sym (length-all-words (length (p .names))
+          (p .sessions) [] (g .sessions)) in
+          let f : take n file ≡ take (length (section nameBytes (p .names))) (fileBytes p) = ap (λ (z : ℕ). take z file) hn ∙ ap (take (length (section nameBytes
+          (p .names)))) (sym (t .1)) in
           let nin : n ≤ length file = omega (arith, hn, ap length (t .1), front-room p) in
           record {
             parts = p;
@@ -197,14 +201,22 @@ module _ (file : List ℕ) (bytes : Bytes file) (l : Lent) (wide : Wide l) (a : 
     pub same : input ≡ inputOf (h .parts) room
     same =
         ap (λ (z : ℕ). walking.inputOf z m bound room constants (take r marks) (take r lengths) (take (m * r) words) (take u unary) (take b binary)) (h .count)
-        ∙ ap (λ (z : ℕ). walking.inputOf (length (h .parts .sessions)) z bound room constants (take r marks) (take r lengths) (take (m * r) words) (take u unary) (take b binary)) (h .width)
-        ∙ ap (λ (z : ℕ). walking.inputOf (length (h .parts .sessions)) (length (h .parts .names)) z room constants (take r marks) (take r lengths) (take (m * r) words) (take u unary) (take b binary)) (h .size)
-        ∙ ap (λ (z : ℕ). walking.inputOf (length (h .parts .sessions)) (length (h .parts .names)) (h .parts .bound) room z (take r marks) (take r lengths) (take (m * r) words) (take u unary) (take b binary)) (h .mark)
-        ∙ ap (λ (z : List ℕ). walking.inputOf (length (h .parts .sessions)) (length (h .parts .names)) (h .parts .bound) room (h .parts .constants) z (take r lengths) (take (m * r) words) (take u unary) (take b binary)) (h .all-marks .is)
-        ∙ ap (λ (z : List ℕ). walking.inputOf (length (h .parts .sessions)) (length (h .parts .names)) (h .parts .bound) room (h .parts .constants) (marksOf (h .parts)) z (take (m * r) words) (take u unary) (take b binary)) (h .all-lengths .is)
-        ∙ ap (λ (z : List ℕ). walking.inputOf (length (h .parts .sessions)) (length (h .parts .names)) (h .parts .bound) room (h .parts .constants) (marksOf (h .parts)) (lengthsOf (h .parts)) z (take u unary) (take b binary)) (h .all-words .is)
-        ∙ ap (λ (z : List ℕ). walking.inputOf (length (h .parts .sessions)) (length (h .parts .names)) (h .parts .bound) room (h .parts .constants) (marksOf (h .parts)) (lengthsOf (h .parts)) (wordsOf (h .parts)) z (take b binary)) (h .all-unary .is)
-        ∙ ap (λ (z : List ℕ). walking.inputOf (length (h .parts .sessions)) (length (h .parts .names)) (h .parts .bound) room (h .parts .constants) (marksOf (h .parts)) (lengthsOf (h .parts)) (wordsOf (h .parts)) (h .parts .unary) z) (h .all-binary .is)
+        ∙ ap (λ (z : ℕ). walking.inputOf (length (h .parts .sessions)) z bound room constants (take r marks) (take r lengths) (take (m * r) words) (take u unary)
+        (take b binary)) (h .width)
+        ∙ ap (λ (z : ℕ). walking.inputOf (length (h .parts .sessions)) (length (h .parts .names)) z room constants (take r marks) (take r lengths) (take (m * r) words)
+        (take u unary) (take b binary)) (h .size)
+        ∙ ap (λ (z : ℕ). walking.inputOf (length (h .parts .sessions)) (length (h .parts .names)) (h .parts .bound) room z (take r marks) (take r lengths) (take
+        (m * r) words) (take u unary) (take b binary)) (h .mark)
+        ∙ ap (λ (z : List ℕ). walking.inputOf (length (h .parts .sessions)) (length (h .parts .names)) (h .parts .bound) room (h .parts .constants) z (take r lengths) (take
+        (m * r) words) (take u unary) (take b binary)) (h .all-marks .is)
+        ∙ ap (λ (z : List ℕ). walking.inputOf (length (h .parts .sessions)) (length (h .parts .names)) (h .parts .bound) room (h .parts .constants) (marksOf (h .parts)) z
+        (take (m * r) words) (take u unary) (take b binary)) (h .all-lengths .is)
+        ∙ ap (λ (z : List ℕ). walking.inputOf (length (h .parts .sessions)) (length (h .parts .names)) (h .parts .bound) room (h .parts .constants) (marksOf (h .parts))
+        (lengthsOf (h .parts)) z (take u unary) (take b binary)) (h .all-words .is)
+        ∙ ap (λ (z : List ℕ). walking.inputOf (length (h .parts .sessions)) (length (h .parts .names)) (h .parts .bound) room (h .parts .constants) (marksOf (h .parts))
+        (lengthsOf (h .parts)) (wordsOf (h .parts)) z (take b binary)) (h .all-unary .is)
+        ∙ ap (λ (z : List ℕ). walking.inputOf (length (h .parts .sessions)) (length (h .parts .names)) (h .parts .bound) room (h .parts .constants) (marksOf (h .parts))
+        (lengthsOf (h .parts)) (wordsOf (h .parts)) (h .parts .unary) z) (h .all-binary .is)
 
     given : Given (take n file) input (h .parts)
     given = record { good = h .good; next = n; front = h .front-is; same = same }

@@ -1,4 +1,3 @@
-pub mod Digits
 pub mod Sizes
 pub mod Kept
 pub mod Shown

@@ -13,14 +13,14 @@ use Rattle.formula.specs.Formula.{Formula, size}
 use Rattle.formula.proofs.Spelled.{one-formula}
 use Rattle.walk.specs.Walk.{Ending, found, none, full, Tally, ended}
 use Rattle.walk.specs.Input.{Input, Passes, search}
-use Rattle.walk.specs.Promises.{Table, nodes}
+use Rattle.walk.specs.Kept.{Table, nodes}
 use Rattle.walk.proofs.Promises as walk
 use Rattle.walk.proofs.Position.{tried-is-position}
 use Rattle.walk.proofs.Dropped.{tried-adds-up}
 use Rattle.text.specs.Text.{text}
 use Rattle.search.specs.Table.{Cols, cols}
 use Rattle.checks.proofs.Passing.{passes-whole}
-use Rattle.lines.specs.Line.{newline, foundLine, brokenLine, refusedLine}
+use Rattle.line.specs.Line.{newline, foundLine, brokenLine, refusedLine}
 use Rattle.lines.specs.Bench.{inputOf, EndSays, GoodSays, Says, LinesOf}
 use Rattle.lines.specs.Promises.{Counts, Meant, ShownFor, LinesMean}
 use Rattle.lines.specs.Promises.Meant.{is-found, is-none, is-full}

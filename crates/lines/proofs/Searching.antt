@@ -17,13 +17,13 @@ use Rattle.file.proofs.Theorems.{handed-out-passes, unary-pass, binary-pass, un
 use Rattle.rules.specs.Lists.{_∈_}
 use Rattle.walk.specs.Walk.{State, found, none, full, ended, kept}
 use Rattle.walk.specs.Input.{Input, offer, search}
-use Rattle.walk.specs.Promises.{Table, nodes}
+use Rattle.walk.specs.Kept.{Table, nodes}
 use Rattle.walk.proofs.Promises as walk
 use Rattle.walk.proofs.Reading.{lawful}
 use Rattle.formula.specs.declared.kinds.Node.{Node}
 use Rattle.formula.specs.Kinds.{nodeOf}
 use Rattle.formula.specs.Rule.{Broken}
-use Rattle.search.specs.declared.counts.Counts.{Counts}
+use Rattle.candidate.specs.declared.counts.Counts.{Counts}
 use Rattle.search.specs.declared.SearchAnswer.the-variants.{Found, None, Full, Refused}
 use Rattle.search.specs.Table.{Cols, tableOver}
 use Rattle.checks.specs.Refusals.{searchRows}
@@ -31,7 +31,7 @@ use Rattle.search.specs.Search.{tallyOf, walkSaid, Searched}
 use Rattle.checks.proofs.Decide.{is-two, is-zero, settings-fine, room-fine, codes-fine}
 use Rattle.checks.proofs.Passing.{passes-whole}
 use Rattle.search.proofs.Promises.{found-end, none-end, full-end}
-use Rattle.lines.specs.Line.{noneLine, fullLine, refusedLine}
+use Rattle.line.specs.Line.{noneLine, fullLine, refusedLine}
 use Rattle.lines.specs.Bench.{inputOf, GoodSays}
 use Rattle.lines.proofs.Sizes.{walk-small}
 use Rattle.lines.proofs.Kept.{kept-whole}
@@ -126,7 +126,8 @@ module _ (p : Parts) (g : Good p) (room : ℕ) (t : Cols) (roomy : Roomy t) wher
           holds = w .outcome .1 ∙ ap (λ (st : State (List ℕ)). tableOver (kept st) t) s;
           few = omega (arith, a .room, ok .room-in);
           whole = kept-whole (inputOf p room) (nodeOf root) k a f
-              (λ c h. let z = walk-small (offer (inputOf p room)) (lawful (inputOf p room)) room (p .bound) c (subst (λ (st : State (List ℕ)). c ∈ kept st) (sym s) h) in omega (arith, g .lowBound))
+              (λ c h. let z = walk-small (offer (inputOf p room)) (lawful (inputOf p room)) room (p .bound) c (subst (λ (st : State (List ℕ)). c ∈ kept st)
+              (sym s) h) in omega (arith, g .lowBound))
               (omega (arith, ok .room-in)) (omega (arith, g .lowBound));
           inside = λ o. not-outside 0 (w .decided) refl o;
         }

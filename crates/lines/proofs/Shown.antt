@@ -22,7 +22,7 @@ use Rattle.text.proofs.Promises.{text-in}
 use Rattle.writing.specs.Writing.{Wrote}
 use Rattle.writing.proofs.Writing.{wrote-both}
 use Rattle.reading.proofs.Readers.{got-value}
-use Rattle.lines.specs.Line.{newline, foundLine}
+use Rattle.line.specs.Line.{newline, foundLine}
 use Rattle.lines.specs.Inner.{Showable}
 
 module _ (file : List ℕ) (k : List Node) (root : Node) (names : List (List ℕ)) (next : ℕ) (e : wholeNames file ≡ got names next) (whole : Broken (length names) k root → ⊥) where
@@ -60,7 +60,8 @@ module _ (file : List ℕ) (k : List Node) (root : Node) (names : List (List ℕ
 pub front : (bytes old : List ℕ) (n : ℕ) → n ≡ length bytes → take n (over bytes old) ≡ bytes
 front bytes old n e = ap (λ (m : ℕ). take m (over bytes old)) e ∙ take-append-seam bytes _
 
-module _ (file : List ℕ) (k : List Node) (root : Node) (s : Showable file k root) (old : List ℕ) (room : length old ≡ mostText) (p : Printed) (new : List ℕ) (w : Prints file k root old (saidPrinted p) new) where
+module _ (file : List ℕ) (k : List Node) (root : Node) (s : Showable file k root) (old : List ℕ) (room : length old ≡ mostText) (p : Printed) (new : List ℕ)
+    (w : Prints file k root old (saidPrinted p) new) where
   -- the bytes at the start of the room are the text
   pub record Front (n : ℕ) : Type 0 where
     pub formula : Formula

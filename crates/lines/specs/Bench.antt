@@ -14,10 +14,10 @@ use Rattle.formula.specs.Formula.{Formula}
 use Rattle.formula.specs.Nodes.{Spells, codes}
 use Rattle.walk.specs.Walk.{Ending, found, none, full, Tally, ended}
 use Rattle.walk.specs.Input.{Input, search}
-use Rattle.walk.specs.Promises.{Table, nodes}
+use Rattle.walk.specs.Kept.{Table, nodes}
 use Rattle.text.specs.Text.{text}
 use Rattle.walk.specs.Input as walking
-use Rattle.lines.specs.Line.{newline, foundLine, noneLine, fullLine, brokenLine, refusedLine}
+use Rattle.line.specs.Line.{newline, foundLine, noneLine, fullLine, brokenLine, refusedLine}
 
 -- a file's parts, and a room, as the input of a search
 abbrev pub inputOf : Parts → ℕ → Input

@@ -13,7 +13,7 @@ use Rattle.walk.specs.Input.{Input}
 use Rattle.formula.specs.Rule.{Broken}
 use Rattle.text.specs.Text.{text}
 use Rattle.writing.specs.Writing.{Wrote}
-use Rattle.lines.specs.Line.{newline, foundLine}
+use Rattle.line.specs.Line.{newline, foundLine}
 use Rattle.lines.specs.Bench.{inputOf, GoodSays}
 
 -- names and a root node that can be printed

@@ -14,9 +14,10 @@ use Rattle.formula.specs.Recorded.{markedTraces}
 use Rattle.formula.specs.Nodes.{Node, Spells, codes}
 use Rattle.walk.specs.Walk.{Ending, found, none, full, trail}
 use Rattle.walk.specs.Input.{Input, language, separating, offer}
-use Rattle.walk.specs.Promises.{Table, nodes, NoneBelow, Kept, Full, DecidedAt, deciding}
+use Rattle.walk.specs.Kept.{Table, nodes}
+use Rattle.walk.specs.Promises.{NoneBelow, Kept, Full, DecidedAt, deciding}
 use Rattle.text.specs.Text.{text}
-use Rattle.lines.specs.Line.{newline, foundLine, noneLine, fullLine, brokenLine, refusedLine}
+use Rattle.line.specs.Line.{newline, foundLine, noneLine, fullLine, brokenLine, refusedLine}
 use Rattle.lines.specs.Bench.{inputOf, LinesOf}
 
 -- the counts of a line: the formulas kept, none of which separates and no two alike, the position of the candidate that ended the walk, and "tried

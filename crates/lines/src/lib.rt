@@ -1,6 +1,4 @@
 // What the bench says of a session file: reads it, searches with a room, and writes the answer's lines.
-mod line;
-
 use file::ReadAnswer;
 use formula::kinds::Node;
 use search::SearchAnswer;

@@ -13,7 +13,7 @@ use Rattle.names.specs.declared.lookup.Found.{Found}
 use Rattle.names.specs.declared.lookup.Found.the-variants.{At, Nothing}
 use Rattle.names.specs.Names.{sameBytes}
 use Rattle.names.specs.Lookup.{findFrom}
-use Rattle.names.proofs.Same.{same-refl, same-eq}
+use Rattle.spelling.proofs.Same.{same-refl, same-eq}
 
 -- among names that are numbered from i on
 abbrev pub FoundIs : List ℕ → List (List ℕ) → ℕ → Found → Type 0

@@ -1,7 +1,5 @@
-pub mod Same
 pub mod NameLaws
 pub mod Walks
-pub mod Words
 pub mod Lookups
 pub mod Finding
 pub mod Turns

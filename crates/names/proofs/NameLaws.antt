@@ -13,7 +13,7 @@ use Rattle.names.specs.Names.{nameLength, nameBytes, fitsName, GoodName,
 use Rattle.reading.specs.Reading.{one, got, bad, each, byte, within, counted, isIn}
 use Rattle.reading.proofs.Spans.{Spans, head, second, taken, inside}
 use Rattle.reading.proofs.Lists.{not-in, in-not, ones, or-first, or-second}
-use Rattle.names.proofs.Same.{same-refl, same-eq}
+use Rattle.spelling.proofs.Same.{same-refl, same-eq}
 use Rattle.reading.proofs.Readers.{got-bad, got-value, got-next, in-turn, byte-sound, byte-complete, Sound, Complete, row-sound, Section, section-sound, section-complete}
 
 abbrev pub Letter : List ℕ → ℕ → Type 0
@@ -55,7 +55,11 @@ module _ (file : List ℕ) where
   unfolding name
   name-complete before at a next g s =
       let w : Word at a next = record { some = g .some; few = g .short; fits = g .letters; spans = s } in
-      rw (section-complete letter Letter one file letter-complete 1 nameLength at a w, in-not sameBytes a (λ y p. same-eq a y p) reserved (g .free), in-not sameBytes a (λ y p. same-eq a y p) before (g .new))
+      rw (
+        section-complete letter Letter one file letter-complete 1 nameLength at a w,
+        in-not sameBytes a (λ y p. same-eq a y p) reserved (g .free),
+        in-not sameBytes a (λ y p. same-eq a y p) before (g .new),
+      )
 
   -- ---- one name, step by step
 

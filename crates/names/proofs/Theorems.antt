@@ -26,7 +26,8 @@ names-accepts file ns = (
       ((w .some, w .few, w .fits), run-whole file (section nameBytes ns) (w .spans))),
   λ t.
       let g = t .0 in
-      end-complete file (namesUpTo propositions file 0) ns (names-complete file propositions 0 ns (record { some = g .0; few = g .1; fits = g .2; spans = whole-run file (section nameBytes ns) (t .1) })),
+      end-complete file (namesUpTo propositions file 0) ns (names-complete file propositions 0 ns
+      (record { some = g .0; few = g .1; fits = g .2; spans = whole-run file (section nameBytes ns) (t .1) })),
 )
 
 names-one : (a b : NamesAnswer) → saidNames a ≡ saidNames b → a ≡ b

@@ -42,7 +42,8 @@ module _ (file : List ℕ) (count : ℕ) where
         let to : walkEnd file i 1 + 1 + getD file (walkEnd file i 1) 0 ≡ next = ap (λ (x : ℕ). x + 1 + getD file x 0) (sym (l .at)) ∙ sym (n .3) in
         record {
           loop = turn name file (l .loop) h (t .1);
-          seen = ap (λ (x : List (List ℕ)). x ++ (t .0 ∷ [])) (l .seen) ∙ ap (λ (x : List ℕ). walk file i 1 ++ (x ∷ [])) (sym is) ∙ sym (walk-more file i 1) ∙ ap (λ (k : ℕ). walk file k 1) (sym (add-one i));
+          seen = ap (λ (x : List (List ℕ)). x ++ (t .0 ∷ [])) (l .seen) ∙ ap (λ (x : List ℕ). walk file i 1 ++ (x ∷ [])) (sym is) ∙ sym
+              (walk-more file i 1) ∙ ap (λ (k : ℕ). walk file k 1) (sym (add-one i));
           at = sym (ap (λ (k : ℕ). walkEnd file k 1) (add-one i) ∙ end-more file i 1 ∙ to);
           room = inside file (nameBytes (t .0)) s (l .room);
         }

@@ -57,7 +57,8 @@ module _ (file name : List ℕ) (count : ℕ) where
         let m : count - j ≡ suc (count - (j + 1)) = omega arith in
         sym (end-on file (count - (j + 1)) p) ∙ ap (λ (k : ℕ). walkEnd file k p) (sym m) ∙ r .ends
 
-    known-step : j < count → isIn sameBytes name (walk file (count - j) p) ≡ (sameBytes name (take (getD file p 0) (drop (p + 1) file)) || isIn sameBytes name (walk file (count - (j + 1)) (p + 1 + getD file p 0)))
+    known-step : j < count → isIn sameBytes name (walk file (count - j) p) ≡
+        (sameBytes name (take (getD file p 0) (drop (p + 1) file)) || isIn sameBytes name (walk file (count - (j + 1)) (p + 1 + getD file p 0)))
     known-step h =
         let m : count - j ≡ suc (count - (j + 1)) = omega arith in
         rw (m, walk-on file (count - (j + 1)) p)

@@ -9,6 +9,7 @@ use Rattle.names.specs.declared.NamesAnswer.{NamesAnswer}
 use Rattle.names.specs.declared.NamesAnswer.the-variants.{Names, Broken}
 use Rattle.names.specs.Names.{wholeNames}
 
+-- document 01's number and values of each case
 abbrev pub saidNames : NamesAnswer → Said
 saidNames (Names count) = record { number = 0; values = count ∷ [] }
 saidNames (Broken o) = broken o
@@ -17,5 +18,6 @@ abbrev pub namesOf : Got (List (List ℕ)) → Said
 namesOf (got names next) = record { number = 0; values = length names ∷ [] }
 namesOf (bad o) = broken o
 
+-- "The names are lent as a names section of the file below, with nothing after it"
 abbrev pub namesSaid : List ℕ → Said
 namesSaid file = namesOf (wholeNames file)

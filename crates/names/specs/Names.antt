@@ -2,13 +2,13 @@
 -- passes is exactly the bytes of good names.
 -- Assumes nothing.
 use mathlib.Core.Path.{_≡_}
-use mathlib.Core.Bool.{Bool, true, false, _&&_, _||_}
+use mathlib.Core.Bool.{Bool, true, false, _||_}
 use mathlib.Core.List.{List, [], _∷_, List·Memᴰ}
 use Prim.Native.Nat.{ℕ, _≤_}
-use lib.Dec.{eqb, leb}
 use lib.ListN.{length}
 use Rattle.rules.specs.Limits.{mostPropositions}
 use Rattle.rules.specs.Lists.{Each}
+pub use Rattle.spelling.specs.Spelling.{isLetter, isNameByte, sameBytes}
 use Rattle.names.specs.Reserved.{reserved}
 use Rattle.reading.specs.Reading.{section, one, Got, got, bad, Reader, andThen, byte, counted, isIn, atEnd}
 
@@ -28,14 +28,6 @@ nameLength = 16
 abbrev pub nameBytes : List ℕ → List ℕ
 nameBytes letters = section one letters
 
--- "letters": A-Z, a-z
-abbrev pub isLetter : ℕ → Bool
-isLetter b = (leb 65 b && leb b 90) || (leb 97 b && leb b 122)
-
--- "letters, digits or `_`"
-abbrev pub isNameByte : ℕ → Bool
-isNameByte b = isLetter b || (leb 48 b && leb b 57) || eqb b 95
-
 -- "a letter first"
 abbrev pub fitsName : List ℕ → ℕ → Bool
 fitsName [] b = isLetter b
@@ -54,12 +46,6 @@ abbrev pub GoodList : List (List ℕ) → Type 0
 GoodList names = (1 ≤ length names) × (length names ≤ propositions) × Each GoodName [] names
 
 -- ---- the first offending byte
-
-abbrev pub sameBytes : List ℕ → List ℕ → Bool
-sameBytes [] [] = true
-sameBytes [] (y ∷ ys) = false
-sameBytes (x ∷ xs) [] = false
-sameBytes (x ∷ xs) (y ∷ ys) = eqb x y && sameBytes xs ys
 
 -- "a name's bytes are judged one by one"
 abbrev pub letter : List ℕ → Reader ℕ

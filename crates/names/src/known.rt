@@ -1,27 +1,11 @@
-// A name among others: equal bytes, and the names before one.
+// The names before one: whether it is among them.
+use spelling::bytes::same;
 ghost use mathlib.Core.Path.{_≡_};
 ghost use Prim.Native.Nat.{_+_, _≤_};
 ghost use lib.ListN.{length, take, drop};
 ghost use Rattle.reading.specs.Reading.{isIn};
 ghost use Rattle.names.specs.Names.{sameBytes};
 ghost use Rattle.names.specs.Lookup.{walk, walkEnd};
-
-// Whether two runs of bytes are the same.
-pub fn same(a: &[u8], b: &[u8]) -> bool
-    ensures { λ r. ⌜ r ≡ sameBytes (now (a .entry)) (now (b .entry)) ⌝ }
-{
-    if a.len() != b.len() {
-        return false;
-    }
-    let mut i: usize = 0;
-    while i < a.len() {
-        if a[i] != b[i] {
-            return false;
-        }
-        i += 1;
-    }
-    true
-}
 
 // Whether the n bytes at an offset are one of the first `count` names.
 pub(crate) fn known_name(file: &[u8], at: usize, n: usize, count: usize) -> bool

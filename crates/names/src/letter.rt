@@ -1,49 +1,13 @@
 // The bytes of a name: letters, digits or `_`, a letter first.
 use reading::Step;
+use spelling::letter::is_letter;
+use spelling::letter::is_name_byte;
 ghost use mathlib.Core.Path.{_≡_};
 ghost use mathlib.Core.List.{[]};
 ghost use lib.ListN.{length};
 ghost use Rattle.reading.specs.Reading.{each, byte, stepOf};
-ghost use Rattle.names.specs.Names.{isLetter, isNameByte, letter};
+ghost use Rattle.names.specs.Names.{letter};
 ghost use Rattle.names.specs.Inner.{fitsAt};
-
-// "letters": A-Z, a-z.
-pub fn is_letter(b: u8) -> bool
-    ensures { λ r. ⌜ r ≡ isLetter b ⌝ }
-{
-    if b < 65 {
-        return false;
-    }
-    if b <= 90 {
-        return true;
-    }
-    if b < 97 {
-        return false;
-    }
-    if b <= 122 {
-        return true;
-    }
-    false
-}
-
-// "letters, digits or `_`".
-pub fn is_name_byte(b: u8) -> bool
-    ensures { λ r. ⌜ r ≡ isNameByte b ⌝ }
-{
-    if is_letter(b) {
-        return true;
-    }
-    if b == 95 {
-        return true;
-    }
-    if b < 48 {
-        return false;
-    }
-    if b <= 57 {
-        return true;
-    }
-    false
-}
 
 // Whether a byte may be the byte number i of a name.
 fn fits_name(i: usize, b: u8) -> bool

@@ -1,9 +1,9 @@
 // A names section (document 01, "The session file"): names of 1 to 16 letters, digits or `_`, a letter first, no name twice, no reserved word. Judging one, and finding a
 // name in it.
-pub mod known;
-pub mod letter;
+mod known;
+mod letter;
 pub mod lookup;
-pub mod reserved;
+mod reserved;
 
 use letter::letters_from;
 use reading::Step;

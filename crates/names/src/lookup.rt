@@ -1,6 +1,6 @@
 // Finding a name in a section: where the name with a number stands, and the number of the name with these bytes. Both answer for any bytes: they go by
 // the count and the length bytes, as far as there are bytes, and don't judge the section again.
-use crate::known::same;
+use spelling::bytes::same;
 ghost use mathlib.Core.Path.{_≡_};
 ghost use Prim.Native.Nat.{_+_, min};
 ghost use lib.ListN.{length, getD};

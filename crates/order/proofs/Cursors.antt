@@ -3,7 +3,7 @@
 -- Assumes nothing.
 use mathlib.Core.Path.{_≡_, refl, sym, ap, ap₂, _∙_}
 use mathlib.Core.Bool.{Bool, true, false, cond}
-use mathlib.Core.List.{List, [], _∷_, _++_}
+use mathlib.Core.List.{List, [], _∷_, _++_, map}
 use Prim.Native.Nat.{ℕ, zero, suc, _+_, _-_, _/_, _≤_, _<_}
 use native.Mathlib.Omega.{arith}
 use native.Mathlib.Decide.{decLe}
@@ -14,7 +14,8 @@ use Rattle.rules.specs.declared.kinds.Place.{Place}
 use Rattle.order.specs.declared.Cursor.{Cursor}
 use Rattle.order.specs.declared.Step.the-variants.{Candidate}
 use Rattle.order.specs.Size.{Layer, layerOf, range, start}
-use Rattle.order.specs.Ahead.{cursor, leafCursor, column, partFrom, leftStart, leftEnd, rightStart, rightEnd, codesOf, codesIn, part, partAhead, partsAhead, ahead, after, first, cursorAfter}
+use Rattle.order.specs.Ahead.{cursor, leafCursor, column, partFrom, leftStart, leftEnd, rightStart, rightEnd, codesOf, codesIn, part, partAhead, partsAhead, ahead}
+use Rattle.order.specs.Ahead.{candidateAt, after, rest, first, cursorAfter}
 use Rattle.order.specs.Steps.{Rises, Within, Steps}
 use Rattle.order.proofs.Loops.{resume-in, resume-out}
 use Rattle.order.proofs.Lists.{each-range}
@@ -123,3 +124,7 @@ module _ (s m constants : ℕ) (unary binary x y : List ℕ) (low : 1 ≤ s) (in
       → ahead (layerOf s x m constants unary binary) at ≡ drop j (ahead (layerOf s x m constants unary binary) (first x s))
       → ahead (layerOf s y m constants unary binary) at ≡ drop j (ahead (layerOf s y m constants unary binary) (first y s))
   left-same at j e = sym (ahead-same at) ∙ e ∙ ap (drop j) firsts-same
+
+  pub rest-same : (at : Cursor) → rest (layerOf s x m constants unary binary) at ≡ rest (layerOf s y m constants unary binary) at
+  unfolding rest candidateAt
+  rest-same at = ap (map (candidateAt h)) (ahead-same at)

@@ -13,7 +13,7 @@ use borrow.Author.Tests.{lt-ltb, le-ltb}
 use Rattle.rules.specs.Lists.{each, count}
 use Rattle.order.specs.declared.Cursor.{Cursor}
 use Rattle.order.specs.Size.{Layer, range, leaves, start}
-use Rattle.order.specs.Ahead.{cursor, resume, twice, codeAt, both, row, column, bothFrom, rowFrom, columnFrom, partFrom}
+use Rattle.order.specs.Ahead.{cursor, resume, twice, codeAt, both, oneRow, column, bothFrom, rowFrom, columnFrom, partFrom}
 use Rattle.order.specs.Ahead.{leftStart, leftEnd, rightStart, rightEnd, leavesAhead, codesIn, part, partAhead, partsAhead, ahead, rest}
 use Rattle.order.proofs.Leaves.{length-count, leaves-few}
 
@@ -64,11 +64,11 @@ few-both-from codes at l q o = go (twice (at .split) (codeAt codes o)) (at .seco
     go false c = omega arith
 
 module _ (codes : List ℕ) (room most : ℕ) (h : length codes ≤ most) where
-  few-row : (i l q : ℕ) → length (row codes i l q) ≤ most * 2
+  few-row : (i l q : ℕ) → length (oneRow codes i l q) ≤ most * 2
   few-row i l q = few-range (both codes i l q) 2 most 0 (length codes) (few-both codes i l q) h
 
   few-column : (i from to l : ℕ) → to ≤ room → length (column codes i from to l) ≤ room * (most * 2)
-  few-column i from to l k = few-range (row codes i l) (most * 2) room from to (few-row i l) k
+  few-column i from to l k = few-range (oneRow codes i l) (most * 2) room from to (few-row i l) k
 
   few-part : (i start end from to : ℕ) → end ≤ room → to ≤ room → length (each (range start end) (column codes i from to)) ≤ room * (room * (most * 2))
   few-part i start end from to k m = few-range (column codes i from to) (room * (most * 2)) room start end (λ l. few-column i from to l m) k
@@ -77,7 +77,7 @@ module _ (codes : List ℕ) (room most : ℕ) (h : length codes ≤ most) where
   unfolding partFrom
   few-part-from end from to at k m =
       few-resume (columnFrom codes to at) (column codes (at .split) from to) (room * (most * 2)) room (at .left) end
-      (λ l. few-resume (rowFrom codes at l) (row codes (at .split) l) (most * 2) room (at .right) to
+      (λ l. few-resume (rowFrom codes at l) (oneRow codes (at .split) l) (most * 2) room (at .right) to
       (λ q. few-resume (bothFrom codes at l q) (both codes (at .split) l q) 2 most (at .operator) (length codes) (few-both-from codes at l q) (few-both codes (at .split) l q) h)
       (few-row (at .split) l) m)
       (λ l. few-column (at .split) from to l m) k

@@ -5,9 +5,9 @@ use mathlib.Core.Bool.{true, false, not, _&&_}
 use Prim.Native.Nat.{ℕ, zero, suc}
 use native.Mathlib.Omega.{arith}
 use borrow.Author.Tests.{eq-eqb, ne-eqb}
-use Rattle.sequence.specs.declared.operators.Operator.{Operator}
+use Rattle.operators.specs.declared.Operator.{Operator}
 use Rattle.sequence.specs.Operators as ops
-use Rattle.sequence.specs.Table.{Listed}
+use Rattle.operators.specs.Table.{Listed}
 use Rattle.sequence.specs.Operators.{binaryOf, decode}
 use Rattle.order.specs.Size.{commuting}
 use Rattle.order.specs.Ahead.{twice}

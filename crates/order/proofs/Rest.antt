@@ -17,7 +17,7 @@ use Rattle.order.specs.declared.Step.{Step}
 use Rattle.order.specs.declared.Step.the-variants.{Candidate, End}
 use Rattle.rules.specs.declared.kinds.Place.{Place}
 use Rattle.order.specs.Size.{Cand, cand, Layer, layerOf, range, commuting, leaves, orders, start, places, unaries, pairs, ofSize, candidates}
-use Rattle.order.specs.Ahead.{cursor, leafCursor, told, twice, codeAt, both, row, column, candIn, leavesAhead}
+use Rattle.order.specs.Ahead.{cursor, leafCursor, told, twice, codeAt, both, oneRow, column, candIn, leavesAhead}
 use Rattle.order.specs.Ahead.{leafAt, codesIn, part, partAhead, partsAhead, ahead, candidateAt, after, rest, first}
 use Rattle.order.specs.Steps.{Rises, Safe, Within, Steps}
 use Rattle.order.proofs.Loops.{range-cons, range-nil, resume-fresh}
@@ -86,9 +86,9 @@ abbrev inPart : Layer → Cursor → Cand
 inPart g at = candIn (codesIn g (at .split)) at
 
 module _ (g : Layer) where
-  one-right : (l : ℕ) → column (g .unary) 0 0 1 l ≡ row (g .unary) 0 l 0
+  one-right : (l : ℕ) → column (g .unary) 0 0 1 l ≡ oneRow (g .unary) 0 l 0
   unfolding range count each
-  one-right l = append-nil (row (g .unary) 0 l 0)
+  one-right l = append-nil (oneRow (g .unary) 0 l 0)
 
   unary-row : (l : ℕ) → map (inPart g) (column (g .unary) 0 0 1 l) ≡ unaries g l
   unfolding both
@@ -110,7 +110,7 @@ module _ (g : Layer) where
       go true = refl
       go false = refl
 
-  pair-row : (i l q : ℕ) → map (inPart g) (row (g .binary) (suc i) l q) ≡ each (g .binary) (orders l q)
+  pair-row : (i l q : ℕ) → map (inPart g) (oneRow (g .binary) (suc i) l q) ≡ each (g .binary) (orders l q)
   pair-row i l q =
       map-each (inPart g) (both (g .binary) (suc i) l q) (range 0 (length (g .binary)))
       ∙ each-range 0 (length (g .binary)) _ _ (λ o h k. pair-orders i l q o)

@@ -9,7 +9,7 @@ use lib.ListN.{length, getD}
 use Rattle.rules.specs.Lists.{each}
 use Rattle.order.specs.declared.Cursor.{Cursor}
 use Rattle.order.specs.Size.{range}
-use Rattle.order.specs.Ahead.{cursor, resume, twice, codeAt, both, row, column, bothFrom, rowFrom, columnFrom, partFrom, afterIn}
+use Rattle.order.specs.Ahead.{cursor, resume, twice, codeAt, both, oneRow, column, bothFrom, rowFrom, columnFrom, partFrom, afterIn}
 use Rattle.order.specs.Inner.{stand}
 use Rattle.order.proofs.Loops.{each-empty, each-none, resume-empty, resume-in, resume-out, resume-as, resume-done, resume-fresh}
 
@@ -26,12 +26,12 @@ module _ (codes : List ℕ) where
       go true = refl
       go false = refl
 
-  row-fresh : (i l q l′ q′ : ℕ) → rowFrom codes (cursor i l′ q′ 0 false) l q ≡ row codes i l q
+  row-fresh : (i l q l′ q′ : ℕ) → rowFrom codes (cursor i l′ q′ 0 false) l q ≡ oneRow codes i l q
   row-fresh i l q l′ q′ = resume-fresh (bothFrom codes (cursor i l′ q′ 0 false) l q) (both codes i l q) 0 (length codes) (both-fresh i l q l′ q′ 0 0)
 
   column-fresh : (i l l′ from to : ℕ) → columnFrom codes to (cursor i l′ from 0 false) l ≡ column codes i from to l
   column-fresh i l l′ from to =
-      resume-fresh (rowFrom codes (cursor i l′ from 0 false) l) (row codes i l) from to (row-fresh i l from l′ from)
+      resume-fresh (rowFrom codes (cursor i l′ from 0 false) l) (oneRow codes i l) from to (row-fresh i l from l′ from)
 
   pub part-fresh : (i l end from to : ℕ) → partFrom codes end from to (cursor i l from 0 false) ≡ each (range l end) (column codes i from to)
   unfolding partFrom
@@ -55,10 +55,10 @@ module _ (codes : List ℕ) (end from to : ℕ) (at : Cursor) where
       let o = at .operator in
       rw (
         resume-in (columnFrom codes to at) (column codes i from to) l end h,
-        resume-in (rowFrom codes at l) (row codes i l) q to k,
+        resume-in (rowFrom codes at l) (oneRow codes i l) q to k,
         resume-in (bothFrom codes at l q) (both codes i l q) o (length codes) m,
         resume-in (columnFrom codes to onward) (column codes i from to) l end h,
-        resume-in (rowFrom codes onward l) (row codes i l) q to k,
+        resume-in (rowFrom codes onward l) (oneRow codes i l) q to k,
         resume-fresh (bothFrom codes onward l q) (both codes i l q) (o + 1) (length codes) (both-fresh codes i l q l q (o + 1) (o + 1)),
       )
       (simp append-assoc)
@@ -72,8 +72,8 @@ module _ (codes : List ℕ) (end from to : ℕ) (at : Cursor) where
       let q = at .right in
       let next = cursor i l (q + 1) 0 false in
       resume-as (columnFrom codes to at) (columnFrom codes to next) (column codes i from to) l end
-      (resume-done (rowFrom codes at l) (row codes i l) q to (resume-out (bothFrom codes at l q) (both codes i l q) (at .operator) (length codes) h)
-      ∙ sym (resume-fresh (rowFrom codes next l) (row codes i l) (q + 1) to (row-fresh codes i l (q + 1) l (q + 1))))
+      (resume-done (rowFrom codes at l) (oneRow codes i l) q to (resume-out (bothFrom codes at l q) (both codes i l q) (at .operator) (length codes) h)
+      ∙ sym (resume-fresh (rowFrom codes next l) (oneRow codes i l) (q + 1) to (row-fresh codes i l (q + 1) l (q + 1))))
 
   -- the pairs under its left place are done
   pub carry-right : columnFrom codes to at (at .left) ≡ [] → partFrom codes end from to at ≡ partFrom codes end from to (cursor (at .split) (at .left + 1) from 0 false)
@@ -91,33 +91,33 @@ module _ (codes : List ℕ) (end from to : ℕ) (at : Cursor) where
   unfolding partFrom
   no-right h k =
       resume-empty (columnFrom codes to at) (column codes (at .split) from to) (at .left) end
-      (λ l. resume-out (rowFrom codes at l) (row codes (at .split) l) (at .right) to k)
-      (λ l. each-none (row codes (at .split) l) from to h)
+      (λ l. resume-out (rowFrom codes at l) (oneRow codes (at .split) l) (at .right) to k)
+      (λ l. each-none (oneRow codes (at .split) l) from to h)
 
   -- no operator at all
   pub no-codes : length codes ≡ 0 → partFrom codes end from to at ≡ []
   unfolding partFrom
   no-codes e =
       resume-empty (columnFrom codes to at) (column codes (at .split) from to) (at .left) end
-      (λ l. resume-empty (rowFrom codes at l) (row codes (at .split) l) (at .right) to
+      (λ l. resume-empty (rowFrom codes at l) (oneRow codes (at .split) l) (at .right) to
       (λ q. resume-out (bothFrom codes at l q) (both codes (at .split) l q) (at .operator) (length codes) (omega arith)) (none l))
-      (λ l. each-empty (row codes (at .split) l) (range from to) (none l))
+      (λ l. each-empty (oneRow codes (at .split) l) (range from to) (none l))
     where
-      none : (l q : ℕ) → row codes (at .split) l q ≡ []
+      none : (l q : ℕ) → oneRow codes (at .split) l q ≡ []
       none l q = each-none (both codes (at .split) l q) 0 (length codes) (omega arith)
 
 -- nothing is left under the cursor's left place
 module _ (codes : List ℕ) (to : ℕ) (at : Cursor) where
   pub past-right : to ≤ at .right → columnFrom codes to at (at .left) ≡ []
-  past-right h = resume-out (rowFrom codes at (at .left)) (row codes (at .split) (at .left)) (at .right) to h
+  past-right h = resume-out (rowFrom codes at (at .left)) (oneRow codes (at .split) (at .left)) (at .right) to h
 
   pub past-operator : length codes ≤ at .operator → to ≤ at .right + 1 → columnFrom codes to at (at .left) ≡ []
   past-operator h k =
       let i = at .split in
       let l = at .left in
       let q = at .right in
-      resume-done (rowFrom codes at l) (row codes i l) q to (resume-out (bothFrom codes at l q) (both codes i l q) (at .operator) (length codes) h)
-      ∙ each-none (row codes i l) (q + 1) to k
+      resume-done (rowFrom codes at l) (oneRow codes i l) q to (resume-out (bothFrom codes at l q) (both codes i l q) (at .operator) (length codes) h)
+      ∙ each-none (oneRow codes i l) (q + 1) to k
 
 -- the next one is where it stands
 pub part-stands : (codes : List ℕ) (end from to : ℕ) (at : Cursor) → at .left < end → at .right < to → at .operator < length codes

@@ -42,12 +42,12 @@ module _ (codes : List ℕ) where
   both i l q o = cond (twice i (codeAt o)) (cursor i l q o false ∷ (cursor i l q o true ∷ [])) (cursor i l q o false ∷ [])
 
   -- "for each .. operator in the given order"
-  abbrev pub row : ℕ → ℕ → ℕ → List Cursor
-  row i l q = each (range 0 (length codes)) (both i l q)
+  abbrev pub oneRow : ℕ → ℕ → ℕ → List Cursor
+  oneRow i l q = each (range 0 (length codes)) (both i l q)
 
   -- "for each kept q"
   abbrev pub column : ℕ → ℕ → ℕ → ℕ → List Cursor
-  column i from to l = each (range from to) (row i l)
+  column i from to l = each (range from to) (oneRow i l)
 
   -- what is left of each from a cursor on; a mark of a second order where there is none is not looked at
   unfoldable pub bothFrom : Cursor → ℕ → ℕ → ℕ → List Cursor
@@ -59,7 +59,7 @@ module _ (codes : List ℕ) where
   rowFrom at l q = resume (bothFrom at l q) (both (at .split) l q) (at .operator) (length codes)
 
   abbrev pub columnFrom : ℕ → Cursor → ℕ → List Cursor
-  columnFrom to at l = resume (rowFrom at l) (row (at .split) l) (at .right) to
+  columnFrom to at l = resume (rowFrom at l) (oneRow (at .split) l) (at .right) to
 
   -- "each kept l"
   unfoldable pub partFrom : ℕ → ℕ → ℕ → Cursor → List Cursor
@@ -142,7 +142,7 @@ module _ (g : Layer) where
   unfoldable pub rest : Cursor → List Cand
   rest at = map candidateAt (ahead at)
 
--- where size s begins
+-- "first every kept formula of size s-1": where size s begins
 abbrev pub first : List ℕ → ℕ → Cursor
 first starts s = cursor 0 (cond (ltb 1 s) (getD starts (s - 1) 0) 0) 0 0 false
 

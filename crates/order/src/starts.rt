@@ -5,7 +5,7 @@ ghost use lib.ListN.{length};
 ghost use Rattle.order.specs.Starts.{startsOf};
 ghost use Rattle.order.specs.Inner.{Counted};
 
-// A place for each size from 0 to BOUND + 1: the last says where the sizes end.
+// At t stands the number of kept formulas of size below t, for t from 0 to BOUND + 1: those of size t are the places from the one at t to the one at t + 1.
 pub const COUNT: usize = rules::BOUND + 2;
 
 // Of the first n sizes: how many are one below each position.

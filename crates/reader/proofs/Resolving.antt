@@ -21,16 +21,16 @@ use Rattle.names.specs.declared.lookup.Found.the-variants.{At, Nothing}
 use Rattle.names.proofs.Finding.{FoundIs, found-is}
 use Rattle.text.specs.Tokens.{Named}
 use Rattle.grammar.specs.Name.{Name}
-use Rattle.grammar.specs.Token.{Atom, name, constant, Typed, Token, pre, mid, atom, opens, closes, spell, Good, isWord, endsAsWord, Apart, Spells, end, gap, token}
+use Rattle.grammar.specs.Token.{Atom, name, constant, Typed, Token, pre, mid, atom, opens, closes, spell, Good, isWord, endsAsWord, Apart, SpelledBy, end, gap, token}
 use Rattle.grammar.specs.Grammar.{Derives, alone, prefix, bracket, between, looser, Reads}
 use Rattle.grammar.specs.Naming.{typed}
 use Rattle.grammar.specs.Nodes.{node, nodesOf}
 use Rattle.reading.proofs.Lists.{true-false}
 use Rattle.grammar.proofs.Words.{WordBytes, LetterFirst, letter-first, letter-word}
 use Rattle.reader.specs.Words.{WordAt, UnknownAt}
-use Rattle.reader.specs.Inner.{numberOf, codesBy}
-use Rattle.reader.specs.Answers.{AllKnown}
-use Rattle.reader.proofs.Lookup.{number-at}
+use Rattle.descent.specs.Packed.{numberOf, codesBy}
+use Rattle.descent.specs.Judging.{AllKnown}
+use Rattle.descent.proofs.Lookup.{number-at}
 
 -- ---- the leaves of a tree are the atoms of its tokens
 
@@ -174,13 +174,14 @@ module _ (file : List ℕ) where
   at-token before text (mid o) g a c known = tt
   at-token before text (atom (name w)) g a c known =
       let m : (length before + length w) - length before ≡ length w = omega arith in
-      let q : take ((length before + length w) - length before) (drop (length before) (before ++ (w ++ text))) ≡ w = rw (m, drop-at before (w ++ text) (length before) refl) (take-at w text (length w) refl) in
+      let q : take ((length before + length w) - length before) (drop (length before) (before ++ (w ++ text))) ≡ w =
+      rw (m, drop-at before (w ++ text) (length before) refl) (take-at w text (length w) refl) in
       known-word known w (at-word before w text (letter-first w g) c (a refl)) q g
   at-token before text (atom (constant b)) g a c known = tt
   at-token before text opens g a c known = tt
   at-token before text closes g a c known = tt
 
-  spelled : {ts : List Token} {text : List ℕ} → Spells ts text → (before : List ℕ) → Clean before text → AllKnown file (before ++ text) → All Listed ts
+  spelled : {ts : List Token} {text : List ℕ} → SpelledBy ts text → (before : List ℕ) → Clean before text → AllKnown file (before ++ text) → All Listed ts
   unfolding All
   spelled end before c known = tt
   spelled (gap {ts} {text} s) before c known =

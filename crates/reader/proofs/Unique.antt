@@ -25,7 +25,7 @@ use Rattle.reader.specs.declared.Parsed.{Parsed}
 use Rattle.reader.specs.declared.Parsed.the-variants.{Nodes, Broken, Stops, Unknown, Refused}
 use Rattle.typed.proofs.Unique.{first-one}
 use Rattle.text.specs.Tokens.{Named}
-use Rattle.reader.specs.Parsing.{saidParsed, Row, Decides, Columns, written, brokenNames, longText, noFormula, unknownName, largeFormula, shortRoom, parseRows, Taken, Parses}
+use Rattle.reader.specs.Parsing.{saidParsed, ParseRow, Decides, Columns, written, brokenNames, longText, noFormula, unknownName, largeFormula, shortRoom, parseRows, Taken, Parses}
 
 -- ---- one formula for a tree
 
@@ -94,14 +94,14 @@ unfolding said
 same-said s r p q = ap₂ said p q
 
 -- a row is given with one list of values
-abbrev One : Row → Type 0
+abbrev One : ParseRow → Type 0
 One row = (vs ws : List ℕ) → row .given vs → row .given ws → vs ≡ ws
 
-AllOne : List Row → Type 0
+AllOne : List ParseRow → Type 0
 AllOne [] = Unit
 AllOne (row ∷ rows) = One row × AllOne rows
 
-decides-one : (rows : List Row) → AllOne rows → (P Q : Said → Type 0) (s r : Said) → (P s → Q r → s ≡ r) → Decides rows P s → Decides rows Q r → s ≡ r
+decides-one : (rows : List ParseRow) → AllOne rows → (P Q : Said → Type 0) (s r : Said) → (P s → Q r → s ≡ r) → Decides rows P s → Decides rows Q r → s ≡ r
 unfolding Decides AllOne
 decides-one [] o P Q s r f a b = f a b
 decides-one (row ∷ rows) o P Q s r f (inl a) (inl b) = same-said s r (a .0 ∙ sym (b .0)) (o .0 (s .values) (r .values) (a .1) (b .1))
@@ -142,7 +142,8 @@ module _ (file text : List ℕ) (old : Columns) where
 
   same-parse : (s r : Said) (m n : Columns) → Parses file text old m s → Parses file text old n r → (s ≡ r) × (m ≡ n)
   same-parse s r m n a b =
-      let e : s ≡ r = decides-one (parseRows file text old) rows-one (Taken file text old m) (Taken file text old n) s r (λ x y. same-said s r (x .number ∙ sym (y .number)) (x .values ∙ ap (λ (f : Formula). size f ∷ []) (taken-formula x y) ∙ sym (y .values))) (a .answer) (b .answer) in
+      let e : s ≡ r = decides-one (parseRows file text old) rows-one (Taken file text old m) (Taken file text old n) s r
+      (λ x y. same-said s r (x .number ∙ sym (y .number)) (x .values ∙ ap (λ (f : Formula). size f ∷ []) (taken-formula x y) ∙ sym (y .values))) (a .answer) (b .answer) in
       elim (ℕ-discrete (s .number) 0) [
         | yes z ↦
             let x = is-taken s z (a .answer) in

@@ -18,8 +18,8 @@ use Rattle.writing.proofs.Writing.{sets-both}
 use Rattle.grammar.specs.Token.{Atom, name, constant, Typed}
 use Rattle.grammar.specs.Nodes.{nodesOf}
 use Rattle.names.specs.Names.{namesIn, GoodNames}
-use Rattle.reader.specs.Inner.{codesBy, atomCode, pack, packs}
-use Rattle.reader.proofs.Lookup.{field-small}
+use Rattle.descent.specs.Packed.{codesBy, atomCode, pack, packs}
+use Rattle.descent.proofs.Lookup.{field-small}
 
 module _ (f : ℕ → ℕ) (scratch : List ℕ) where
   -- the first i are there, and one more

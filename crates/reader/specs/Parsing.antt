@@ -32,20 +32,20 @@ saidParsed (Refused k) = record { number = k; values = [] }
 -- ---- refusals
 
 -- a row of the list: its number, and the values with which it is given
-pub record Row : Type 1 where
+pub record ParseRow : Type 1 where
   pub number : ℕ
   pub given : List ℕ → Type 0
 
 -- "Refusals, in order": the first row that is given decides, with its values; where none is, what follows
-unfoldable pub Decides : List Row → (Said → Type 0) → Said → Type 0
+unfoldable pub Decides : List ParseRow → (Said → Type 0) → Said → Type 0
 Decides [] passed s = passed s
 Decides (row ∷ rows) passed s = ((s .number ≡ row .number) × row .given (s .values)) ⊎ (((vs : List ℕ) → row .given vs → ⊥) × Decides rows passed s)
 
 -- a row that carries only its number, and one that carries an offset
-abbrev pub plain : ℕ → Type 0 → Row
+abbrev pub plain : ℕ → Type 0 → ParseRow
 plain k given = record { number = k; given = λ vs. (vs ≡ []) × given }
 
-abbrev pub placed : ℕ → (ℕ → Type 0) → Row
+abbrev pub placed : ℕ → (ℕ → Type 0) → ParseRow
 placed k given = record { number = k; given = λ vs. (o : ℕ) × (vs ≡ o ∷ []) × given o }
 
 -- ---- lent slices
@@ -80,30 +80,30 @@ module _ (file text : List ℕ) (old : Columns) where
   names = namesIn file
 
   -- "the names' 8"
-  abbrev pub brokenNames : Row
+  abbrev pub brokenNames : ParseRow
   brokenNames = placed 8 (λ o. wholeNames file ≡ bad o)
 
   -- "12 if the text passes 4,096 bytes"
-  abbrev pub longText : Row
+  abbrev pub longText : ParseRow
   longText = plain 12 (mostBytes < length text)
 
   -- "11 with the offset of the first byte that can't continue a formula (the text's length if it ends early)"
-  abbrev pub noFormula : Row
+  abbrev pub noFormula : ParseRow
   noFormula = placed 11 (Refused11 text)
 
   -- "13 with the offset of the first unknown name"
-  abbrev pub unknownName : Row
+  abbrev pub unknownName : ParseRow
   unknownName = placed 13 (FirstUnknown names text)
 
   -- "12 if size passes 31 or brackets 64"
-  abbrev pub largeFormula : Row
+  abbrev pub largeFormula : ParseRow
   largeFormula = plain 12 (((t : Typed) × Reads text t × (mostSize < size t)) ⊎ Deep text)
 
   -- "3 for node room below the size"
-  abbrev pub shortRoom : Row
+  abbrev pub shortRoom : ParseRow
   shortRoom = plain 3 ((t : Typed) × Reads text t × (roomOf old < size t))
 
-  abbrev pub parseRows : List Row
+  abbrev pub parseRows : List ParseRow
   parseRows = brokenNames ∷ longText ∷ noFormula ∷ unknownName ∷ largeFormula ∷ shortRoom ∷ []
 
   -- "A text that isn't refused gives the one tree of the grammar, its nodes written left child, right child, parent, nothing shared": the formula

@@ -1,27 +1,11 @@
-// Formulas read from text: names looked up, the text judged, the tree's nodes written.
-mod bytes;
+// Formulas read from text: the text judged and its tree's nodes written.
 mod fill;
-mod front;
-mod judge;
-mod leaves;
-mod nodes;
-mod operator;
 mod write;
 
-use front::First;
-use judge::Judged;
-use names::NamesAnswer;
-use nodes::put;
-use nodes::put_one;
-use nodes::put_two;
-use operator::End;
-use operator::Op;
+use descent::judge::Judged;
+use descent::judge::judge;
 use write::least;
-ghost use Prim.Native.Nat.{_+_, _≤_};
 ghost use Rattle.reader.specs.Parsing.{saidParsed, columns, Parses};
-ghost use Rattle.names.specs.Names.{GoodNames};
-ghost use Rattle.reader.specs.Answers.{Room, Infix, More, Prefix, Bracket, Whole};
-ghost use Rattle.reader.specs.Lent.{ReadsGood};
 
 // What reading answers: how many nodes were written, the root last; the offset at which the names section is broken; the offset of the byte that can't
 // continue a formula; the offset of the first unknown name; or another refusal's number.
@@ -31,160 +15,6 @@ pub enum Parsed {
     Stops(usize),
     Unknown(usize),
     Refused(u8),
-}
-
-// Where what was read ends and its size, or the offset of a byte that can't continue a formula.
-pub(crate) enum Got {
-    Val { next: usize, size: usize },
-    Bad(usize),
-}
-
-// A whole text: the length and size of a formula, or the offset of refusal 11.
-pub(crate) fn read_text(names: &[u8], text: &[u8], scratch: &mut [u64]) -> Got
-    requires { ⌜ Room (now names) (now text) (now scratch) 0 0 ⌝ }
-    ensures { λ r. ⌜ Whole (now (names .entry)) (now (scratch .entry)) (now (scratch .exit)) (now (text .entry)) r ⌝ }
-{
-    let t = read_infix(names, text, 0, 0, 0, scratch);
-    let Got::Val { next, size } = t else {
-        return t;
-    };
-    let e = operator::ending(text, next);
-    match e {
-        End::At(i) => Got::Val { next: i, size },
-        End::Bad(k) => Got::Bad(k),
-    }
-}
-
-// An expression whose operators outside brackets are of this level or above.
-fn read_infix(
-    names: &[u8],
-    text: &[u8],
-    at: usize,
-    level: u8,
-    place: usize,
-    scratch: &mut [u64],
-) -> Got
-    requires { ⌜ Room (now names) (now text) (now scratch) place at × (level ≤ 4) ⌝ }
-    ensures { λ r. ⌜ Infix (now (names .entry)) place (now (scratch .entry)) (now (scratch .exit)) (now (text .entry)) level at r ⌝ }
-{
-    let t = read_prefix(names, text, at, place, scratch);
-    let Got::Val { next, size } = t else {
-        return t;
-    };
-    read_more(names, text, next, level, size, place, scratch)
-}
-
-// What goes on after an expression of this size, whose nodes stand from a place on.
-fn read_more(
-    names: &[u8],
-    text: &[u8],
-    at: usize,
-    level: u8,
-    size: usize,
-    place: usize,
-    scratch: &mut [u64],
-) -> Got
-    requires { ⌜ Room (now names) (now text) (now scratch) (place + size) at × (1 ≤ size) ⌝ }
-    ensures { λ r. ⌜ More (now (names .entry)) place (now (scratch .entry)) (now (scratch .exit)) (now (text .entry)) level at size r ⌝ }
-{
-    let o = operator::operator(text, at);
-    match o {
-        Op::Nothing(_) => Got::Val { next: at, size },
-        Op::Cut(k) => Got::Bad(k),
-        Op::Is {
-            level: l,
-            right,
-            next,
-            code,
-        } => {
-            if l < level {
-                return Got::Val { next: at, size };
-            }
-            let behind = place + size;
-            let t = read_infix(names, text, next, right, behind, scratch);
-            let Got::Val { next: end, size: r } = t else {
-                return t;
-            };
-            put_two(scratch, code, behind, size, r);
-            read_more(names, text, end, level, 1 + (size + r), place, scratch)
-        }
-    }
-}
-
-// An operand.
-fn read_prefix(names: &[u8], text: &[u8], at: usize, place: usize, scratch: &mut [u64]) -> Got
-    requires { ⌜ Room (now names) (now text) (now scratch) place at ⌝ }
-    ensures { λ r. ⌜ Prefix (now (names .entry)) place (now (scratch .entry)) (now (scratch .exit)) (now (text .entry)) at r ⌝ }
-{
-    let f = front::front(text, at);
-    match f {
-        First::Operator { next, code } => {
-            let t = read_prefix(names, text, next, place, scratch);
-            let Got::Val { next: end, size } = t else {
-                return t;
-            };
-            put_one(scratch, code, place, size);
-            let whole = 1 + size;
-            Got::Val {
-                next: end,
-                size: whole,
-            }
-        }
-        First::Open(next) => read_bracket(names, text, next, place, scratch),
-        First::Word { next, start } => {
-            let leaf = leaves::leaf_of(names, text, start, next - start);
-            put(scratch, place, leaf.code, leaf.left, 0, 1);
-            Got::Val { next, size: 1 }
-        }
-        First::Bad(k) => Got::Bad(k),
-    }
-}
-
-// What stands behind an opening bracket, up to the closing one.
-fn read_bracket(names: &[u8], text: &[u8], at: usize, place: usize, scratch: &mut [u64]) -> Got
-    requires { ⌜ Room (now names) (now text) (now scratch) place at ⌝ }
-    ensures { λ r. ⌜ Bracket (now (names .entry)) place (now (scratch .entry)) (now (scratch .exit)) (now (text .entry)) at r ⌝ }
-{
-    let t = read_infix(names, text, at, 0, place, scratch);
-    let Got::Val { next, size } = t else {
-        return t;
-    };
-    let e = operator::closing(text, next);
-    match e {
-        End::At(i) => Got::Val { next: i, size },
-        End::Bad(k) => Got::Bad(k),
-    }
-}
-
-// A text, with names that are good.
-fn read_good(
-    names: &[u8],
-    text: &[u8],
-    codes: &mut [u8],
-    lefts: &mut [u16],
-    rights: &mut [u16],
-    sizes: &mut [u8],
-) -> Parsed
-    requires { ⌜ GoodNames (now names) ⌝ }
-    ensures { λ p. ⌜ ReadsGood (now (names .entry)) (now (text .entry))
-        (columns (now (codes .entry)) (now (lefts .entry)) (now (rights .entry)) (now (sizes .entry)))
-        (columns (now (codes .exit)) (now (lefts .exit)) (now (rights .exit)) (now (sizes .exit))) (saidParsed p) ⌝ }
-{
-    let mut scratch = [0u64; 4096];
-    let j = judge::judge(names, text, &mut scratch);
-    match j {
-        Judged::Long => Parsed::Refused(12),
-        Judged::Stops(k) => Parsed::Stops(k),
-        Judged::Unknown(k) => Parsed::Unknown(k),
-        Judged::Large => Parsed::Refused(12),
-        Judged::Nodes(n) => {
-            if least(codes.len(), lefts.len(), rights.len(), sizes.len()) < n {
-                return Parsed::Refused(3);
-            }
-            write::write(&scratch, n, codes, lefts, rights, sizes);
-            Parsed::Nodes(n)
-        }
-    }
 }
 
 // The nodes of a formula that is typed with names of a lent names section: left child, right child, parent, the root last.
@@ -200,9 +30,22 @@ pub fn parse(
         (columns (now (codes .entry)) (now (lefts .entry)) (now (rights .entry)) (now (sizes .entry)))
         (columns (now (codes .exit)) (now (lefts .exit)) (now (rights .exit)) (now (sizes .exit))) (saidParsed p) ⌝ }
 {
-    let judged = names::judge(names);
-    match judged {
-        NamesAnswer::Broken(o) => Parsed::Broken(o),
-        NamesAnswer::Names(_) => read_good(names, text, codes, lefts, rights, sizes),
+    let mut scratch = [0u64; 4096];
+    let j = judge(names, text, &mut scratch);
+    match j {
+        Judged::Broken(o) => Parsed::Broken(o),
+        Judged::Long => Parsed::Refused(12),
+        // the scratch has room for the longest text that is taken, so that this never comes up
+        Judged::Room => Parsed::Refused(3),
+        Judged::Stops(k) => Parsed::Stops(k),
+        Judged::Unknown(k) => Parsed::Unknown(k),
+        Judged::Large => Parsed::Refused(12),
+        Judged::Nodes(n) => {
+            if least(codes.len(), lefts.len(), rights.len(), sizes.len()) < n {
+                return Parsed::Refused(3);
+            }
+            write::write(&scratch, n, codes, lefts, rights, sizes);
+            Parsed::Nodes(n)
+        }
     }
 }

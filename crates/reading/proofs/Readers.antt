@@ -87,7 +87,8 @@ module _ {A : Type 0} (item : List A → Reader A) (fit : List A → A → Type 
         spans = both file (bytes (t .0)) (flatMap bytes (r .new)) (f .1) (r .spans);
       }
 
-  pub row-complete : Complete → (new before : List A) (at : ℕ) {next : ℕ} → Each fit before new → Spans file at (flatMap bytes new) next → each item (length new) before file at ≡ got (before ++ new) next
+  pub row-complete : Complete → (new before : List A) (at : ℕ) {next : ℕ} → Each fit before new → Spans file at (flatMap bytes new) next → each item
+      (length new) before file at ≡ got (before ++ new) next
   unfolding each Each flatMap
   row-complete c [] before at {next} f s =
       let n : at ≡ next = omega (arith, s .end) in

@@ -19,25 +19,25 @@ use Rattle.writing.proofs.Digits.{written-front}
 use Rattle.sequence.specs.declared.CharSeq.{CharSeq}
 use Rattle.session.specs.Recording.{Recording, lengthOf}
 use Rattle.formula.specs.Nodes.{Node, nodeAt}
-use Rattle.formula.specs.Check.{checkRows, saidVerdict, CheckAnswer}
-use Rattle.formula.specs.Sequences.{SequenceAnswer, Carries}
-use Rattle.formula.specs.declared.Sequenced.{Sequenced}
-use Rattle.formula.specs.declared.Sequenced.the-variants as sequenced
+use Rattle.verdict.specs.Check.{checkRows, saidVerdict, CheckAnswer}
+use Rattle.verdict.specs.Sequences.{SequenceAnswer, Carries}
+use Rattle.verdict.specs.declared.Sequenced.{Sequenced}
+use Rattle.verdict.specs.declared.Sequenced.the-variants as sequenced
 use Rattle.rules.specs.declared.kinds.Session.{Session}
-use Rattle.formula.specs.declared.Verdict.{Verdict}
-use Rattle.formula.specs.declared.Verdict.the-variants as verdict
-use Rattle.formula.proofs.Checking.{decided-early}
-use Rattle.report.specs.declared.values.Summary.{Summary}
+use Rattle.verdict.specs.declared.Verdict.{Verdict}
+use Rattle.verdict.specs.declared.Verdict.the-variants as verdict
+use Rattle.formula.proofs.Tests.{decided-early}
+use Rattle.summary.specs.declared.values.Summary.{Summary}
 use Rattle.report.specs.declared.Reported.{Reported}
 use Rattle.report.specs.declared.Reported.the-variants.{Text, Refused}
-use Rattle.report.specs.Values.{Summed}
+use Rattle.summary.specs.Values.{Summed}
 use Rattle.report.specs.Under.{Under}
 use Rattle.report.specs.Lines.{NodeSays, PlaceLine, PlaceLines, SessionLines, SessionsLines, ReportText, rootLine}
 use Rattle.report.specs.Lines.PlaceLine.{one, none}
 use Rattle.report.specs.Report.{saidReport, shortText, reportRows, Reports}
 use Rattle.report.specs.Promises.{longestReport}
 use Rattle.report.specs.Inner.{Marked, MarksUnder, WrotePlace, WrotePlaces, WroteSession, WroteSessions}
-use Rattle.report.proofs.Firsts.{summed-same}
+use Rattle.summary.proofs.Firsts.{summed-same}
 use Rattle.report.proofs.Unique.{one-report}
 use Rattle.report.proofs.Length.{report-fits, longest-is}
 

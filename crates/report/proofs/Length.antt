@@ -22,14 +22,14 @@ use Rattle.session.specs.Recording.{Recording, lengthOf}
 use Rattle.formula.specs.Formula.{Formula, leaf, unary, binary, size, Holds}
 use Rattle.formula.specs.Nodes.{Node, nodeAt, Spells, codes}
 use Rattle.formula.specs.Recorded.{markedTrace}
-use Rattle.formula.specs.Check.{checkRows}
+use Rattle.verdict.specs.Check.{checkRows}
 use Rattle.formula.proofs.Faults.{not-both, not-unary-leaf, not-binary-leaf}
 use Rattle.formula.proofs.Spelled.{list-spells}
-use Rattle.formula.proofs.Sequencing.{passed-list, passed-sessions, passed-lengths}
-use Rattle.report.specs.declared.values.First.{First}
-use Rattle.report.specs.declared.values.First.the-variants.{Never, Snapshot}
-use Rattle.report.specs.declared.values.Summary.{Summary}
-use Rattle.report.specs.Values.{LeastIn, CountIn, Fails, Summed}
+use Rattle.verdict.proofs.Sequencing.{passed-list, passed-sessions, passed-lengths}
+use Rattle.summary.specs.declared.values.First.{First}
+use Rattle.summary.specs.declared.values.First.the-variants.{Never, Snapshot}
+use Rattle.summary.specs.declared.values.Summary.{Summary}
+use Rattle.summary.specs.Values.{LeastIn, CountIn, Fails, Summed}
 use Rattle.report.specs.Under.{Child, Down, Under}
 use Rattle.report.specs.Lines.{firstText, summaryText, placeLine, rootLine, newline, blank, rootWord, NodeSays, PlaceLine, PlaceLines, SessionLines, SessionsLines}
 use Rattle.report.specs.Lines.PlaceLine.{one, none}

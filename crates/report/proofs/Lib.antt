@@ -1,4 +1,3 @@
-pub mod Firsts
 pub mod Marking
 pub mod Length
 pub mod Unique

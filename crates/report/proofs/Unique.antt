@@ -16,12 +16,12 @@ use Rattle.formula.specs.Formula.{Formula, Holds}
 use Rattle.formula.specs.Nodes.{Node, nodeAt}
 use Rattle.formula.specs.Recorded.{markedTrace}
 use Rattle.formula.proofs.Spelled.{one-formula}
-use Rattle.report.specs.declared.values.First.{First}
-use Rattle.report.specs.declared.values.First.the-variants.{Never, Snapshot}
-use Rattle.report.specs.declared.values.Summary.{Summary}
+use Rattle.summary.specs.declared.values.First.{First}
+use Rattle.summary.specs.declared.values.First.the-variants.{Never, Snapshot}
+use Rattle.summary.specs.declared.values.Summary.{Summary}
 use Rattle.report.specs.declared.Reported.{Reported}
 use Rattle.report.specs.declared.Reported.the-variants.{Text, Refused}
-use Rattle.report.specs.Values.{LeastIn, CountIn, Summed}
+use Rattle.summary.specs.Values.{LeastIn, CountIn, Summed}
 use Rattle.report.specs.Under.{Under}
 use Rattle.report.specs.Lines.{NodeSays, PlaceLine, PlaceLines, SessionLines, SessionsLines, ReportText, placeLine, rootLine}
 use Rattle.report.specs.Lines.PlaceLine.{one, none}

@@ -11,7 +11,7 @@ use Rattle.writing.specs.Writing.{Wrote}
 use Rattle.session.specs.Recording.{Recording}
 use Rattle.formula.specs.Nodes.{Node, nodeAt}
 use Rattle.formula.specs.Rule.{Broken}
-use Rattle.formula.specs.Check.{checkRows}
+use Rattle.verdict.specs.Check.{checkRows}
 use Rattle.report.specs.Under.{Child, Under}
 use Rattle.report.specs.Lines.{PlaceLine, PlaceLines, SessionLines, SessionsLines}
 

@@ -1,50 +1,17 @@
--- The report's text, byte by byte. Every line ends in a newline.
+-- The report's text: its lines, each as `summary` spells it.
 -- Assumes nothing.
 use mathlib.Core.Path.{_≡_}
 use mathlib.Core.List.{List, [], _∷_, _++_}
 use Prim.Native.Nat.{ℕ, zero, suc}
 use lib.ListN.{length}
-use Rattle.writing.specs.Writing.{decimal}
 use Rattle.session.specs.Recording.{Recording, lengthOf}
 use Rattle.formula.specs.Formula.{Formula, Holds}
 use Rattle.formula.specs.Nodes.{Node, nodeAt, Spells, codes}
 use Rattle.formula.specs.Recorded.{markedTrace}
-use Rattle.report.specs.declared.values.First.{First}
-use Rattle.report.specs.declared.values.First.the-variants.{Never, Snapshot}
-use Rattle.report.specs.declared.values.Summary.{Summary}
-use Rattle.report.specs.Values.{Summed}
+use Rattle.summary.specs.declared.values.Summary.{Summary}
+use Rattle.summary.specs.Values.{Summed}
+pub use Rattle.summary.specs.Line.{blank, newline, rootWord, firstText, summaryText, placeLine, rootLine}
 use Rattle.report.specs.Under.{Under}
-
--- ---- one line
-
--- "one blank between"
-abbrev pub blank : List ℕ
-blank = 32 ∷ []
-
-abbrev pub newline : List ℕ
-newline = 10 ∷ []
-
--- ` root`: "then the root itself as `root`"
-abbrev pub rootWord : List ℕ
-rootWord = 32 ∷ 114 ∷ 111 ∷ 111 ∷ 116 ∷ []
-
--- "the two firsts (`-` for never)"
-abbrev pub firstText : First → List ℕ
-firstText Never = 45 ∷ []
-firstText (Snapshot p) = decimal p
-
--- ".. the two firsts, count"
-abbrev pub summaryText : Summary → List ℕ
-summaryText s = blank ++ (firstText (s .holds) ++ (blank ++ (firstText (s .fails) ++ (blank ++ (decimal (s .count) ++ newline)))))
-
--- "session, place, the two firsts, count"
-abbrev pub placeLine : ℕ → ℕ → Summary → List ℕ
-placeLine j p s = decimal j ++ (blank ++ (decimal p ++ summaryText s))
-
-abbrev pub rootLine : ℕ → Summary → List ℕ
-rootLine j s = decimal j ++ (rootWord ++ summaryText s)
-
--- ---- the lines of a report
 
 -- what is said of a node on session j, by the reading of the formula that it spells
 pub record NodeSays (i : Recording) (k : List Node) (j : ℕ) (n : Node) (s : Summary) : Type 0 where

@@ -9,7 +9,7 @@ use Rattle.rules.specs.Refusals.{Decided}
 use Rattle.writing.specs.Writing.{decimal}
 use Rattle.session.specs.Recording.{Recording}
 use Rattle.formula.specs.Nodes.{Node}
-use Rattle.formula.specs.Check.{checkRows}
+use Rattle.verdict.specs.Check.{checkRows}
 use Rattle.report.specs.Lines.{ReportText}
 
 -- what passes the check has one report (one-report, in proofs/Unique)

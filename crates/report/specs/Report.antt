@@ -8,7 +8,7 @@ use Rattle.rules.specs.Refusals.{Row, Decided}
 use Rattle.rules.specs.Answers.{Said, over}
 use Rattle.session.specs.Recording.{Recording}
 use Rattle.formula.specs.Nodes.{Node}
-use Rattle.formula.specs.Check.{checkRows}
+use Rattle.verdict.specs.Check.{checkRows}
 use Rattle.report.specs.declared.Reported.{Reported}
 use Rattle.report.specs.declared.Reported.the-variants.{Text, Refused}
 use Rattle.report.specs.Lines.{ReportText}

@@ -1,17 +1,15 @@
 // A report that a person can follow: per session and node under the root, the first snapshot where it holds, the first where it doesn't, and at how
 // many it holds. A layer above the library: it calls public operations alone.
-mod line;
 mod sessions;
 mod under;
-pub mod values;
 
-use formula::Verdict;
 use formula::kinds::Node;
 use sessions::put_sessions;
 use under::places_under;
+use verdict::Verdict;
 ghost use Rattle.session.specs.Recording.{recording};
 ghost use Rattle.formula.specs.Kinds.{nodeOf, nodes};
-ghost use Rattle.formula.specs.Check.{checkRows};
+ghost use Rattle.verdict.specs.Check.{checkRows};
 ghost use Rattle.rules.specs.Refusals.{Decided};
 ghost use Rattle.report.specs.Report.{saidReport, Reports};
 
@@ -39,7 +37,9 @@ fn write(
     text: &mut [u8],
 ) -> Reported
     requires { ⌜ Decided (checkRows (recording r m (now marks) (now lengths) (now words)) (nodes (now codes) (now lefts) (now rights) (now sizes)) (nodeOf root)) 0 ⌝ }
-    ensures { λ a. ⌜ Reports (recording r m (now (marks .entry)) (now (lengths .entry)) (now (words .entry))) (nodes (now (codes .entry)) (now (lefts .entry)) (now (rights .entry)) (now (sizes .entry))) (nodeOf root) (now (text .entry)) (saidReport a) (now (text .exit)) ⌝ }
+    ensures { λ a. ⌜ Reports (recording r m (now (marks .entry)) (now (lengths .entry)) (now (words .entry)))
+        (nodes (now (codes .entry)) (now (lefts .entry)) (now (rights .entry)) (now (sizes .entry))) (nodeOf root) (now (text .entry)) (saidReport a)
+        (now (text .exit)) ⌝ }
 {
     let under = places_under(codes, lefts, rights, sizes, root);
     let mut whole = [0u8; LONGEST];
@@ -78,9 +78,11 @@ pub fn report(
     root: Node,
     text: &mut [u8],
 ) -> Reported
-    ensures { λ a. ⌜ Reports (recording r m (now (marks .entry)) (now (lengths .entry)) (now (words .entry))) (nodes (now (codes .entry)) (now (lefts .entry)) (now (rights .entry)) (now (sizes .entry))) (nodeOf root) (now (text .entry)) (saidReport a) (now (text .exit)) ⌝ }
+    ensures { λ a. ⌜ Reports (recording r m (now (marks .entry)) (now (lengths .entry)) (now (words .entry)))
+        (nodes (now (codes .entry)) (now (lefts .entry)) (now (rights .entry)) (now (sizes .entry))) (nodeOf root) (now (text .entry)) (saidReport a)
+        (now (text .exit)) ⌝ }
 {
-    let verdict = formula::check(
+    let verdict = verdict::check(
         r,
         m,
         marks,

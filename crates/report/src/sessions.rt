@@ -1,15 +1,15 @@
 // The lines of all sessions, one after the other.
-use crate::line;
-use crate::values::First;
-use crate::values::Summary;
-use crate::values::summary_of;
-use formula::Sequenced;
 use formula::kinds::Node;
 use formula::nodes::count;
 use formula::nodes::node_at;
-use formula::sequence_of;
 use rules::kinds::Place;
 use rules::kinds::Session;
+use summary::line;
+use summary::values::First;
+use summary::values::Summary;
+use summary::values::summary_of;
+use verdict::Sequenced;
+use verdict::sequence_of;
 ghost use Prim.Native.Nat.{_≤_, _<_};
 ghost use lib.ListN.{length};
 ghost use Rattle.rules.specs.Limits.{mostSessions, mostRoom};
@@ -17,7 +17,7 @@ ghost use Rattle.rules.specs.Refusals.{Decided};
 ghost use Rattle.session.specs.Recording.{recording};
 ghost use Rattle.formula.specs.Kinds.{nodeOf, nodes};
 ghost use Rattle.formula.specs.Nodes.{nodeAt};
-ghost use Rattle.formula.specs.Check.{checkRows};
+ghost use Rattle.verdict.specs.Check.{checkRows};
 ghost use Rattle.report.specs.Lines.{NodeSays};
 ghost use Rattle.report.specs.Inner.{MarksUnder, AllPass, WrotePlace, WrotePlaces, WroteSession, WroteSessions};
 
@@ -36,7 +36,8 @@ fn summary_at(
     on: Session,
 ) -> Summary
     requires { ⌜ Decided (checkRows (recording r m (now marks) (now lengths) (now words)) (nodes (now codes) (now lefts) (now rights) (now sizes)) (nodeOf node)) 0 × (on .0 < r) ⌝ }
-    ensures { λ s. ⌜ NodeSays (recording r m (now (marks .entry)) (now (lengths .entry)) (now (words .entry))) (nodes (now (codes .entry)) (now (lefts .entry)) (now (rights .entry)) (now (sizes .entry))) (on .0) (nodeOf node) s ⌝ }
+    ensures { λ s. ⌜ NodeSays (recording r m (now (marks .entry)) (now (lengths .entry)) (now (words .entry)))
+        (nodes (now (codes .entry)) (now (lefts .entry)) (now (rights .entry)) (now (sizes .entry))) (on .0) (nodeOf node) s ⌝ }
 {
     let sequenced = sequence_of(
         r,
@@ -84,8 +85,11 @@ fn put_listed(
     text: &mut [u8],
     at: usize,
 ) -> usize
-    requires { ⌜ AllPass (recording r m (now marks) (now lengths) (now words)) (nodes (now codes) (now lefts) (now rights) (now sizes)) × (on .0 < r) × (p < length (nodes (now codes) (now lefts) (now rights) (now sizes))) × (p < length (now under)) ⌝ }
-    ensures { λ b. ⌜ WrotePlace (recording r m (now (marks .entry)) (now (lengths .entry)) (now (words .entry))) (nodes (now (codes .entry)) (now (lefts .entry)) (now (rights .entry)) (now (sizes .entry))) (now (under .entry)) (on .0) p (now (text .entry)) at (now (text .exit)) b ⌝ }
+    requires { ⌜ AllPass (recording r m (now marks) (now lengths) (now words)) (nodes (now codes) (now lefts) (now rights) (now sizes)) × (on .0 < r)
+        × (p < length (nodes (now codes) (now lefts) (now rights) (now sizes))) × (p < length (now under)) ⌝ }
+    ensures { λ b. ⌜ WrotePlace (recording r m (now (marks .entry)) (now (lengths .entry)) (now (words .entry)))
+        (nodes (now (codes .entry)) (now (lefts .entry)) (now (rights .entry)) (now (sizes .entry))) (now (under .entry)) (on .0) p
+        (now (text .entry)) at (now (text .exit)) b ⌝ }
 {
     if under[p as usize] != 1 {
         return at;
@@ -123,8 +127,13 @@ fn put_places(
     text: &mut [u8],
     at: usize,
 ) -> usize
-    requires { ⌜ AllPass (recording r m (now marks) (now lengths) (now words)) (nodes (now codes) (now lefts) (now rights) (now sizes)) × (on .0 < r) × (length (nodes (now codes) (now lefts) (now rights) (now sizes)) ≤ length (now under)) × (length (nodes (now codes) (now lefts) (now rights) (now sizes)) ≤ mostRoom) ⌝ }
-    ensures { λ b. ⌜ WrotePlaces (recording r m (now (marks .entry)) (now (lengths .entry)) (now (words .entry))) (nodes (now (codes .entry)) (now (lefts .entry)) (now (rights .entry)) (now (sizes .entry))) (now (under .entry)) (on .0) (length (nodes (now (codes .entry)) (now (lefts .entry)) (now (rights .entry)) (now (sizes .entry)))) (now (text .entry)) at (now (text .exit)) b ⌝ }
+    requires { ⌜ AllPass (recording r m (now marks) (now lengths) (now words)) (nodes (now codes) (now lefts) (now rights) (now sizes)) × (on .0 < r)
+        × (length (nodes (now codes) (now lefts) (now rights) (now sizes)) ≤ length (now under)) ×
+        (length (nodes (now codes) (now lefts) (now rights) (now sizes)) ≤ mostRoom) ⌝ }
+    ensures { λ b. ⌜ WrotePlaces (recording r m (now (marks .entry)) (now (lengths .entry)) (now (words .entry)))
+        (nodes (now (codes .entry)) (now (lefts .entry)) (now (rights .entry)) (now (sizes .entry))) (now (under .entry)) (on .0)
+        (length (nodes (now (codes .entry)) (now (lefts .entry)) (now (rights .entry)) (now (sizes .entry)))) (now (text .entry)) at
+        (now (text .exit)) b ⌝ }
 {
     let n = count(codes, lefts, rights, sizes) as u16;
     let mut p: u16 = 0;
@@ -168,8 +177,12 @@ fn put_session(
     text: &mut [u8],
     at: usize,
 ) -> usize
-    requires { ⌜ Decided (checkRows (recording r m (now marks) (now lengths) (now words)) (nodes (now codes) (now lefts) (now rights) (now sizes)) (nodeOf root)) 0 × (on .0 < r) × MarksUnder (nodes (now codes) (now lefts) (now rights) (now sizes)) (nodeOf root) (now under) ⌝ }
-    ensures { λ b. ⌜ WroteSession (recording r m (now (marks .entry)) (now (lengths .entry)) (now (words .entry))) (nodes (now (codes .entry)) (now (lefts .entry)) (now (rights .entry)) (now (sizes .entry))) (nodeOf root) (on .0) (now (text .entry)) at (now (text .exit)) b ⌝ }
+    requires { ⌜ Decided
+        (checkRows (recording r m (now marks) (now lengths) (now words)) (nodes (now codes) (now lefts) (now rights) (now sizes)) (nodeOf root)) 0 ×
+        (on .0 < r) × MarksUnder (nodes (now codes) (now lefts) (now rights) (now sizes)) (nodeOf root) (now under) ⌝ }
+    ensures { λ b. ⌜ WroteSession (recording r m (now (marks .entry)) (now (lengths .entry)) (now (words .entry)))
+        (nodes (now (codes .entry)) (now (lefts .entry)) (now (rights .entry)) (now (sizes .entry))) (nodeOf root) (on .0) (now (text .entry)) at
+        (now (text .exit)) b ⌝ }
 {
     let a = put_places(
         r,
@@ -217,8 +230,12 @@ pub(crate) fn put_sessions(
     under: &[u8],
     text: &mut [u8],
 ) -> usize
-    requires { ⌜ Decided (checkRows (recording r m (now marks) (now lengths) (now words)) (nodes (now codes) (now lefts) (now rights) (now sizes)) (nodeOf root)) 0 × MarksUnder (nodes (now codes) (now lefts) (now rights) (now sizes)) (nodeOf root) (now under) ⌝ }
-    ensures { λ b. ⌜ WroteSessions (recording r m (now (marks .entry)) (now (lengths .entry)) (now (words .entry))) (nodes (now (codes .entry)) (now (lefts .entry)) (now (rights .entry)) (now (sizes .entry))) (nodeOf root) r (now (text .entry)) 0 (now (text .exit)) b ⌝ }
+    requires { ⌜ Decided
+        (checkRows (recording r m (now marks) (now lengths) (now words)) (nodes (now codes) (now lefts) (now rights) (now sizes)) (nodeOf root)) 0 ×
+        MarksUnder (nodes (now codes) (now lefts) (now rights) (now sizes)) (nodeOf root) (now under) ⌝ }
+    ensures { λ b. ⌜ WroteSessions (recording r m (now (marks .entry)) (now (lengths .entry)) (now (words .entry)))
+        (nodes (now (codes .entry)) (now (lefts .entry)) (now (rights .entry)) (now (sizes .entry))) (nodeOf root) r (now (text .entry)) 0
+        (now (text .exit)) b ⌝ }
 {
     let n = r as u8;
     let mut j: u8 = 0;

@@ -2,9 +2,8 @@
 use formula::kinds::Node;
 use formula::nodes::count;
 use formula::nodes::node_at;
+use operators::Group;
 use rules::kinds::Place;
-use sequence::operators;
-use sequence::operators::Group;
 ghost use mathlib.Core.Path.{_≡_};
 ghost use Prim.Native.Nat.{_<_};
 ghost use lib.ListN.{length, set};

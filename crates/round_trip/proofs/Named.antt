@@ -12,7 +12,7 @@ use Rattle.names.proofs.NameLaws.{names-sound}
 use Rattle.formula.specs.Formula.{leaf, unary, binary, proposition, constant, Formula}
 use Rattle.formula.specs.Nodes.{Node, nodeAt, Spells, codes}
 use Rattle.formula.specs.Rule.{Broken}
-use Rattle.formula.specs.Inner.{Fits, AllFit}
+use Rattle.formula.specs.Faultless.{Fits, AllFit}
 use Rattle.formula.proofs.Faults.{whole-fits, proposition-under}
 use Rattle.text.specs.Tokens.{Named}
 use Rattle.grammar.specs.Name.{Name}

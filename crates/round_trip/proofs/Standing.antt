@@ -12,8 +12,8 @@ use Rattle.formula.specs.Formula.{leaf, unary, binary, size, Leaf, proposition,
 use Rattle.rules.specs.Limits.{mostSize}
 use Rattle.text.specs.Tokens.{Named}
 use Rattle.formula.specs.Rule.{Broken}
-use Rattle.formula.specs.Inner.{LeafIn, Fits}
-use Rattle.formula.specs.Inner.Fits.{leaf as leafFits, unary as unaryFits, binary as binaryFits}
+use Rattle.formula.specs.Faultless.{LeafIn, Fits}
+use Rattle.formula.specs.Faultless.Fits.{leaf as leafFits, unary as unaryFits, binary as binaryFits}
 use Rattle.formula.proofs.Trees.{size-pos}
 use Rattle.formula.proofs.Faults.{fits-whole}
 use Rattle.formula.specs.Nodes.{Node, nodeAt, Spells, codes}

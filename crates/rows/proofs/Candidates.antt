@@ -10,14 +10,15 @@ use Rattle.words.specs.Masked.{Placed}
 use Rattle.words.specs.Word.{width, At, Means}
 use Rattle.sequence.specs.Operators.{Unary, Binary, unaryCode, binaryCode}
 use Rattle.sequence.specs.Masked.{unaryMasked, binaryMasked}
-use Rattle.rows.specs.Inner.{UnaryWord, BinaryWord}
 use Rattle.rules.specs.Limits.{mostSessions, mostPropositions}
 use Rattle.formula.specs.Formula.{Leaf}
 use Rattle.formula.specs.Nodes.{leafCode}
 use Rattle.formula.specs.Rule.{IsUnary, IsBinary}
-use Rattle.rows.specs.Rows.{Told, Filled, Reads, RowIs, RowsAsk, RowsAnswer}
-use Rattle.rows.specs.Inner.{UnaryRow, BinaryRow, part, UnaryAnswer, BinaryAnswer, LeafAnswer}
-use Rattle.rows.proofs.Filling.{filled-as}
+use Rattle.loops.specs.Loops.{Filled}
+use Rattle.rows.specs.Rows.{Told, Reads, RowIs, RowsAsk, RowsAnswer}
+use Rattle.loops.specs.Loops.{UnaryRow, BinaryRow}
+use Rattle.rows.specs.Inner.{part, UnaryAnswer, BinaryAnswer, LeafAnswer}
+use Rattle.loops.proofs.Filling.{filled-as}
 use Rattle.rows.proofs.Parts.{part-at}
 use Rattle.rows.proofs.Groups.{unary-or-binary, unary-or-leaf, binary-or-leaf, unary-same, binary-same}
 
@@ -96,15 +97,18 @@ module _ {r m : ℕ} {masks words matrices : List ℕ} {code left right : ℕ} w
 
   module _ {old new : List ℕ} where
     pub proposition-told : {p : ℕ} → code ≡ 16 → m ≤ mostPropositions → left < m → m * r ≤ length words → p ≡ min left 255
-        → Filled r old (λ j w. w ≡ getD words (j * m + p) 0) new → Told (Reads r m masks words matrices code left right) (Filled r old (RowIs r m masks words matrices code left right) new) (new ≡ old) true
+        → Filled r old (λ j w. w ≡ getD words (j * m + p) 0) new → Told (Reads r m masks words matrices code left right)
+        (Filled r old (RowIs r m masks words matrices code left right) new) (new ≡ old) true
     proposition-told {p} e a b c q f =
         let n : p ≡ left = omega arith in
         (Reads.proposition (sym e) a b c, filled-as (λ j w l h. RowIs.proposition (sym e) (h ∙ ap (λ (x : ℕ). getD words (j * m + x) 0) n)) f)
 
-    pub false-told : code ≡ 17 → Filled r old (λ j w. w ≡ 0) new → Told (Reads r m masks words matrices code left right) (Filled r old (RowIs r m masks words matrices code left right) new) (new ≡ old) true
+    pub false-told : code ≡ 17 → Filled r old (λ j w. w ≡ 0) new → Told (Reads r m masks words matrices code left right)
+        (Filled r old (RowIs r m masks words matrices code left right) new) (new ≡ old) true
     false-told e f = (Reads.constant false (sym e), filled-as (λ j w l h. RowIs.none (sym e) h) f)
 
-    pub true-told : code ≡ 18 → Filled r old (λ j w. Means width w (Placed (At (getD masks j 0)))) new → Told (Reads r m masks words matrices code left right) (Filled r old (RowIs r m masks words matrices code left right) new) (new ≡ old) true
+    pub true-told : code ≡ 18 → Filled r old (λ j w. Means width w (Placed (At (getD masks j 0)))) new → Told
+        (Reads r m masks words matrices code left right) (Filled r old (RowIs r m masks words matrices code left right) new) (new ≡ old) true
     true-told e f = (Reads.constant true (sym e), filled-as (λ j w l h. RowIs.all (sym e) h) f)
 
 -- ---- from the groups to the candidate
@@ -120,9 +124,8 @@ module _ (r m : ℕ) (masks words matrices : List ℕ) (code left right : ℕ) (
   asks q = record { sessions-in = s; masks-there = k; rows-there = o; reads = q }
 
   unary-row : IsUnary code → left * r + r ≤ length matrices → (j w : ℕ) → j < r → UnaryRow code masks (part matrices (left * r)) j w → Is j w
-  unary-row u h j w l (UnaryWord.word op e p) =
+  unary-row u h j w l (op, e, p) =
       RowIs.unary op e (subst (λ (x : ℕ). Means width w (unaryMasked op (At (getD masks j 0)) (At x))) (part-at matrices (left * r) j (omega arith)) p)
-  unary-row u h j w l (UnaryWord.nothing f z) = absurd (f (u .0) (u .1))
 
   pub unary-told : IsUnary code → (b : Bool) → UnaryAnswer r masks matrices code left old new b → Answer b
   unary-told u true g = (asks (Reads.unary (u .0) (u .1) (g .0)), filled-as (unary-row u (g .0)) (g .1))
@@ -130,11 +133,10 @@ module _ (r m : ℕ) (masks words matrices : List ℕ) (code left right : ℕ) (
 
   binary-row : IsBinary code → left * r + r ≤ length matrices → right * r + r ≤ length matrices → (j w : ℕ) → j < r
       → BinaryRow code masks (part matrices (left * r)) (part matrices (right * r)) j w → Is j w
-  binary-row u h h′ j w l (BinaryWord.word op e p) =
+  binary-row u h h′ j w l (op, e, p) =
       RowIs.binary op e
       (subst (λ (x : ℕ). Means width w (binaryMasked op (At (getD masks j 0)) (At x) (At (getD matrices (right * r + j) 0)))) (part-at matrices (left * r) j (omega arith))
       (subst (λ (y : ℕ). Means width w (binaryMasked op (At (getD masks j 0)) (At (getD (part matrices (left * r)) j 0)) (At y))) (part-at matrices (right * r) j (omega arith)) p))
-  binary-row u h h′ j w l (BinaryWord.nothing f z) = absurd (f (u .0) (u .1))
 
   pub binary-told : IsBinary code → (b : Bool) → BinaryAnswer r masks matrices code left right old new b → Answer b
   binary-told u true g = (asks (Reads.binary (u .0) (u .1) (g .0 .0) (g .0 .1)), filled-as (binary-row u (g .0 .0) (g .0 .1)) (g .1))

@@ -1,5 +1,4 @@
 -- Laws of a candidate's rows, by subject.
-pub mod Filling
 pub mod Products
 pub mod Parts
 pub mod Groups

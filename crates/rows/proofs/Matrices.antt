@@ -20,10 +20,11 @@ use Rattle.rules.specs.Lists.{count}
 use Rattle.walk.specs.Rows.{unaryRow, binaryRow, constantRow}
 use Rattle.walk.specs.Input.{Input, Passes, row, rows, leafRow}
 use Rattle.session.specs.Recording.{lengthOf, wordOf}
-use Rattle.walk.specs.Promises.{Table}
+use Rattle.walk.specs.Kept.{Table}
 use Rattle.walk.proofs.Reading.{row-rows}
 use Rattle.walk.proofs.Rows.{unary-row-means, binary-row-means, constant-row-means, unary-row-only, binary-row-only}
-use Rattle.rows.specs.Rows.{Filled, MaskOf, Reads, RowIs, RowsAsk}
+use Rattle.loops.specs.Loops.{Filled}
+use Rattle.rows.specs.Rows.{MaskOf, Reads, RowIs, RowsAsk}
 use Rattle.rows.specs.Formulas.{matrixAt, LeafIn, Makes, made, Fine, Stored, Masks}
 use Rattle.rows.specs.Promises.{MasksMade, RowsMade, MadeFine}
 use Rattle.rows.proofs.Candidates.{unary-is, binary-is, leaf-is}

@@ -3,23 +3,12 @@
 use mathlib.Core.Path.{_≡_, refl, sym, _∙_}
 use mathlib.Core.Bool.{Bool, true, false}
 use mathlib.Core.List.{List}
-use Prim.Native.Nat.{ℕ, _≤_, _<_}
-use native.Mathlib.Omega.{arith}
-use native.Mathlib.Decide.{decLt}
-use lib.ListN.{length, getD}
-use lib.Seq.{ext-getD}
+use Prim.Native.Nat.{ℕ}
 use Rattle.words.proofs.At.{means-unique}
 use Rattle.formula.specs.Formula.{proposition, constant}
-use Rattle.rows.specs.Rows.{Told, Filled, MasksAnswer, RowIs, RowsAnswer}
+use Rattle.rows.specs.Rows.{Told, MasksAnswer, RowIs, RowsAnswer}
+use Rattle.loops.proofs.Unique.{filled-unique}
 use Rattle.rows.proofs.Candidates.{unary-is, binary-is, leaf-is}
-
--- ---- slices
-
-filled-unique : {r : ℕ} {old new new′ : List ℕ} {P : ℕ → ℕ → Type 0} → ((j w w′ : ℕ) → P j w → P j w′ → w ≡ w′) → Filled r old P new → Filled r old P new′ → new ≡ new′
-filled-unique {r} {old} {new} {new′} one f g = ext-getD 0 new new′ (f .long ∙ sym (g .long)) (λ j l. elim (decLt j r) [
-  | yes h ↦ one j _ _ (f .words j h) (g .words j h)
-  | no h ↦ (let b : r ≤ j = omega arith in f .rest j b ∙ sym (g .rest j b))
-])
 
 -- an answer of true or false, with the list that it leaves
 pub told-unique : (A : Type 0) {L : Type 0} (did : L → Type 0) (old : L) → ((x y : L) → did x → did y → x ≡ y) → (b b′ : Bool) (x y : L)

@@ -11,7 +11,7 @@ use Rattle.formula.specs.Nodes.{leafCode, leafNumber}
 use Rattle.walk.specs.Walk.{Candidate}
 use Rattle.walk.specs.Input.{Input, row, offer}
 use Rattle.session.specs.Recording.{lengthOf}
-use Rattle.walk.specs.Promises.{Table}
+use Rattle.walk.specs.Kept.{Table}
 use Rattle.rows.specs.Rows.{MaskOf}
 
 -- a formula beyond the list, never looked at

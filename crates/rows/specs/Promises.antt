@@ -7,7 +7,7 @@ use mathlib.Core.List.{List}
 use Prim.Native.Nat.{ℕ, _≤_}
 use lib.ListN.{length, take}
 use Rattle.walk.specs.Input.{Input, Passes}
-use Rattle.walk.specs.Promises.{Table}
+use Rattle.walk.specs.Kept.{Table}
 use Rattle.rows.specs.Rows.{MasksAnswer, RowsAnswer}
 use Rattle.rows.specs.Formulas.{Makes, made, Fine, Stored, Masks}
 

@@ -12,18 +12,13 @@ use Rattle.sequence.specs.Masked.{unaryMasked, binaryMasked}
 use Rattle.rules.specs.Limits.{mostSessions, mostPropositions}
 use Rattle.formula.specs.Formula.{Leaf}
 use Rattle.formula.specs.Nodes.{leafCode}
+use Rattle.loops.specs.Loops.{Filled}
 
 -- what a function answers that may be asked for what isn't there: true where it was asked for what it can do, and then that is done; false in every
 -- other case, and then nothing was written
 abbrev pub Told : Type 0 → Type 0 → Type 0 → Bool → Type 0
 Told asked done untouched true = asked × done
 Told asked done untouched false = (asked → ⊥) × untouched
-
--- of a lent slice the words below r are as asked, by their index; "in any lent slice what no rule writes stays"
-pub record Filled (r : ℕ) (old : List ℕ) (Asked : ℕ → ℕ → Type 0) (new : List ℕ) : Type 0 where
-  pub long : length new ≡ length old
-  pub words : (j : ℕ) → j < r → Asked j (getD new j 0)
-  pub rest : (j : ℕ) → r ≤ j → getD new j 0 ≡ getD old j 0
 
 -- ---- the masks
 
@@ -66,5 +61,6 @@ module _ (r m : ℕ) (masks words matrices : List ℕ) (code left right : ℕ) w
     pub rows-there : r ≤ length rows
     pub reads : Reads
 
+  -- "A formula's matrix is one word per session"
   abbrev pub RowsAnswer : List ℕ → List ℕ → Bool → Type 0
   RowsAnswer old new b = Told (RowsAsk old) (Filled r old RowIs new) (new ≡ old) b

@@ -1,92 +1,7 @@
-// The binary operators over two matrices: the operator is chosen once for a candidate, and each has a loop of its own.
+// A candidate whose code is a binary operator's: where the rows of its children lie.
 use rules::kinds::Place;
-ghost use mathlib.Core.List.{[]};
-ghost use Rattle.sequence.specs.Operators.{Binary};
 ghost use Rattle.formula.specs.Rule.{IsBinary};
-ghost use Rattle.rows.specs.Rows.{Filled};
-ghost use Rattle.rows.specs.Inner.{Long, BinaryAt, BinaryRow, BinaryAnswer};
-
-fn or_rows(r: usize, x: &[u64], y: &[u64], rows: &mut [u64])
-    requires { ⌜ Long r (now x) × Long r (now y) × Long r (now rows) ⌝ }
-    ensures { λ u. ⌜ Filled r (now (rows .entry)) (BinaryAt Binary.or [] (now (x .entry)) (now (y .entry))) (now (rows .exit)) ⌝ }
-{
-    let mut j: usize = 0;
-    while j < r {
-        rows[j] = words::or(x[j], y[j]);
-        j += 1;
-    }
-}
-
-fn and_rows(r: usize, x: &[u64], y: &[u64], rows: &mut [u64])
-    requires { ⌜ Long r (now x) × Long r (now y) × Long r (now rows) ⌝ }
-    ensures { λ u. ⌜ Filled r (now (rows .entry)) (BinaryAt Binary.and [] (now (x .entry)) (now (y .entry))) (now (rows .exit)) ⌝ }
-{
-    let mut j: usize = 0;
-    while j < r {
-        rows[j] = words::and(x[j], y[j]);
-        j += 1;
-    }
-}
-
-fn until_rows(r: usize, masks: &[u64], x: &[u64], y: &[u64], rows: &mut [u64])
-    requires { ⌜ Long r (now x) × Long r (now y) × Long r (now masks) × Long r (now rows) ⌝ }
-    ensures { λ u. ⌜ Filled r (now (rows .entry)) (BinaryAt Binary.until (now (masks .entry)) (now (x .entry)) (now (y .entry))) (now (rows .exit)) ⌝ }
-{
-    let mut j: usize = 0;
-    while j < r {
-        rows[j] = words::until(x[j], y[j], masks[j]);
-        j += 1;
-    }
-}
-
-fn release_rows(r: usize, masks: &[u64], x: &[u64], y: &[u64], rows: &mut [u64])
-    requires { ⌜ Long r (now x) × Long r (now y) × Long r (now masks) × Long r (now rows) ⌝ }
-    ensures { λ u. ⌜ Filled r (now (rows .entry)) (BinaryAt Binary.release (now (masks .entry)) (now (x .entry)) (now (y .entry))) (now (rows .exit)) ⌝ }
-{
-    let mut j: usize = 0;
-    while j < r {
-        rows[j] = words::release(x[j], y[j], masks[j]);
-        j += 1;
-    }
-}
-
-fn implies_rows(r: usize, masks: &[u64], x: &[u64], y: &[u64], rows: &mut [u64])
-    requires { ⌜ Long r (now x) × Long r (now y) × Long r (now masks) × Long r (now rows) ⌝ }
-    ensures { λ u. ⌜ Filled r (now (rows .entry)) (BinaryAt Binary.implies (now (masks .entry)) (now (x .entry)) (now (y .entry))) (now (rows .exit)) ⌝ }
-{
-    let mut j: usize = 0;
-    while j < r {
-        rows[j] = words::implies(x[j], y[j], masks[j]);
-        j += 1;
-    }
-}
-
-fn equiv_rows(r: usize, masks: &[u64], x: &[u64], y: &[u64], rows: &mut [u64])
-    requires { ⌜ Long r (now x) × Long r (now y) × Long r (now masks) × Long r (now rows) ⌝ }
-    ensures { λ u. ⌜ Filled r (now (rows .entry)) (BinaryAt Binary.equiv (now (masks .entry)) (now (x .entry)) (now (y .entry))) (now (rows .exit)) ⌝ }
-{
-    let mut j: usize = 0;
-    while j < r {
-        rows[j] = words::equiv(x[j], y[j], masks[j]);
-        j += 1;
-    }
-}
-
-// The operator with the code, over the rows of its children.
-fn by_code(r: usize, masks: &[u64], x: &[u64], y: &[u64], code: u8, rows: &mut [u64])
-    requires { ⌜ Long r (now masks) × Long r (now x) × Long r (now y) × Long r (now rows) × IsBinary code ⌝ }
-    ensures { λ u. ⌜ Filled r (now (rows .entry)) (BinaryRow code (now (masks .entry)) (now (x .entry)) (now (y .entry))) (now (rows .exit)) ⌝ }
-{
-    match code {
-        5 => or_rows(r, x, y, rows),
-        6 => and_rows(r, x, y, rows),
-        7 => until_rows(r, masks, x, y, rows),
-        8 => release_rows(r, masks, x, y, rows),
-        9 => implies_rows(r, masks, x, y, rows),
-        10 => equiv_rows(r, masks, x, y, rows),
-        _ => {}
-    }
-}
+ghost use Rattle.rows.specs.Inner.{Long, BinaryAnswer};
 
 // The rows of a candidate whose code is a binary operator's.
 pub(crate) fn rows_of(
@@ -109,6 +24,6 @@ pub(crate) fn rows_of(
     if matrices.len() < other + r {
         return false;
     }
-    by_code(r, masks, &matrices[one..], &matrices[other..], code, rows);
+    loops::binary::by_code(r, masks, &matrices[one..], &matrices[other..], code, rows);
     true
 }

@@ -11,7 +11,7 @@ ghost use Rattle.words.specs.Masked.{Placed};
 ghost use Rattle.words.specs.Word.{width, At, Means};
 ghost use Rattle.rules.specs.Limits.{mostPropositions};
 ghost use Rattle.formula.specs.Rule.{IsUnary, IsBinary};
-ghost use Rattle.rows.specs.Rows.{Filled};
+ghost use Rattle.loops.specs.Loops.{Filled};
 ghost use Rattle.rows.specs.Inner.{Long, LeafAnswer};
 
 // A proposition's words, which lie m per session.

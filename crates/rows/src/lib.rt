@@ -5,9 +5,9 @@ mod leaves;
 mod masks;
 mod unary;
 
+use operators::Group;
+use operators::operator_of;
 use rules::kinds::Place;
-use sequence::operators::Group;
-use sequence::operators::operator_of;
 ghost use Rattle.rows.specs.Rows.{MasksAnswer, RowsAnswer};
 
 // Writes the masks of r sessions, once for a search. False where r is above the most sessions or a slice is shorter.

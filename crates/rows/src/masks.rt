@@ -1,6 +1,7 @@
 // The masks of the sessions.
 use sequence::CharSeq;
-ghost use Rattle.rows.specs.Rows.{MasksAsk, MaskOf, Filled};
+ghost use Rattle.loops.specs.Loops.{Filled};
+ghost use Rattle.rows.specs.Rows.{MasksAsk, MaskOf};
 
 pub(crate) fn fill(r: usize, lengths: &[u8], masks: &mut [u64])
     requires { ⌜ MasksAsk r (now lengths) (now masks) ⌝ }

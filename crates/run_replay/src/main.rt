@@ -141,10 +141,10 @@ fn answer(text: &[u8], at: usize) -> Reply
     };
     let group = text[at];
     if group == b'u' {
-        return reply_of(sequence::apply_unary(code, left));
+        return reply_of(operators::apply_unary(code, left));
     }
     if group == b'b' {
-        return reply_of(sequence::apply_binary(code, left, right));
+        return reply_of(operators::apply_binary(code, left, right));
     }
     no_query()
 }

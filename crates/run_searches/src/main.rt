@@ -1,20 +1,14 @@
-// Runs S2 to S5 of document 01, one line each: the answer, and the lent slices as the search left them. They hold 9 everywhere before.
-// Their stored output is written from 01's prose. The sample after them has the Rust's answers.
-mod sample;
-
+// Runs searches, one line of standard output each: the answer, and the lent slices as the search left them. S2 to S5 are of document 01, and their
+// stored output is written from 01's prose; the lines of `sample` are written by the differential harness, with the Rust's answers.
+//
+// A line of standard input is a search. Its fields (`stored` says how they are written) are
+//     name / r m bound room constants / marks / lengths / words / unary / binary / codes / lefts / rights / sizes / matrices / after
+// The five before the last are what is lent, as it stands before; it is said, as it stands after, where `after` is not empty.
+use candidate::counts::Counts;
 use formula::kinds::Node;
-use libc::STDOUT_FILENO;
 use search::SearchAnswer;
-use search::counts::Counts;
-
-fn say(text: &[u8]) {
-    io::write_all(STDOUT_FILENO, text);
-}
-
-fn say_number(text: &[u8], x: u64) {
-    say(text);
-    io::print_decimal(STDOUT_FILENO, x);
-}
+use stored::say;
+use stored::say_number;
 
 fn say_counts(counts: Counts) {
     say_number(b" tried ", counts.tried);
@@ -44,211 +38,118 @@ fn say_answer(answer: SearchAnswer) {
             say_number(b"full size ", size as u64);
             say_counts(counts);
         }
-        SearchAnswer::Refused(number) => say_number(b"refused ", number as u64),
+        SearchAnswer::Refused(number) => {
+            say_number(b"refused ", number as u64);
+        }
     }
 }
 
-fn wide_byte(x: u8) -> u64 {
-    x as u64
-}
-
-fn wide_place(x: u16) -> u64 {
-    x as u64
-}
-
-fn say_bytes(list: &[u8]) {
-    say(b" |");
-    let mut i: usize = 0;
-    while i < list.len() {
-        say_number(b" ", wide_byte(list[i]));
-        i += 1;
+fn say_lent(
+    line: &[u8],
+    codes: &[u8],
+    lefts: &[u16],
+    rights: &[u16],
+    sizes: &[u8],
+    matrices: &[u64],
+) {
+    let after = stored::field(line, 12);
+    if after.len() == 0 {
+        return;
     }
+    stored::say_bytes(codes);
+    stored::say_places(lefts);
+    stored::say_places(rights);
+    stored::say_bytes(sizes);
+    stored::say_words(matrices);
 }
 
-fn say_places(list: &[u16]) {
-    say(b" |");
-    let mut i: usize = 0;
-    while i < list.len() {
-        say_number(b" ", wide_place(list[i]));
-        i += 1;
-    }
-}
-
-fn say_words(list: &[u64]) {
-    say(b" |");
-    let mut i: usize = 0;
-    while i < list.len() {
-        say_number(b" ", list[i]);
-        i += 1;
-    }
-}
-
-// A search with three places lent, of which it may use `room`.
-fn example(
-    name: &[u8],
-    r: usize,
-    m: usize,
-    bound: usize,
-    room: usize,
+fn run(
+    line: &[u8],
     marks: &[u8],
     lengths: &[u8],
     words: &[u64],
     unary: &[u8],
     binary: &[u8],
+    codes: &mut [u8],
+    lefts: &mut [u16],
+    rights: &mut [u16],
+    sizes: &mut [u8],
+    matrices: &mut [u64],
 ) {
-    let mut codes = [9u8; 3];
-    let mut lefts = [9u16; 3];
-    let mut rights = [9u16; 3];
-    let mut sizes = [9u8; 3];
-    let mut matrices = [9u64; 6];
-    say(name);
+    let mut head = [0u64; 5];
+    stored::words(line, 1, &mut head);
     let answer = search::search(
-        r,
-        m,
-        bound,
-        room,
-        0,
+        head[0] as usize,
+        head[1] as usize,
+        head[2] as usize,
+        head[3] as usize,
+        (head[4] % 256) as u8,
         marks,
         lengths,
         words,
         unary,
         binary,
-        &mut codes,
-        &mut lefts,
-        &mut rights,
-        &mut sizes,
-        &mut matrices,
+        codes,
+        lefts,
+        rights,
+        sizes,
+        matrices,
     );
     say_answer(answer);
-    say_bytes(&codes);
-    say_places(&lefts);
-    say_places(&rights);
-    say_bytes(&sizes);
-    say_words(&matrices);
-    say(b"\n");
+    say_lent(line, codes, lefts, rights, sizes, matrices);
 }
 
-// A search with the largest numbers, or one above them; p holds everywhere, and all sessions are good.
-fn limits(name: &[u8], r: usize, bound: usize, room: usize, length: u8) {
-    let marks = [1u8; 33];
-    let lengths = [length; 33];
-    let words = [0xffff_ffff_ffff_ffffu64; 33];
-    let mut codes = [9u8; 4097];
-    let mut lefts = [9u16; 4097];
-    let mut rights = [9u16; 4097];
-    let mut sizes = [9u8; 4097];
-    let mut matrices = [9u64; 131104];
-    say(name);
-    let answer = search::search(
-        r,
-        1,
-        bound,
-        room,
-        0,
-        &marks,
-        &lengths,
-        &words,
-        &[0, 1, 2, 3, 4],
-        &[5, 6, 7, 8, 9, 10],
-        &mut codes,
-        &mut lefts,
-        &mut rights,
-        &mut sizes,
-        &mut matrices,
+fn lend(line: &[u8], marks: &[u8], lengths: &[u8], words: &[u64], unary: &[u8], binary: &[u8]) {
+    let mut codes = [0u8; 4097];
+    let mut lefts = [0u16; 4097];
+    let mut rights = [0u16; 4097];
+    let mut sizes = [0u8; 4097];
+    let mut matrices = [0u64; 131104];
+    let codes = stored::bytes(line, 7, &mut codes);
+    let lefts = stored::places(line, 8, &mut lefts);
+    let rights = stored::places(line, 9, &mut rights);
+    let sizes = stored::bytes(line, 10, &mut sizes);
+    let matrices = stored::words(line, 11, &mut matrices);
+    run(
+        line,
+        marks,
+        lengths,
+        words,
+        unary,
+        binary,
+        codes,
+        lefts,
+        rights,
+        sizes,
+        matrices,
     );
-    say_answer(answer);
+}
+
+fn search(line: &[u8]) {
+    let mut marks = [0u8; 33];
+    let mut lengths = [0u8; 33];
+    let mut words = [0u64; 33];
+    let mut unary = [0u8; 16];
+    let mut binary = [0u8; 16];
+    let marks = stored::bytes(line, 2, &mut marks);
+    let lengths = stored::bytes(line, 3, &mut lengths);
+    let words = stored::words(line, 4, &mut words);
+    let unary = stored::bytes(line, 5, &mut unary);
+    let binary = stored::bytes(line, 6, &mut binary);
+    lend(line, marks, lengths, words, unary, binary);
+}
+
+fn example(line: &[u8]) {
+    say(stored::field(line, 0));
+    say(b": ");
+    search(line);
     say(b"\n");
 }
 
 fn main() {
-    example(
-        b"S2, B = 2: ",
-        2,
-        1,
-        2,
-        3,
-        &[1, 0],
-        &[1, 1],
-        &[1, 1],
-        &[0],
-        &[],
-    );
-    example(
-        b"S2, C = 1: ",
-        2,
-        1,
-        2,
-        1,
-        &[1, 0],
-        &[1, 1],
-        &[1, 1],
-        &[0],
-        &[],
-    );
-    example(
-        b"S2, B = 3 and C = 2: ",
-        2,
-        1,
-        3,
-        2,
-        &[1, 0],
-        &[1, 1],
-        &[1, 1],
-        &[0],
-        &[],
-    );
-    example(
-        b"S3: ",
-        2,
-        2,
-        3,
-        3,
-        &[1, 0],
-        &[3, 3],
-        &[3, 4, 1, 4],
-        &[],
-        &[7],
-    );
-    example(
-        b"S4, B = 2: ",
-        1,
-        1,
-        2,
-        3,
-        &[1],
-        &[0],
-        &[0],
-        &[0, 1, 2, 3, 4],
-        &[5, 6, 7, 8, 9, 10],
-    );
-    example(
-        b"S4, B = 3: ",
-        1,
-        1,
-        3,
-        3,
-        &[1],
-        &[0],
-        &[0],
-        &[0, 1, 2, 3, 4],
-        &[5, 6, 7, 8, 9, 10],
-    );
-    example(
-        b"S4, mark 0: ",
-        1,
-        1,
-        3,
-        3,
-        &[0],
-        &[0],
-        &[0],
-        &[0, 1, 2, 3, 4],
-        &[5, 6, 7, 8, 9, 10],
-    );
-    limits(b"S5, length 65: ", 32, 31, 4096, 65);
-    limits(b"S5, r = 33: ", 33, 31, 4096, 64);
-    limits(b"S5, B = 32: ", 32, 32, 4096, 64);
-    limits(b"S5, C = 4097: ", 32, 31, 4097, 64);
-    limits(b"S5, 64, 32, 31, 4096: ", 32, 31, 4096, 64);
-    sample::run();
+    let mut room = [0u8; 65536];
+    let text = stored::input(&mut room);
+    for number in 0..stored::lines(text) {
+        example(stored::line(text, number));
+    }
 }

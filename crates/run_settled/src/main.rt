@@ -1,17 +1,10 @@
 // Runs P1 to P10 of document 01 and every operator on every word of up to 4 snapshots, and prints what came out.
 // The stored output is written from the Rust (differential/README.md).
-use libc::STDOUT_FILENO;
+use operators::operator_of;
 use sequence::Answer;
 use sequence::CharSeq;
-use sequence::operators::operator_of;
-
-fn say(text: &[u8]) {
-    io::write_all(STDOUT_FILENO, text);
-}
-
-fn say_number(x: u64) {
-    io::print_decimal(STDOUT_FILENO, x);
-}
+use stored::say;
+use stored::say_number;
 
 fn say_token(code: u8) {
     let op = operator_of(code);
@@ -22,17 +15,17 @@ fn say_token(code: u8) {
 
 fn say_answer(answer: Answer) {
     match answer {
-        Answer::Sequence(seq) => say_number(seq.values),
+        Answer::Sequence(seq) => {
+            say_number(b" ", seq.values);
+        }
         Answer::Refused(number) => {
-            say(b"refused ");
-            say_number(number as u64);
+            say_number(b" refused ", number as u64);
         }
     }
 }
 
 fn say_length(length: usize) {
-    say(b"length ");
-    say_number(length as u64);
+    say_number(b"length ", length as u64);
     say(b": ");
 }
 
@@ -41,10 +34,9 @@ fn unary_example(name: &[u8], code: u8, length: usize, x: u64) {
     say(b", ");
     say_length(length);
     say_token(code);
-    say(b" ");
-    say_number(x);
-    say(b" = ");
-    say_answer(sequence::apply_unary(code, CharSeq { length, values: x }));
+    say_number(b" ", x);
+    say(b" =");
+    say_answer(operators::apply_unary(code, CharSeq { length, values: x }));
     say(b"\n");
 }
 
@@ -52,13 +44,12 @@ fn binary_example(name: &[u8], code: u8, length: usize, x: u64, y: u64) {
     say(name);
     say(b", ");
     say_length(length);
-    say_number(x);
+    say_number(b"", x);
     say(b" ");
     say_token(code);
-    say(b" ");
-    say_number(y);
-    say(b" = ");
-    say_answer(sequence::apply_binary(
+    say_number(b" ", y);
+    say(b" =");
+    say_answer(operators::apply_binary(
         code,
         CharSeq { length, values: x },
         CharSeq { length, values: y },
@@ -98,8 +89,7 @@ fn words_of(length: usize) -> u64 {
 }
 
 fn unary_cell(code: u8, length: usize, x: u64) {
-    say(b" ");
-    say_answer(sequence::apply_unary(code, CharSeq { length, values: x }));
+    say_answer(operators::apply_unary(code, CharSeq { length, values: x }));
 }
 
 fn unary_cells(code: u8, length: usize) {
@@ -123,8 +113,7 @@ fn unary_lines(length: usize) {
 }
 
 fn binary_cell(code: u8, length: usize, x: u64, y: u64) {
-    say(b" ");
-    say_answer(sequence::apply_binary(
+    say_answer(operators::apply_binary(
         code,
         CharSeq { length, values: x },
         CharSeq { length, values: y },
@@ -139,7 +128,7 @@ fn binary_cells(code: u8, length: usize, x: u64) {
 
 fn binary_line(code: u8, length: usize, x: u64) {
     say_length(length);
-    say_number(x);
+    say_number(b"", x);
     say(b" ");
     say_token(code);
     say(b" =");

@@ -1,77 +1,30 @@
 // Runs what is said of typed formulas on S1's file and on it cut: each case of an answer, whole outputs. The stored output is written by hand from documents
 // 01 and 02: S1 has two sessions of two snapshots, p at the second of the good one and nowhere in the bad one.
-use libc::STDOUT_FILENO;
-
-// "S1, whole file (hex)" of document 01.
-const S1: [u8; 40] = [
-    1,
-    1,
-    b'p',
-    2,
-    1,
-    2,
-    2,
-    0,
-    0,
-    0,
-    0,
-    0,
-    0,
-    0,
-    0,
-    2,
-    0,
-    0,
-    0,
-    0,
-    0,
-    0,
-    0,
-    0,
-    5,
-    0,
-    1,
-    2,
-    3,
-    4,
-    6,
-    5,
-    6,
-    7,
-    8,
-    9,
-    10,
-    2,
-    0,
-    4,
-];
+//
+// A line of standard input has two fields, what is typed, and the file in hex: "S1, whole file (hex)" of document 01, or its first bytes.
+use stored::say;
 
 fn answer(typed: &[u8], file: &[u8]) {
     let mut text = [0u8; 8248];
     let length = suspicion::of_typed(typed, file, &mut text);
-    io::write_all(STDOUT_FILENO, &text[..length]);
+    say(&text[..length]);
 }
 
 // What is typed, and what is said of it.
-fn say(typed: &[u8], file: &[u8]) {
-    io::write_all(STDOUT_FILENO, b"> ");
-    io::write_all(STDOUT_FILENO, typed);
-    io::write_all(STDOUT_FILENO, b"\n");
+fn example(line: &[u8]) {
+    let typed = stored::field(line, 0);
+    say(b"> ");
+    say(typed);
+    say(b"\n");
+    let mut file = [0u8; 64];
+    let file = stored::hex(line, 1, &mut file);
     answer(typed, file);
 }
 
 fn main() {
-    say(b"X p", &S1);
-    say(b"F(p)", &S1);
-    say(b"!p U p", &S1);
-    say(b"p", &S1);
-    say(b"true", &S1);
-    say(b"!!p | X[!] true", &S1);
-    say(b"X p q", &S1);
-    say(b"p & (q U zz)", &S1);
-    say(b"G (p ->", &S1);
-    say(b"", &S1);
-    say(b"!!!!!!!!!!!!!!!!!!!!!!!!!!!!!!!p", &S1);
-    say(b"X p", &S1[..12]);
-    say(b"U", &S1[..0]);
+    let mut room = [0u8; 65536];
+    let text = stored::input(&mut room);
+    for number in 0..stored::lines(text) {
+        example(stored::line(text, number));
+    }
 }

@@ -1,40 +1,31 @@
-// The C boundary: operators, search, check, print, the readers of formulas and files, and the report, on numbers and slices of numbers. Every
-// function returns 0 where it answered, else a refusal's number, and answers in the slice `out`.
-mod compare;
-mod out;
-mod reports;
-mod short;
-
-use formula::kinds::Node;
-use rules::kinds::Place;
-use sequence::CharSeq;
+// The C boundary: operators, search (whole and in slices), check, print, the readers of formulas and files, the comparison and the report, on numbers and slices of numbers.
+// Every function returns 0 where it answered, else a refusal's number, and answers in the slice `out`. Each is one call of the function with the same contract
+// in a crate of its own (out_operators, out_search, ..).
 ghost use mathlib.Core.Path.{_≡_};
 ghost use Rattle.file.specs.Reading.{lent};
 ghost use Rattle.formula.specs.Kinds.{node, nodes};
 ghost use Rattle.reader.specs.Parsing.{columns};
 ghost use Rattle.session.specs.Recording.{recording};
-ghost use Rattle.search.specs.Table.{cols};
+ghost use Rattle.slices.specs.Slices.{freshState};
+ghost use Rattle.table.specs.Slices.{cols};
 ghost use Rattle.walk.specs.Input.{inputOf};
-ghost use Rattle.scarfpylon.specs.Operators.{UnaryDone, BinaryDone};
-ghost use Rattle.scarfpylon.specs.Search.{SearchDone};
-ghost use Rattle.scarfpylon.specs.Check.{CheckDone};
-ghost use Rattle.scarfpylon.specs.Print.{PrintDone};
-ghost use Rattle.scarfpylon.specs.Parse.{ParseDone};
-ghost use Rattle.scarfpylon.specs.Read.{done, readDone};
-ghost use Rattle.scarfpylon.specs.Compare.{CompareDone};
-ghost use Rattle.scarfpylon.specs.Report.{ReportDone};
+ghost use Rattle.out_operators.specs.Operators.{UnaryDone, BinaryDone};
+ghost use Rattle.out_search.specs.Search.{SearchDone};
+ghost use Rattle.out_check.specs.Check.{CheckDone};
+ghost use Rattle.out_print.specs.Print.{PrintDone};
+ghost use Rattle.out_parse.specs.Parse.{ParseDone};
+ghost use Rattle.out_read.specs.Read.{done, readDone};
+ghost use Rattle.out_compare.specs.Compare.{CompareDone};
+ghost use Rattle.out_report.specs.Report.{ReportDone};
+ghost use Rattle.state_words.specs.Written.{StateDone};
+ghost use Rattle.out_resume.specs.Resume.{ResumeDone};
 
 // The unary operator of a code on a sequence.
 #[no_mangle]
 pub extern "C" fn scarfpylon_unary(code: u8, length: u64, word: u64, out: &mut [u64]) -> u64
     ensures { λ k. ⌜ UnaryDone code length word (now (out .entry)) k (now (out .exit)) ⌝ }
 {
-    let sequence = CharSeq {
-        length: length as usize,
-        values: word,
-    };
-    let answer = sequence::apply_unary(code, sequence);
-    out::put_sequence(answer, out)
+    out_operators::unary(code, length, word, out)
 }
 
 // The binary operator of a code on two sequences of one length.
@@ -49,16 +40,7 @@ pub extern "C" fn scarfpylon_binary(
 ) -> u64
     ensures { λ k. ⌜ BinaryDone code llen lword rlen rword (now (out .entry)) k (now (out .exit)) ⌝ }
 {
-    let left = CharSeq {
-        length: llen as usize,
-        values: lword,
-    };
-    let right = CharSeq {
-        length: rlen as usize,
-        values: rword,
-    };
-    let answer = sequence::apply_binary(code, left, right);
-    out::put_sequence(answer, out)
+    out_operators::binary(code, llen, lword, rlen, rword, out)
 }
 
 // FOUND, NONE or FULL, with the kept formulas in the lent slices.
@@ -89,10 +71,7 @@ pub extern "C" fn scarfpylon_search(
         (cols (now (codes .exit)) (now (lefts .exit)) (now (rights .exit)) (now (sizes .exit)) (now (matrices .exit)))
         (now (out .exit)) ⌝ }
 {
-    if out.len() < out::LONG_WORDS {
-        return short::search(r, m, bound, room, constants);
-    }
-    let answer = search::search(
+    out_search::search(
         r,
         m,
         bound,
@@ -108,9 +87,71 @@ pub extern "C" fn scarfpylon_search(
         rights,
         sizes,
         matrices,
-    );
-    out::put_search(answer, out);
-    out::search_number(answer)
+        out,
+    )
+}
+
+// A state of which nothing is tried, in the first 16 words.
+#[no_mangle]
+pub extern "C" fn scarfpylon_fresh(state: &mut [u64]) -> u64
+    ensures { λ k. ⌜ StateDone freshState (now (state .entry)) k (now (state .exit)) ⌝ }
+{
+    state_words::fresh(state)
+}
+
+// The search from a state on, for at most `budget` candidates: MORE, or the end, with the state after it in the words.
+#[no_mangle]
+pub extern "C" fn scarfpylon_resume(
+    r: usize,
+    m: usize,
+    bound: usize,
+    room: usize,
+    constants: u8,
+    marks: &[u8],
+    lengths: &[u8],
+    words: &[u64],
+    unary: &[u8],
+    binary: &[u8],
+    codes: &mut [u8],
+    lefts: &mut [u16],
+    rights: &mut [u16],
+    sizes: &mut [u8],
+    matrices: &mut [u64],
+    budget: u64,
+    state: &mut [u64],
+    out: &mut [u64],
+) -> u64
+    ensures { λ k. ⌜ ResumeDone
+        (inputOf r m bound room constants (now (marks .entry)) (now (lengths .entry)) (now (words .entry)) (now (unary .entry)) (now (binary .entry)))
+        (cols (now (codes .entry)) (now (lefts .entry)) (now (rights .entry)) (now (sizes .entry)) (now (matrices .entry)))
+        budget
+        (now (state .entry))
+        (now (out .entry))
+        k
+        (cols (now (codes .exit)) (now (lefts .exit)) (now (rights .exit)) (now (sizes .exit)) (now (matrices .exit)))
+        (now (state .exit))
+        (now (out .exit)) ⌝ }
+{
+    out_resume::resume(
+        r,
+        m,
+        bound,
+        room,
+        constants,
+        marks,
+        lengths,
+        words,
+        unary,
+        binary,
+        codes,
+        lefts,
+        rights,
+        sizes,
+        matrices,
+        budget,
+        state,
+        out,
+    )
 }
 
 // Whether the root's formula separates the marked sessions, and if not, the first session that disagrees.
@@ -139,16 +180,7 @@ pub extern "C" fn scarfpylon_check(
         k
         (now (out .exit)) ⌝ }
 {
-    if out.len() < out::WORDS {
-        return short::check(r, m);
-    }
-    let root = Node {
-        code,
-        left: Place(left),
-        right: Place(right),
-        size,
-    };
-    let answer = formula::check(
+    out_check::check(
         r,
         m,
         marks,
@@ -158,10 +190,12 @@ pub extern "C" fn scarfpylon_check(
         lefts,
         rights,
         sizes,
-        root,
-    );
-    out::put_verdict(answer, out);
-    out::verdict_number(answer)
+        code,
+        left,
+        right,
+        size,
+        out,
+    )
 }
 
 // The text of the root's formula, at the start of the lent room.
@@ -189,18 +223,19 @@ pub extern "C" fn scarfpylon_print(
         (now (text .exit))
         (now (out .exit)) ⌝ }
 {
-    let root = Node {
+    out_print::print(
+        names,
+        codes,
+        lefts,
+        rights,
+        sizes,
         code,
-        left: Place(left),
-        right: Place(right),
+        left,
+        right,
         size,
-    };
-    if out.len() < out::WORDS {
-        return short::print(names, codes, lefts, rights, sizes, root);
-    }
-    let answer = text::print(names, codes, lefts, rights, sizes, root, text);
-    out::put_printed(answer, out);
-    out::printed_number(answer)
+        text,
+        out,
+    )
 }
 
 // The nodes of a formula that is typed, in the lent slices, the root last.
@@ -223,12 +258,7 @@ pub extern "C" fn scarfpylon_parse(
         (columns (now (codes .exit)) (now (lefts .exit)) (now (rights .exit)) (now (sizes .exit)))
         (now (out .exit)) ⌝ }
 {
-    if out.len() < out::WORDS {
-        return short::parse(names, text);
-    }
-    let answer = reader::parse(names, text, codes, lefts, rights, sizes);
-    out::put_parsed(answer, out);
-    out::parsed_number(answer)
+    out_parse::parse(names, text, codes, lefts, rights, sizes, out)
 }
 
 // A session file's parts, in the lent slices.
@@ -249,12 +279,7 @@ pub extern "C" fn scarfpylon_read(
         (lent (now (marks .entry)) (now (lengths .entry)) (now (words .entry)) (now (unary .entry)) (now (binary .entry)))
         (now (out .entry)) ⌝ }
 {
-    if out.len() < out::WORDS {
-        return short::read(file);
-    }
-    let answer = file::read(file, marks, lengths, words, unary, binary);
-    out::put_read(answer, out);
-    out::read_number(answer)
+    out_read::read(file, marks, lengths, words, unary, binary, out)
 }
 
 // A matrix, the first r of the words, against the one at a place of the matrices: equal, or the first session that differs.
@@ -268,13 +293,7 @@ pub extern "C" fn scarfpylon_compare(
 ) -> u64
     ensures { λ k. ⌜ CompareDone r place (now (matrices .entry)) (now (words .entry)) (now (out .entry)) k (now (out .exit)) ⌝ }
 {
-    let refused = compare::refusal(r, place, matrices.len(), words.len(), out.len());
-    if refused != 0 {
-        return refused;
-    }
-    let from = place * r;
-    let answer = table::compare(r, Place(0), &matrices[from..], words);
-    compare::put(answer, place, out)
+    out_compare::compare(r, place, matrices, words, out)
 }
 
 // Per session and node under the root: the first snapshot where it holds, the first where it doesn't, and at how many it holds.
@@ -306,27 +325,7 @@ pub extern "C" fn scarfpylon_report(
         (now (text .exit))
         (now (out .exit)) ⌝ }
 {
-    let root = Node {
-        code,
-        left: Place(left),
-        right: Place(right),
-        size,
-    };
-    if out.len() < out::WORDS {
-        return reports::unanswered(
-            r,
-            m,
-            marks,
-            lengths,
-            words,
-            codes,
-            lefts,
-            rights,
-            sizes,
-            root,
-        );
-    }
-    let answer = report::report(
+    out_report::report(
         r,
         m,
         marks,
@@ -336,9 +335,11 @@ pub extern "C" fn scarfpylon_report(
         lefts,
         rights,
         sizes,
-        root,
+        code,
+        left,
+        right,
+        size,
         text,
-    );
-    reports::put_length(answer, out);
-    reports::number(answer)
+        out,
+    )
 }

@@ -11,7 +11,7 @@ use Rattle.rules.proofs.Refusals.{decided-unique}
 use Rattle.rules.specs.Answers.{Said}
 use Rattle.walk.specs.Walk.{Ending, found, full, none, Tally, tally, State, ended, kept}
 use Rattle.walk.specs.Input.{Input, Passes, search}
-use Rattle.walk.specs.Promises.{Table}
+use Rattle.walk.specs.Kept.{Table}
 use Rattle.walk.proofs.Promises as walk
 use Rattle.walk.proofs.Same.{same-where-read as walk-same}
 use Rattle.walk.proofs.Steady.{found-stays}
@@ -19,7 +19,7 @@ use Rattle.walk.proofs.Position.{tried-is-position as walk-tried}
 use Rattle.walk.proofs.Dropped.{tried-adds-up as walk-adds}
 use Rattle.formula.specs.declared.kinds.Node.{Node}
 use Rattle.formula.specs.Kinds.{nodeOf}
-use Rattle.search.specs.declared.counts.Counts.{Counts}
+use Rattle.candidate.specs.declared.counts.Counts.{Counts}
 use Rattle.search.specs.declared.SearchAnswer.{SearchAnswer}
 use Rattle.search.specs.declared.SearchAnswer.the-variants.{Found, None, Full, Refused}
 use Rattle.search.specs.Table.{Cols, tableOver}

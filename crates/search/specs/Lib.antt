@@ -1,7 +1,6 @@
--- What a reader must believe of the search: Table, Search and Promises; its refusals are in checks/specs.
--- `Costs` and `Turns` are only for private functions: no public contract cites them.
+-- What a reader must believe of the search: Table, Search and Promises; its refusals are in checks/specs, the numbers and values of its answers in
+-- slices/specs. `Inner` is only for private functions: no public contract cites it.
 pub mod Table
 pub mod Search
 pub mod Promises
-pub mod Costs
-pub mod Turns
+pub mod Inner

@@ -9,9 +9,10 @@ use Rattle.formula.specs.declared.kinds.Node.{Node}
 use Rattle.formula.specs.Kinds.{nodeOf}
 use Rattle.walk.specs.Walk.{Ending, found, none, full, trail}
 use Rattle.walk.specs.Input.{Input, separating, offer}
-use Rattle.walk.specs.Promises.{Table, NoneBelow, Kept, DecidedAt, AgreeWhereRead, Wider}
+use Rattle.walk.specs.Kept.{Table}
+use Rattle.walk.specs.Promises.{NoneBelow, Kept, DecidedAt, AgreeWhereRead, Wider}
 use Rattle.walk.specs.Promises as walk
-use Rattle.search.specs.declared.counts.Counts.{Counts}
+use Rattle.candidate.specs.declared.counts.Counts.{Counts}
 use Rattle.search.specs.declared.SearchAnswer.{SearchAnswer}
 use Rattle.search.specs.declared.SearchAnswer.the-variants.{Found, None, Full, Refused}
 use Rattle.search.specs.Table.{Cols, tableOver}
@@ -39,7 +40,7 @@ pub record Holding (i : Input) (t u : Cols) (kept : ℕ) (k : Table) : Type 0 wh
 -- the root node over the table
 abbrev pub FoundSmallest : Type 0
 FoundSmallest = (i : Input) (t u : Cols) (root : Node) (n : Counts) → Searched i t (Found root n) u
-    → (k : Table) × Holding i t u (n .kept) k × walk.Found i (nodeOf root) k
+    → (k : Table) × Holding i t u (n .kept) k × walk.FoundAs i (nodeOf root) k
 
 -- ""None" only where no such formula within the bound separates"
 abbrev pub NoneMeansNone : Type 0

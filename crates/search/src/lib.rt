@@ -1,17 +1,14 @@
-// The search: the walk of document 01 over a table in lent slices (aux.rs, cache.rs, cm.rs).
-pub mod counts;
-mod given;
-mod turns;
-
-use crate::counts::Counts;
-use crate::given::Given;
-use crate::turns::Stand;
+// The search: the walk of document 01 over a table in lent slices (aux.rs, cache.rs, cm.rs), in one go: the search in slices with budget enough.
+use candidate::counts::Counts;
 use formula::kinds::Node;
+use slices::Resumed;
+use slices::state::State;
 ghost use mathlib.Core.Path.{_≡_};
-ghost use Rattle.search.specs.Table.{cols};
-ghost use Rattle.search.specs.Turns.{answerOf};
+ghost use Prim.Native.Nat.{_<_};
 ghost use Rattle.walk.specs.Input.{inputOf};
+ghost use Rattle.search.specs.Table.{cols};
 ghost use Rattle.search.specs.Search.{Searched};
+ghost use Rattle.search.specs.Inner.{endOf, SizeFits, answerOf};
 
 // FOUND with the root node over the kept list, NONE, FULL at a size, each with the counts; or a refusal.
 pub enum SearchAnswer {
@@ -21,14 +18,31 @@ pub enum SearchAnswer {
     Refused(u8),
 }
 
-// The answer where the walk stands at its end: after the last candidate it is NONE.
-fn answer_of(stand: Stand) -> SearchAnswer
-    ensures { λ answer. ⌜ answer ≡ answerOf stand ⌝ }
+// The answer where the walk has ended.
+fn end_of(state: State) -> SearchAnswer
+    requires { ⌜ state .size < 256 ⌝ }
+    ensures { λ answer. ⌜ answer ≡ endOf state ⌝ }
 {
-    match stand {
-        Stand::Going(counts) => SearchAnswer::None(counts),
-        Stand::Found { root, counts } => SearchAnswer::Found { root, counts },
-        Stand::Full { size, counts } => SearchAnswer::Full { size, counts },
+    let counts = state.counts;
+    let root = state.root;
+    let size = state.size as u8;
+    if state.end == 1 {
+        return SearchAnswer::Found { root, counts };
+    }
+    if state.end == 3 {
+        return SearchAnswer::Full { size, counts };
+    }
+    SearchAnswer::None(counts)
+}
+
+// The answer, or the refusal.
+fn answer_of(resumed: Resumed) -> SearchAnswer
+    requires { ⌜ SizeFits resumed ⌝ }
+    ensures { λ answer. ⌜ answer ≡ answerOf resumed ⌝ }
+{
+    match resumed {
+        Resumed::Goes(state) => end_of(state),
+        Resumed::Refused(number) => SearchAnswer::Refused(number),
     }
 }
 
@@ -59,7 +73,7 @@ pub fn search(
         answer
         (cols (now (codes .exit)) (now (lefts .exit)) (now (rights .exit)) (now (sizes .exit)) (now (matrices .exit))) ⌝ }
 {
-    let refused = checks::refusal(
+    let resumed = slices::advance(
         r,
         m,
         bound,
@@ -70,36 +84,13 @@ pub fn search(
         words,
         unary,
         binary,
+        18446744073709551615,
+        slices::fresh(),
         codes,
         lefts,
         rights,
         sizes,
         matrices,
     );
-    if refused != 0 {
-        return SearchAnswer::Refused(refused);
-    }
-    let given = Given {
-        sessions: r,
-        propositions: m,
-        bound,
-        room,
-        constants,
-    };
-    let first = turns::first_point();
-    let stand = turns::go_on(
-        given,
-        marks,
-        lengths,
-        words,
-        unary,
-        binary,
-        first,
-        codes,
-        lefts,
-        rights,
-        sizes,
-        matrices,
-    );
-    answer_of(stand)
+    answer_of(resumed)
 }

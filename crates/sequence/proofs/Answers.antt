@@ -28,7 +28,8 @@ binary-decided code s t g a b l {i} {j} p q r ei u ej ek =
     let both : Decided (illFormed s ++ illFormed t) i = subst (Decided (illFormed s ++ illFormed t)) (sym ei) (decided-both (illFormed s) (illFormed t) a b (lit< tt, (lit< tt, tt)) q r) in
     let three : Decided (notBinary code ∷ (illFormed s ++ illFormed t)) j =
     subst (Decided (notBinary code ∷ (illFormed s ++ illFormed t))) (sym ej) (decided-both (notBinary code ∷ []) (illFormed s ++ illFormed t) g i (lit< tt, tt) p both) in
-    subst (Decided (binaryRows code s t)) (sym ek) (decided-both (notBinary code ∷ (illFormed s ++ illFormed t)) (unequal s t ∷ []) j l (lit< tt, (lit< tt, (lit< tt, (lit< tt, (lit< tt, tt))))) three u)
+    subst (Decided (binaryRows code s t)) (sym ek) (decided-both (notBinary code ∷ (illFormed s ++ illFormed t)) (unequal s t ∷ []) j l
+    (lit< tt, (lit< tt, (lit< tt, (lit< tt, (lit< tt, tt))))) three u)
 
 -- ---- what passes
 

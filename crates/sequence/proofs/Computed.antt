@@ -4,7 +4,8 @@ use Prim.Native.Nat.{ℕ, _-_, _/_, _^_}
 use lib.Bits.{bitAnd, bitOr, bitXor}
 use Rattle.words.specs.Word.{width, At, Wf, WfComputed, Means}
 use Rattle.words.proofs.At.{wf-word}
-use Rattle.words.proofs.Operators.{inverse, finallyWord, untilWord, places-means, or-means, and-means, not-means, implies-means, equiv-means, strong-next-means, weak-next-means, finally-means, until-means, globally-means, release-means, wide}
+use Rattle.words.proofs.Operators.{inverse, finallyWord, untilWord, places-means, or-means, and-means, not-means, implies-means, equiv-means, strong-next-means, weak-next-means}
+use Rattle.words.proofs.Operators.{finally-means, until-means, globally-means, release-means, wide}
 use Rattle.sequence.specs.Operators.{Unary, Binary, not, weakNext, strongNext, finally, globally, or, and, until, release, implies, equiv, unaryReading, binaryReading}
 use Rattle.sequence.specs.Masked.{unaryMasked, binaryMasked}
 use Rattle.sequence.proofs.Masked.{mask-of, unary-cut, binary-cut}

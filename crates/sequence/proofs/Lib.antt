@@ -3,9 +3,6 @@ pub mod Decoding
 pub mod Masked
 pub mod Leading
 pub mod Groups
-pub mod Table
 pub mod Answers
 pub mod Unique
 pub mod Computed
-pub mod Commuting
-pub mod Settled

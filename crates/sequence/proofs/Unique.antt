@@ -13,12 +13,10 @@ use Rattle.words.proofs.At.{means-unique}
 use Rattle.sequence.specs.declared.CharSeq.{CharSeq}
 use Rattle.sequence.specs.declared.Answer.{Answer}
 use Rattle.sequence.specs.declared.Answer.the-variants.{Sequence, Refused}
-use Rattle.sequence.specs.declared.operators.Operator.{Operator}
 use Rattle.sequence.specs.Operators.{Unary, Binary, unaryCode, binaryCode, unaryReading, binaryReading, not, weakNext, strongNext, finally, globally, or, and, until, release, implies, equiv}
 use Rattle.sequence.specs.Masked.{UnaryOn, BinaryOn, UnaryBy, BinaryBy}
 use Rattle.sequence.specs.Masked.UnaryBy.{operator as uop, nothing as unothing}
 use Rattle.sequence.specs.Masked.BinaryBy.{operator as bop, nothing as bnothing}
-use Rattle.sequence.specs.Table.{Listed, unary, binary, neither, unaryRow, binaryRow}
 use Rattle.sequence.specs.Sequence.{seq, Denotes, Answers, NewAnswer, RecordedAnswer, UnaryRead, UnaryAnswer, BinaryRead, BinaryAnswer}
 use Rattle.rules.specs.Refusals.{Row}
 use Rattle.rules.proofs.Refusals.{decided-unique}
@@ -106,19 +104,6 @@ binary-unique code s t a b p q = answers-unique _ _ one a b p q
     one r r′ u v =
         denotes-unique r r′ (u .2)
         (subst (λ (op : Binary). Denotes (s .length) (binaryReading op (s .length) (At (s .values)) (At (t .values))) r′) (binary-one (v .0) (u .0) (v .1 ∙ sym (u .1))) (v .2))
-
--- ---- the table
-
-pub listed-unique : (code : ℕ) (r s : Operator) → Listed code r → Listed code s → r ≡ s
-listed-unique code r s (unary a e p) (unary b d q) = p ∙ ap unaryRow (unary-one a b (e ∙ sym d)) ∙ sym q
-listed-unique code r s (binary a e p) (binary b d q) = p ∙ ap binaryRow (binary-one a b (e ∙ sym d)) ∙ sym q
-listed-unique code r s (neither m n p) (neither k l q) = p ∙ sym q
-listed-unique code r s (unary a e p) (binary b d q) = let t = binary-between b in absurd (omega (arith, unary-below a))
-listed-unique code r s (binary a e p) (unary b d q) = let t = binary-between a in absurd (omega (arith, unary-below b))
-listed-unique code r s (unary a e p) (neither m n q) = absurd (m a e)
-listed-unique code r s (binary a e p) (neither m n q) = absurd (n a e)
-listed-unique code r s (neither m n p) (unary b d q) = absurd (m b d)
-listed-unique code r s (neither m n p) (binary b d q) = absurd (n b d)
 
 -- ---- the operators' methods, and by code
 

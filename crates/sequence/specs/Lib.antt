@@ -2,6 +2,3 @@
 pub mod Operators
 pub mod Masked
 pub mod Sequence
-pub mod Table
-pub mod Commuting
-pub mod Settled

@@ -71,7 +71,7 @@ unaryOf code = asUnary (decode code)
 abbrev pub binaryOf : ℕ → Binary
 binaryOf code = asBinary (decode code)
 
--- the tokens' bytes
+-- "a constant table with token and commuting mark": the tokens' bytes, `!`, `X`, `X[!]`, `F`, `G`
 abbrev pub unaryToken : Unary → List ℕ
 unaryToken not = 33 ∷ []
 unaryToken weakNext = 88 ∷ []
@@ -79,6 +79,7 @@ unaryToken strongNext = 88 ∷ 91 ∷ 33 ∷ 93 ∷ []
 unaryToken finally = 70 ∷ []
 unaryToken globally = 71 ∷ []
 
+-- `|`, `&`, `U`, `R`, `->`, `<->`
 abbrev pub binaryToken : Binary → List ℕ
 binaryToken or = 124 ∷ []
 binaryToken and = 38 ∷ []
@@ -87,6 +88,7 @@ binaryToken release = 82 ∷ []
 binaryToken implies = 45 ∷ 62 ∷ []
 binaryToken equiv = 60 ∷ 45 ∷ 62 ∷ []
 
+-- "(commutes)"
 abbrev pub commutes : Binary → Bool
 commutes or = true
 commutes and = true

@@ -1,18 +1,13 @@
-// Characteristic sequences (cs.rs), and the operators on them by code, with refusals (unary.rs, binary.rs).
+// Characteristic sequences (cs.rs), and the operators as their methods.
 ghost use mathlib.Core.Path.{_≡_};
 ghost use mathlib.Core.Logic.{_↔_};
 ghost use mathlib.Core.Bool.{true};
 ghost use Prim.Native.Nat.{_<_};
-ghost use mathlib.Core.List.{[], _∷_};
 ghost use Rattle.words.specs.Word.{width, Wf, places, Means};
-ghost use Rattle.rules.specs.Refusals.{Decided, firstOf};
+ghost use Rattle.rules.specs.Refusals.{Decided};
 ghost use Rattle.sequence.specs.Operators.{not, weakNext, strongNext, finally, globally, or, and, until, release, implies, equiv};
 ghost use Rattle.sequence.specs.Masked.{UnaryOn, BinaryOn, UnaryBy, BinaryBy};
-ghost use Rattle.sequence.specs.Sequence.{seq, WellFormed, Accepts, illFormed, notUnary, notBinary, unequal, NewAnswer, RecordedAnswer, UnaryAnswer, BinaryAnswer};
-
-pub mod operators;
-
-use operators::Group;
+ghost use Rattle.sequence.specs.Sequence.{seq, WellFormed, Accepts, illFormed, NewAnswer, RecordedAnswer};
 
 pub struct CharSeq {
     pub length: usize,
@@ -26,6 +21,7 @@ pub enum Answer {
 }
 
 impl CharSeq {
+    // "The smallest length, the largest length and the full mask belong to the sequence type as its constants."
     pub const MIN_LENGTH: usize = 0;
 
     pub const MAX_LENGTH: usize = 64;
@@ -105,7 +101,7 @@ impl CharSeq {
         }
     }
 
-    // The eleven operators (cs.rs), over the snapshots below the sequence's own length. They refuse nothing: `apply_unary` and `apply_binary` do.
+    // The eleven operators (cs.rs), over the snapshots below the sequence's own length. They refuse nothing: `apply_unary` and `apply_binary` of operators do.
 
     // `!`
     pub fn not(self) -> CharSeq
@@ -255,66 +251,4 @@ impl CharSeq {
             _ => self.nowhere(),
         }
     }
-}
-
-// The first of two refusals in the order of the checks; 0 is none.
-fn first(earlier: u8, later: u8) -> u8
-    ensures { λ r. ⌜ r ≡ firstOf earlier later ⌝ }
-{
-    if earlier != 0 { earlier } else { later }
-}
-
-fn unary_refusal(code: u8) -> u8
-    ensures { λ r. ⌜ Decided (notUnary code ∷ []) r ⌝ }
-{
-    let group = operators::operator_of(code).group;
-    match group {
-        Group::Unary => 0,
-        Group::Binary => 7,
-        Group::Neither => 7,
-    }
-}
-
-fn binary_refusal(code: u8) -> u8
-    ensures { λ r. ⌜ Decided (notBinary code ∷ []) r ⌝ }
-{
-    let group = operators::operator_of(code).group;
-    match group {
-        Group::Unary => 7,
-        Group::Binary => 0,
-        Group::Neither => 7,
-    }
-}
-
-fn unequal_refusal(left: CharSeq, right: CharSeq) -> u8
-    ensures { λ r. ⌜ Decided (unequal left right ∷ []) r ⌝ }
-{
-    if left.length != right.length { 10 } else { 0 }
-}
-
-// The unary operator of a code on a sequence, or a refusal.
-pub fn apply_unary(code: u8, seq: CharSeq) -> Answer
-    ensures { λ r. ⌜ UnaryAnswer code seq r ⌝ }
-{
-    let group = unary_refusal(code);
-    let ill_formed = seq.refusal();
-    let refusal = first(group, ill_formed);
-    if refusal != 0 {
-        return Answer::Refused(refusal);
-    }
-    Answer::Sequence(seq.unary(code))
-}
-
-// The binary operator of a code on two sequences of one length, or a refusal.
-pub fn apply_binary(code: u8, left: CharSeq, right: CharSeq) -> Answer
-    ensures { λ r. ⌜ BinaryAnswer code left right r ⌝ }
-{
-    let group = binary_refusal(code);
-    let ill_formed = first(left.refusal(), right.refusal());
-    let lengths = unequal_refusal(left, right);
-    let refusal = first(first(group, ill_formed), lengths);
-    if refusal != 0 {
-        return Answer::Refused(refusal);
-    }
-    Answer::Sequence(left.binary(code, right))
 }

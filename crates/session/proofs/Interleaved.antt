@@ -60,7 +60,8 @@ module _ (r m : ℕ) (marks lengths words : List ℕ) (second rooms seventh : Ty
         unfolding Decided
         then-it z = inr (numbered, inr (n2, go d))
           where
-            go : Data k → Decided (record { number = 3; given = tooShort r m marks lengths words .given ⊎ rooms } ∷ tooLong r m marks lengths words ∷ bitAbove r m marks lengths words ∷ markWrong r m marks lengths words ∷ record { number = 7; given = seventh } ∷ []) k
+            go : Data k → Decided (record { number = 3; given = tooShort r m marks lengths words .given ⊎ rooms } ∷ tooLong r m marks lengths words ∷
+                bitAbove r m marks lengths words ∷ markWrong r m marks lengths words ∷ record { number = 7; given = seventh } ∷ []) k
             go (inl t) = absurd (n (t .1))
             go (inr (n1, inl t)) = inl (inl (t .0), t .1)
             go (inr (n1, inr (n3, inl t))) = inr (⊎-elim n3 nr, inl t)

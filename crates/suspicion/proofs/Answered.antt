@@ -14,15 +14,15 @@ use Rattle.file.specs.Format.{Parts}
 use Rattle.file.specs.Reading.{said, Lent, after, marksOf, lengthsOf, readOf}
 use Rattle.file.proofs.Numbers.{Bytes}
 use Rattle.formula.specs.Nodes.{Node, nodeAt}
-use Rattle.formula.specs.Check.{saidVerdict, CheckAnswer}
-use Rattle.formula.specs.declared.Verdict.{Verdict}
+use Rattle.verdict.specs.Check.{saidVerdict, CheckAnswer}
+use Rattle.verdict.specs.declared.Verdict.{Verdict}
 use Rattle.reader.specs.declared.Parsed.{Parsed}
 use Rattle.reader.specs.declared.Parsed.the-variants.{Nodes}
 use Rattle.reader.specs.Parsing.{Columns, saidParsed, Parses}
 use Rattle.writing.specs.Writing.{Wrote}
 use Rattle.lines.proofs.Handed.{Wide, Handed, broken-at}
-use Rattle.suspicion.specs.Line.{refusedAtLine}
-use Rattle.suspicion.specs.Suspicion.{roomy, firstNodes, verdictLine, Shows, TypedSays, Says, LinesOf, recordingOf}
+use Rattle.line.specs.Line.{refusedAtLine}
+use Rattle.suspicion.specs.Suspicion.{roomy, firstNodes, verdictLine, Shows, TypedSays, FileSays, TypedLinesOf, recordingOf}
 use Rattle.suspicion.specs.Inner.{Checked, JudgedBy}
 
 -- a verdict has its line
@@ -45,9 +45,10 @@ module _ (file : List ℕ) (bytes : Bytes file) (l : Lent) (wide : Wide l) (a : 
     (e : after (said a) marks lengths words unary binary ≡ readOf file l) (typed : List ℕ) {old new : List ℕ} {k : ℕ} where
   -- a good file's names and sessions are those that the reader and the check are handed
   pub good-said : {r m n u b constants bound : ℕ} → Handed file bytes l wide a marks lengths words unary binary e r m n u b constants bound
-      → JudgedBy typed (take n file) (recording r m (take r marks) (take r lengths) (take (m * r) words)) old new k → LinesOf typed file old new k
+      → JudgedBy typed (take n file) (recording r m (take r marks) (take r lengths) (take (m * r) words)) old new k → TypedLinesOf typed file old new k
   good-said {r} {m} {n} h (lines, says, wrote) =
-      let front : section nameBytes (h .parts .names) ≡ take n file = names-accepts (take n file) (h .parts .names) .0 (h .front-is ∙ ap (got (h .parts .names)) (h .names-long)) .1 in
+      let front : section nameBytes (h .parts .names) ≡ take n file = names-accepts (take n file) (h .parts .names) .0 (h .front-is ∙ ap (got (h .parts .names))
+      (h .names-long)) .1 in
       let p = h .parts in
       let same : recording r m (take r marks) (take r lengths) (take (m * r) words) ≡ recordingOf p =
       ap (λ (z : ℕ). recording z m (take r marks) (take r lengths) (take (m * r) words)) (h .count)
@@ -57,15 +58,15 @@ module _ (file : List ℕ) (bytes : Bytes file) (l : Lent) (wide : Wide l) (a : 
       ∙ ap (λ (z : List ℕ). recording (length (p .sessions)) (length (p .names)) (marksOf p) (lengthsOf p) z) (h .all-words .is) in
       record {
         lines = lines;
-        says = subst (λ (g : Got Parts). Says g typed lines) (sym (h .is))
+        says = subst (λ (g : Got Parts). FileSays g typed lines) (sym (h .is))
             (subst (λ (x : List ℕ). TypedSays typed x (recordingOf (h .parts)) lines) (sym front)
             (subst (λ (i : Recording). TypedSays typed (take n file) i lines) same says));
         wrote = wrote;
       }
 
-  pub broken-said : {o : ℕ} → a ≡ Broken o → Wrote old 0 (refusedAtLine 8 o) new k → LinesOf typed file old new k
+  pub broken-said : {o : ℕ} → a ≡ Broken o → Wrote old 0 (refusedAtLine 8 o) new k → TypedLinesOf typed file old new k
   broken-said {o} q w = record {
     lines = refusedAtLine 8 o;
-    says = subst (λ (g : Got Parts). Says g typed (refusedAtLine 8 o)) (sym (broken-at file bytes l wide a marks lengths words unary binary e q)) refl;
+    says = subst (λ (g : Got Parts). FileSays g typed (refusedAtLine 8 o)) (sym (broken-at file bytes l wide a marks lengths words unary binary e q)) refl;
     wrote = w;
   }

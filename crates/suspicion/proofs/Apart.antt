@@ -11,8 +11,8 @@ use native.Mathlib.Omega.{arith}
 use lib.Dec.{ltb}
 use lib.ListN.{getD, replicate}
 use Rattle.writing.specs.Writing.{digit, digits, decimal, mostDigits}
-use Rattle.lines.specs.Line.{refusedWord, newline, refusedLine}
-use Rattle.suspicion.specs.Line.{separatesLine, sessionWord, disagreesWord, disagreesLine, atWord, caret, pointedLines}
+use Rattle.line.specs.Line.{refusedWord, newline, refusedLine, separatesLine, sessionWord, disagreesWord, disagreesLine, atWord}
+use Rattle.suspicion.specs.Caret.{caret, pointedLines}
 
 -- ---- the last byte, and the one before it
 

@@ -21,10 +21,10 @@ use Rattle.formula.specs.Formula.{Formula, Separates}
 use Rattle.formula.specs.Recorded.{markedTraces}
 use Rattle.formula.specs.Nodes.{Node, nodeAt, Spells, codes}
 use Rattle.formula.specs.Rule.{Broken as NodesBroken}
-use Rattle.formula.specs.Check.{saidVerdict, checkRows, FirstDisagrees, Outcome, CheckAnswer}
-use Rattle.formula.specs.declared.Verdict.{Verdict}
-use Rattle.formula.specs.declared.Verdict.the-variants.{Accepted, Disagrees, Refused}
-use Rattle.formula.proofs.Checking.{decided-list}
+use Rattle.verdict.specs.Check.{saidVerdict, checkRows, FirstDisagrees, Judged, CheckAnswer}
+use Rattle.verdict.specs.declared.Verdict.{Verdict}
+use Rattle.verdict.specs.declared.Verdict.the-variants.{Accepted, Disagrees, Refused}
+use Rattle.verdict.proofs.Checking.{decided-list}
 use Rattle.formula.proofs.Spelled.{one-formula}
 use Rattle.grammar.specs.Grammar.{Refused11}
 use Rattle.grammar.proofs.Theorems.{one-tree, decided}
@@ -36,10 +36,10 @@ use Rattle.reader.specs.Parsing.{Columns, saidParsed, Decides, parseRows, Taken
 use Rattle.reader.proofs.Unique as reader
 use Rattle.round_trip.proofs.Contracts.{Passed, parse-passed}
 use Rattle.round_trip.proofs.Promises.{read-spells, read-good}
-use Rattle.lines.specs.Line.{refusedLine}
+use Rattle.line.specs.Line.{refusedLine, refusedAtLine}
 use Rattle.writing.proofs.Digits.{written-front}
-use Rattle.suspicion.specs.Line.{refusedAtLine, pointedLines}
-use Rattle.suspicion.specs.Suspicion.{recordingOf, roomy, firstNodes, verdictLine, Shows, Says}
+use Rattle.suspicion.specs.Caret.{pointedLines}
+use Rattle.suspicion.specs.Suspicion.{recordingOf, roomy, firstNodes, verdictLine, Shows, FileSays}
 use Rattle.suspicion.specs.Promises.{IsTyped, Answer, Meant, ShownFor, SuspicionMeans}
 use Rattle.suspicion.specs.Promises.Answer.{is-separates, is-disagrees, is-stops, is-unknown, is-large}
 use Rattle.suspicion.proofs.Apart.{separates-disagrees, separates-refused, separates-pointed, disagrees-refused, disagrees-pointed, disagrees-one}
@@ -47,15 +47,15 @@ use Rattle.suspicion.proofs.Sizes.{says-short}
 
 -- ---- what the check says of a formula
 
-said-separates : (i : Recording) (t : Formula) → Outcome i t (1 ∷ []) → Separates (markedTraces i) t
+said-separates : (i : Recording) (t : Formula) → Judged i t (1 ∷ []) → Separates (markedTraces i) t
 said-separates i t (inl (s, e)) = s
 said-separates i t (inr (j, d, e)) = absurd (let z : _≡_ {A = ℕ} 1 0 = head-eq-of-cons-eq e in omega arith)
 
-said-disagrees : (i : Recording) (t : Formula) (j : ℕ) → Outcome i t (0 ∷ j ∷ []) → FirstDisagrees i t j
+said-disagrees : (i : Recording) (t : Formula) (j : ℕ) → Judged i t (0 ∷ j ∷ []) → FirstDisagrees i t j
 said-disagrees i t j (inl (s, e)) = absurd (let z : _≡_ {A = ℕ} 0 1 = head-eq-of-cons-eq e in omega arith)
 said-disagrees i t j (inr (h, d, e)) = subst (FirstDisagrees i t) (sym (head-eq-of-cons-eq (tail-eq-of-cons-eq e))) d
 
-none-said : (i : Recording) (t : Formula) → Outcome i t [] → ⊥
+none-said : (i : Recording) (t : Formula) → Judged i t [] → ⊥
 none-said i t (inl (s, e)) = nil≢cons e
 none-said i t (inr (j, d, e)) = nil≢cons e
 
@@ -95,8 +95,8 @@ module _ (p : Parts) (g : Good p) (text : List ℕ) where
         subst (λ (m : ℕ). Spells codes (firstNodes m left) (nodeAt (firstNodes m left) (m - 1)) t) (sym (head-eq-of-cons-eq (this .taken .values)))
         (read-spells roomy t (this .taken .nodes))
 
-    checked : (i : Recording) (v : Verdict) → CheckAnswer i k root (saidVerdict v) → saidVerdict v .number ≡ 0 → Outcome i t (saidVerdict v .values)
-    checked i v c z = let (u, s, o) = c .passed z in subst (λ (f : Formula). Outcome i f (saidVerdict v .values)) (one-formula k root u t s spelled) o
+    checked : (i : Recording) (v : Verdict) → CheckAnswer i k root (saidVerdict v) → saidVerdict v .number ≡ 0 → Judged i t (saidVerdict v .values)
+    checked i v c z = let (u, s, o) = c .passed z in subst (λ (f : Formula). Judged i f (saidVerdict v .values)) (one-formula k root u t s spelled) o
 
     -- and the check takes them: a good file's sessions pass its tests, and what is read passes number 9
     taken : Decided (checkRows (recordingOf p) k root) 0
@@ -205,14 +205,15 @@ module _ (p : Parts) (g : Good p) (text : List ℕ) where
       disagrees = λ j l q. absurd (disagrees-refused j 12 (sym q ∙ e));
     }
 
-module _ (file : List ℕ) (bytes : (i : ℕ) → getD file i 0 < 256) (text out : List ℕ) (says : Says (wholeFile file) text out) where
-  broken-says : (GoodFile file → ⊥) → (w : Got Parts) → wholeFile file ≡ w → Says w text out → (o : ℕ) × (wholeFile file ≡ bad o) × (out ≡ refusedAtLine 8 o)
+module _ (file : List ℕ) (bytes : (i : ℕ) → getD file i 0 < 256) (text out : List ℕ) (says : FileSays (wholeFile file) text out) where
+  broken-says : (GoodFile file → ⊥) → (w : Got Parts) → wholeFile file ≡ w → FileSays w text out → (o : ℕ) × (wholeFile file ≡ bad o) × (out ≡ refusedAtLine 8 o)
   broken-says f (got p next) e s = absurd (let (g, is) = passed-is-good file bytes p next e in f (p, g, is))
   broken-says f (bad o) e s = (o, e, s)
 
   shown-for : ShownFor file text out
   shown-for = record {
-    good = λ p g e. let s = subst (λ (w : Got Parts). Says w text out) (good-passes file p g e) says in meant p g text out (answer p g text out (s .left) (s .answer) (s .parses) (s .shows));
+    good = λ p g e. let s = subst (λ (w : Got Parts). FileSays w text out) (good-passes file p g e) says in meant p g text out (answer p g text out (s .left) (s .answer)
+        (s .parses) (s .shows));
     broken = λ f. broken-says f (wholeFile file) refl says;
   }
 

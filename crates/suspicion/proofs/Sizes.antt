@@ -9,8 +9,8 @@ use Rattle.reading.specs.Reading.{Got, got, bad}
 use Rattle.session.specs.Recording.{Recording}
 use Rattle.file.specs.Format.{Parts}
 use Rattle.file.specs.Offence.{wholeFile}
-use Rattle.formula.specs.declared.Verdict.{Verdict}
-use Rattle.formula.specs.declared.Verdict.the-variants.{Accepted, Disagrees, Refused}
+use Rattle.verdict.specs.declared.Verdict.{Verdict}
+use Rattle.verdict.specs.declared.Verdict.the-variants.{Accepted, Disagrees, Refused}
 use Rattle.reader.specs.Words.{mostBytes}
 use Rattle.reader.specs.declared.Parsed.{Parsed}
 use Rattle.reader.specs.declared.Parsed.the-variants.{Nodes, Broken, Stops, Unknown}
@@ -18,11 +18,11 @@ use Rattle.reader.specs.declared.Parsed.the-variants as parsed
 use Rattle.reader.specs.Parsing.{Columns, saidParsed, Parses}
 use Rattle.writing.specs.Writing.{decimal, mostDigits}
 use Rattle.writing.proofs.Writing.{wrote-whole}
-use Rattle.lines.specs.Line.{refusedWord, newline}
-use Rattle.lines.proofs.Digits.{refused-short}
+use Rattle.line.specs.Line.{refusedWord, newline, sessionWord, disagreesWord, disagreesLine, atWord, refusedAtLine}
+use Rattle.line.proofs.Digits.{refused-short}
 use Rattle.writing.proofs.Digits.{few-digits}
-use Rattle.suspicion.specs.Line.{sessionWord, disagreesWord, disagreesLine, atWord, refusedAtLine, caret, pointedLines}
-use Rattle.suspicion.specs.Suspicion.{roomy, verdictLine, Shows, Says, LinesOf}
+use Rattle.suspicion.specs.Caret.{caret, pointedLines}
+use Rattle.suspicion.specs.Suspicion.{roomy, verdictLine, Shows, FileSays, TypedLinesOf}
 use Rattle.suspicion.proofs.Typed.{stops-within, unknown-within}
 
 disagrees-short : (session : ℕ) → length (disagreesLine session) ≤ 39
@@ -67,12 +67,12 @@ module _ (i : Recording) (names typed : List ℕ) (c : Columns) where
       omega (arith, pointed-short typed o 13 (w .1) (w .0), ap length s)
   shows-short (parsed.Refused k) out a s = omega (arith, refused-short k, ap length s)
 
-pub says-short : (g : Got Parts) (typed out : List ℕ) → Says g typed out → length out ≤ 8248
+pub says-short : (g : Got Parts) (typed out : List ℕ) → FileSays g typed out → length out ≤ 8248
 says-short (bad o) typed out s = omega (arith, refused-at-short 8 o, ap length s)
 says-short (got p next) typed out s = shows-short _ _ typed (s .left) (s .answer) out (s .parses) (s .shows)
 
 -- where as much is lent, all lines stand
-pub suspicion-fits : {typed file old new : List ℕ} {r : ℕ} → 8248 ≤ length old → (w : LinesOf typed file old new r) → r ≡ length (w .lines)
+pub suspicion-fits : {typed file old new : List ℕ} {r : ℕ} → 8248 ≤ length old → (w : TypedLinesOf typed file old new r) → r ≡ length (w .lines)
 suspicion-fits {typed} {file} h w =
     let s = says-short (wholeFile file) typed (w .lines) (w .says) in
     omega (arith, wrote-whole (w .lines) (w .wrote) (omega arith))

@@ -4,8 +4,8 @@ use mathlib.Core.List.{List}
 use Prim.Native.Nat.{ℕ}
 use Rattle.session.specs.Recording.{Recording}
 use Rattle.formula.specs.Nodes.{Node, nodeAt}
-use Rattle.formula.specs.Check.{saidVerdict, CheckAnswer}
-use Rattle.formula.specs.declared.Verdict.{Verdict}
+use Rattle.verdict.specs.Check.{saidVerdict, CheckAnswer}
+use Rattle.verdict.specs.declared.Verdict.{Verdict}
 use Rattle.writing.specs.Writing.{Wrote}
 use Rattle.suspicion.specs.Suspicion.{verdictLine, TypedSays}
 

@@ -12,16 +12,16 @@ use Rattle.file.specs.Format.{Parts, Good, GoodFile, fileBytes}
 use Rattle.file.specs.Offence.{wholeFile}
 use Rattle.formula.specs.Formula.{Formula, size, Separates}
 use Rattle.formula.specs.Recorded.{markedTraces}
-use Rattle.formula.specs.Check.{FirstDisagrees}
+use Rattle.verdict.specs.Check.{FirstDisagrees}
 use Rattle.text.specs.Tokens.{Named}
 use Rattle.grammar.specs.Token.{Typed}
 use Rattle.grammar.specs.Grammar.{Reads, IsFormula, Refused11}
 use Rattle.grammar.specs.Naming.{typed}
 use Rattle.reader.specs.Words.{mostBytes, FirstUnknown, Deep}
 use Rattle.writing.specs.Writing.{mostDigits}
-use Rattle.lines.specs.Line.{refusedLine}
-use Rattle.suspicion.specs.Line.{separatesLine, disagreesLine, refusedAtLine, pointedLines}
-use Rattle.suspicion.specs.Suspicion.{recordingOf, LinesOf}
+use Rattle.line.specs.Line.{refusedLine, separatesLine, disagreesLine, refusedAtLine}
+use Rattle.suspicion.specs.Caret.{pointedLines}
+use Rattle.suspicion.specs.Suspicion.{recordingOf, TypedLinesOf}
 
 -- what is typed is this formula: the text has one tree by the grammar, which is the formula with the file's names, and no other formula has it
 pub record IsTyped (names : List (List ℕ)) (text : List ℕ) (t : Formula) : Type 0 where
@@ -30,7 +30,7 @@ pub record IsTyped (names : List (List ℕ)) (text : List ℕ) (t : Formula) : T
   pub one-tree : (u : Typed) → Reads text u → u ≡ typed names t
   pub one-formula : (u : Formula) → Named (length names) u → Reads text (typed names u) → u ≡ t
 
--- "answers whether the formula separates, or the first session that disagrees, or the refusal with its offset under a caret": of good parts,
+-- it answers whether the formula separates, or the first session that disagrees, or the refusal with its offset under a caret: of good parts,
 -- `separates`: what is typed is a formula, and it separates the sessions;
 -- `session N disagrees`: what is typed is a formula, session N has another mark than it gives, and every session before N agrees;
 -- the caret with 11: the first byte that can't continue a formula; with 13: what is typed is a formula, and this is its first unknown name;
@@ -55,5 +55,5 @@ pub record ShownFor (file text out : List ℕ) : Type 0 where
 
 -- whatever is written for a text and a file, a list of bytes, means what it says; 8,248 bytes hold every answer
 abbrev pub SuspicionMeans : Type 0
-SuspicionMeans = (text file : List ℕ) → ((i : ℕ) → getD file i 0 < 256) → (old new : List ℕ) (r : ℕ) → 8248 ≤ length old → LinesOf text file old new r
+SuspicionMeans = (text file : List ℕ) → ((i : ℕ) → getD file i 0 < 256) → (old new : List ℕ) (r : ℕ) → 8248 ≤ length old → TypedLinesOf text file old new r
     → ShownFor file text (take r new)

@@ -13,16 +13,16 @@ use Rattle.file.specs.Offence.{wholeFile}
 use Rattle.file.specs.Reading.{marksOf, lengthsOf, wordsOf}
 use Rattle.formula.specs.Nodes.{Node, nodeAt}
 use Rattle.formula.specs.Kinds.{nodes}
-use Rattle.formula.specs.Check.{saidVerdict, CheckAnswer}
-use Rattle.formula.specs.declared.Verdict.{Verdict}
-use Rattle.formula.specs.declared.Verdict.the-variants.{Accepted, Disagrees, Refused}
+use Rattle.verdict.specs.Check.{saidVerdict, CheckAnswer}
+use Rattle.verdict.specs.declared.Verdict.{Verdict}
+use Rattle.verdict.specs.declared.Verdict.the-variants.{Accepted, Disagrees, Refused}
 use Rattle.reader.specs.declared.Parsed.{Parsed}
 use Rattle.reader.specs.declared.Parsed.the-variants.{Nodes, Broken, Stops, Unknown}
 use Rattle.reader.specs.declared.Parsed.the-variants as parsed
 use Rattle.reader.specs.Parsing.{Columns, columns, saidParsed, Parses}
 use Rattle.writing.specs.Writing.{Wrote}
-use Rattle.lines.specs.Line.{refusedLine}
-use Rattle.suspicion.specs.Line.{separatesLine, disagreesLine, refusedAtLine, pointedLines}
+use Rattle.line.specs.Line.{refusedLine, separatesLine, disagreesLine, refusedAtLine}
+use Rattle.suspicion.specs.Caret.{pointedLines}
 
 -- a file's sessions
 abbrev pub recordingOf : Parts → Recording
@@ -59,12 +59,12 @@ pub record TypedSays (typed names : List ℕ) (i : Recording) (out : List ℕ) :
   pub shows : Shows i typed left answer out
 
 -- a broken file is refused first: the names are the file's
-abbrev pub Says : Got Parts → List ℕ → List ℕ → Type 0
-Says (bad o) typed out = out ≡ refusedAtLine 8 o
-Says (got p next) typed out = TypedSays typed (section nameBytes (p .names)) (recordingOf p) out
+abbrev pub FileSays : Got Parts → List ℕ → List ℕ → Type 0
+FileSays (bad o) typed out = out ≡ refusedAtLine 8 o
+FileSays (got p next) typed out = TypedSays typed (section nameBytes (p .names)) (recordingOf p) out
 
 -- the lines stand at the start of the text, as far as there is room, and the rest of it stays
-pub record LinesOf (typed file old new : List ℕ) (r : ℕ) : Type 0 where
+pub record TypedLinesOf (typed file old new : List ℕ) (r : ℕ) : Type 0 where
   pub lines : List ℕ
-  pub says : Says (wholeFile file) typed lines
+  pub says : FileSays (wholeFile file) typed lines
   pub wrote : Wrote old 0 lines new r

@@ -1,13 +1,13 @@
 // What is said of a formula that an analyst types: reads a session file, reads the formula with the file's names, checks it against the sessions, and
 // writes the answer's lines.
-mod line;
+mod caret;
 
 use file::ReadAnswer;
-use formula::Verdict;
 use reader::Parsed;
+use verdict::Verdict;
 ghost use Rattle.session.specs.Recording.{recording};
 ghost use Rattle.formula.specs.Kinds.{nodes};
-ghost use Rattle.suspicion.specs.Suspicion.{LinesOf};
+ghost use Rattle.suspicion.specs.Suspicion.{TypedLinesOf};
 ghost use Rattle.suspicion.specs.Inner.{Checked, JudgedBy};
 
 // The line of what the check says of the formula whose root is the node at a place of these.
@@ -28,7 +28,7 @@ fn checked(
         (nodes (now (codes .entry)) (now (lefts .entry)) (now (rights .entry)) (now (sizes .entry))) at (now (text .entry)) (now (text .exit)) k ⌝ }
 {
     let root = formula::nodes::node_at(codes, lefts, rights, sizes, at);
-    let verdict = formula::check(
+    let verdict = verdict::check(
         r,
         m,
         marks,
@@ -88,15 +88,15 @@ fn judged(
             text,
         ),
         Parsed::Broken(at) => line::refused_at(text, 0, 8, at),
-        Parsed::Stops(at) => line::pointed(text, typed, at, 11),
-        Parsed::Unknown(at) => line::pointed(text, typed, at, 13),
+        Parsed::Stops(at) => caret::pointed(text, typed, at, 11),
+        Parsed::Unknown(at) => caret::pointed(text, typed, at, 13),
         Parsed::Refused(number) => line::refused(text, number),
     }
 }
 
 // The lines for what is typed and a session file, at the start of the text, as far as there is room; how many bytes were written.
 pub fn of_typed(typed: &[u8], file: &[u8], text: &mut [u8]) -> usize
-    ensures { λ k. ⌜ LinesOf (now (typed .entry)) (now (file .entry)) (now (text .entry)) (now (text .exit)) k ⌝ }
+    ensures { λ k. ⌜ TypedLinesOf (now (typed .entry)) (now (file .entry)) (now (text .entry)) (now (text .exit)) k ⌝ }
 {
     let mut marks = [0u8; rules::SESSIONS];
     let mut lengths = [0u8; rules::SESSIONS];

@@ -11,7 +11,8 @@ use Rattle.rules.specs.declared.kinds.Place.{Place}
 use Rattle.walk.specs.Walk.{Candidate}
 use Rattle.walk.specs.Walk as walk
 use Rattle.walk.specs.Input.{Input, sameRows, offer}
-use Rattle.walk.specs.Promises.{Table, SuperfluousBy}
+use Rattle.walk.specs.Kept.{Table}
+use Rattle.walk.specs.Promises.{SuperfluousBy}
 use Rattle.walk.proofs.Promises.{kept-distinct}
 use Rattle.walk.proofs.Dropped.{drops-front, dropped-by}
 use Rattle.walk.proofs.Reading.{lawful}
@@ -64,7 +65,8 @@ module _ {i : Input} {k : Table} {matrices : List ℕ} (st : Stored i k matrices
 pub known-is-known : KnownIsKnown
 known-is-known i ok k matrices rows st c h (At p) a = known-some i (take (i .recording .sessions) rows) k (p .0) (a .1) (equal-rows st rows h (p .0) (a .1) (a .2))
 known-is-known i ok k matrices rows st c h New a =
-    let ask : KnownAsk (i .recording .sessions) matrices rows (length k) = record { sessions-in = ok .sessions-in .1; kept-in = omega (arith, ok .room-in .1); rows-there = h; matrices-there = st .there } in
+    let ask : KnownAsk (i .recording .sessions) matrices rows (length k) = record
+    { sessions-in = ok .sessions-in .1; kept-in = omega (arith, ok .room-in .1); rows-there = h; matrices-there = st .there } in
     known-none i (take (i .recording .sessions) rows) k (λ p l q. a ask p l (rows-equal st rows h p l q))
 
 -- ---- the one that makes a candidate superfluous

@@ -13,11 +13,11 @@ use lib.Seq.{paste, drop-cons, set-append-seam, append-snoc, take-at, drop-appen
 use Rattle.rules.specs.Answers.{over}
 use Rattle.walk.specs.Walk.{Candidate}
 use Rattle.walk.specs.Input.{Input, row}
-use Rattle.walk.specs.Promises.{Table}
+use Rattle.walk.specs.Kept.{Table}
 use Rattle.table.specs.Slices.{Cols, tableOver}
 use Rattle.table.specs.Keep.{KeepAsk, keptAt}
 use Rattle.rows.specs.Formulas.{nothing, matrixAt, Fine}
-use Rattle.table.specs.Formulas.{Holds, RoomAt}
+use Rattle.table.specs.Formulas.{HoldsKept, RoomAt}
 use Rattle.table.specs.Promises.{HeldIsStored, KeepGrows}
 use Rattle.rows.proofs.Matrices.{length-map}
 use Rattle.rows.proofs.Products.{place-end}
@@ -110,7 +110,7 @@ module _ (k : Table) (f : Candidate (List ℕ) → ℕ) (old : List ℕ) (m : le
       ap (λ (p : ℕ). set (over (map f k) old) p (f x)) (sym (length-map f k)) ∙ over-push (map f k) old (f x) (omega (arith, length-map f k))
       ∙ ap (λ (l : List ℕ). over l old) (sym (map-snoc f k x))
 
-module _ {i : Input} {k : Table} {t₀ t : Cols} (h : Holds i k t₀ t) (room : RoomAt i (length k) t₀) (rows : List ℕ) (l : i .recording .sessions ≤ length rows) where
+module _ {i : Input} {k : Table} {t₀ t : Cols} (h : HoldsKept i k t₀ t) (room : RoomAt i (length k) t₀) (rows : List ℕ) (l : i .recording .sessions ≤ length rows) where
   there : (f : Cols → List ℕ) → length k < length (f t₀) → length (f (tableOver k t₀)) ≡ length (f t₀) → length k < length (f t)
   there f m e = omega (arith, ap (λ (c : Cols). length (f c)) (h .are))
 
@@ -131,7 +131,7 @@ module _ {i : Input} {k : Table} {t₀ t : Cols} (h : Holds i k t₀ t) (room : 
         over-paste (flat k) (t₀ .matrices) rows (length k * i .recording .sessions) (i .recording .sessions) (length-flat i k (h .fine)) l
         ∙ ap (λ (y : List ℕ). over (flat k ++ y) (t₀ .matrices)) e ∙ ap (λ (y : List ℕ). over y (t₀ .matrices)) (sym (flat-snoc k x))
 
-    grown : {t′ : Cols} → t′ ≡ keptAt (i .recording .sessions) rows (length k) (x .node) t → Holds i (k ++ (x ∷ [])) t₀ t′
+    grown : {t′ : Cols} → t′ ≡ keptAt (i .recording .sessions) rows (length k) (x .node) t → HoldsKept i (k ++ (x ∷ [])) t₀ t′
     grown q = record {
       fine = fine-snoc i k x (h .fine) w;
       are = q ∙ ap (keptAt (i .recording .sessions) rows (length k) (x .node)) (h .are)

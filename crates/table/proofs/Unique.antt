@@ -20,7 +20,7 @@ use Rattle.table.specs.declared.Compared.the-variants.{Equal, Differs, R
 use Rattle.table.specs.declared.Known.{Known}
 use Rattle.table.specs.declared.Known.the-variants.{At, New}
 use Rattle.table.specs.Slices.{Cols}
-use Rattle.table.specs.Compare.{Same, FirstDiffers, equalSaid, differsSaid, saidCompared, compareRowsWith, Outcome, Compares, KnownAnswer}
+use Rattle.table.specs.Compare.{Same, FirstDiffers, equalSaid, differsSaid, saidCompared, compareRowsWith, CompareOutcome, Compares, KnownAnswer}
 use Rattle.table.specs.Keep.{keptAt, KeepAnswer}
 
 pub keep-unique : (r : ℕ) (rows : List ℕ) (place : ℕ) (node : Node) (t u u′ : Cols) (b b′ : Bool) → KeepAnswer r rows place node t u b → KeepAnswer r rows place node t u′ b′
@@ -57,7 +57,7 @@ module _ (r place : ℕ) (matrices rows : List ℕ) where
   unfolding value
   equal-one p a = go (a .passed refl)
     where
-      go : Outcome r place matrices rows (equalSaid (p .0)) → Same r matrices rows place r × (p .0 ≡ place)
+      go : CompareOutcome r place matrices rows (equalSaid (p .0)) → Same r matrices rows place r × (p .0 ≡ place)
       go (inl (s, e)) = (s, ap (value 1) e)
       go (inr (j, f, e)) = absurd (omega (arith, ap (value 0) e))
 
@@ -65,7 +65,7 @@ module _ (r place : ℕ) (matrices rows : List ℕ) where
   unfolding value
   differs-one j a = go (a .passed refl)
     where
-      go : Outcome r place matrices rows (differsSaid (j .0)) → FirstDiffers r matrices rows place (j .0)
+      go : CompareOutcome r place matrices rows (differsSaid (j .0)) → FirstDiffers r matrices rows place (j .0)
       go (inl (s, e)) = absurd (omega (arith, ap (value 0) e))
       go (inr (h, f, e)) = subst (FirstDiffers r matrices rows place) (sym (ap (value 1) e)) f
 
@@ -73,11 +73,11 @@ module _ (r place : ℕ) (matrices rows : List ℕ) where
   pub not-none : (k : ℕ) → Compares r place matrices rows (saidCompared (Refused k)) → k ≡ 0 → ⊥
   not-none k a e = go (a .passed e)
     where
-      go : Outcome r place matrices rows (record { number = k; values = [] }) → ⊥
+      go : CompareOutcome r place matrices rows (record { number = k; values = [] }) → ⊥
       go (inl (s, e)) = omega (arith, ap (λ (s : Said). length (s .values)) e)
       go (inr (h, f, e)) = omega (arith, ap (λ (s : Said). length (s .values)) e)
 
-  pub outcome-unique : (s u : Said) → Outcome r place matrices rows s → Outcome r place matrices rows u → s ≡ u
+  pub outcome-unique : (s u : Said) → CompareOutcome r place matrices rows s → CompareOutcome r place matrices rows u → s ≡ u
   outcome-unique s u (inl (a, e)) (inl (b, f)) = e ∙ sym f
   outcome-unique s u (inl (a, e)) (inr (j, g, f)) = absurd (g .differs (a j (g .there)))
   outcome-unique s u (inr (j, g, e)) (inl (b, f)) = absurd (g .differs (b j (g .there)))

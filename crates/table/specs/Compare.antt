@@ -62,19 +62,19 @@ module _ (r place : ℕ) (matrices rows : List ℕ) where
   abbrev pub noMatrix : Row
   noMatrix = record { number = 3; given = (length matrices < (place + 1) * r) ⊎ (length rows < r) }
 
-  -- "refusing 1 and 3"; a caller that is lent a slice more has a row of number 3 of its own
+  -- 1 and 3 refuse; a caller that is lent a slice more has a row of number 3 of its own
   abbrev pub compareRowsWith : List Row → List Row
   compareRowsWith own = outsideSessions ∷ (own ++ (noMatrix ∷ []))
 
   -- "The comparison of matrices answers the equal kept formula's place or, for an unequal pair, the first session that differs."
-  abbrev pub Outcome : Said → Type 0
-  Outcome s = (Same r matrices rows place r × (s ≡ equalSaid place)) ⊎ ((j : ℕ) × FirstDiffers r matrices rows place j × (s ≡ differsSaid j))
+  abbrev pub CompareOutcome : Said → Type 0
+  CompareOutcome s = (Same r matrices rows place r × (s ≡ equalSaid place)) ⊎ ((j : ℕ) × FirstDiffers r matrices rows place j × (s ≡ differsSaid j))
 
   -- the first row that is given decides the number; "A refusal carries only its number"; else the rows decide
   pub record Compares (s : Said) : Type 0 where
     pub number : Decided (compareRowsWith []) (s .number)
     pub refused : (s .number ≡ 0 → ⊥) → s .values ≡ []
-    pub passed : s .number ≡ 0 → Outcome s
+    pub passed : s .number ≡ 0 → CompareOutcome s
 
 -- there are r rows, and so many matrices of r rows
 pub record KnownAsk (r : ℕ) (matrices rows : List ℕ) (kept : ℕ) : Type 0 where

@@ -4,12 +4,12 @@ use mathlib.Core.Path.{_≡_}
 use Prim.Native.Nat.{ℕ, _+_, _*_, _≤_, _<_}
 use lib.ListN.{length}
 use Rattle.walk.specs.Input.{Input}
-use Rattle.walk.specs.Promises.{Table}
+use Rattle.walk.specs.Kept.{Table}
 use Rattle.rows.specs.Formulas.{matrixAt, Fine}
 use Rattle.table.specs.Slices.{Cols, tableOver}
 
 -- the slices, which held t₀, hold the table k
-pub record Holds (i : Input) (k : Table) (t₀ t : Cols) : Type 0 where
+pub record HoldsKept (i : Input) (k : Table) (t₀ t : Cols) : Type 0 where
   pub fine : (p : ℕ) → p < length k → Fine i (matrixAt k p)
   pub are : t ≡ tableOver k t₀
 

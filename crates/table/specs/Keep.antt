@@ -21,7 +21,7 @@ pub record KeepAsk (r : ℕ) (rows : List ℕ) (place : ℕ) (t : Cols) : Type 0
   pub sizes-in : place < length (t .sizes)
   pub matrix-in : place * r + r ≤ length (t .matrices)
 
--- the node's four numbers at the place, and the r rows as its matrix; all else stays
+-- "else kept at the next place": the node's four numbers at the place, and the r rows as its matrix; all else stays
 abbrev pub keptAt : ℕ → List ℕ → ℕ → Node → Cols → Cols
 keptAt r rows place node t =
     cols (set (t .codes) place (node .code)) (set (t .lefts) place (node .left)) (set (t .rights) place (node .right)) (set (t .sizes) place (node .size))

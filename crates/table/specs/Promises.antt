@@ -10,14 +10,15 @@ use Rattle.rules.specs.declared.kinds.Place.{Place}
 use Rattle.walk.specs.Walk.{Candidate, Ending, Tally, ended}
 use Rattle.walk.specs.Walk as walk
 use Rattle.walk.specs.Input.{Input, Passes, separating, offer, search}
-use Rattle.walk.specs.Promises.{Table, Drops, SuperfluousBy}
+use Rattle.walk.specs.Kept.{Table}
+use Rattle.walk.specs.Promises.{Drops, SuperfluousBy}
 use Rattle.rows.specs.Formulas.{Fine, Stored}
 use Rattle.table.specs.declared.Known.{Known}
 use Rattle.table.specs.declared.Known.the-variants.{At, New}
 use Rattle.table.specs.Slices.{Cols}
 use Rattle.table.specs.Compare.{agreeing, KnownAnswer}
 use Rattle.table.specs.Keep.{KeepAnswer}
-use Rattle.table.specs.Formulas.{Holds, RoomAt}
+use Rattle.table.specs.Formulas.{HoldsKept, RoomAt}
 
 -- acceptance is the walk's
 abbrev pub AgreesSeparating : Type 0
@@ -43,11 +44,11 @@ KnownBy = (i : Input) → Passes i → (e : Ending) (k : Table) (n : Tally) → 
 
 -- the slices that hold a table are those that store its matrices
 abbrev pub HeldIsStored : Type 0
-HeldIsStored = (i : Input) (k : Table) (t₀ t : Cols) → Holds i k t₀ t → Stored i k (t .matrices)
+HeldIsStored = (i : Input) (k : Table) (t₀ t : Cols) → HoldsKept i k t₀ t → Stored i k (t .matrices)
 
 -- a formula kept at the next place makes the table one longer
 abbrev pub KeepGrows : Type 0
-KeepGrows = (i : Input) → Passes i → (k : Table) (t₀ t t′ : Cols) → Holds i k t₀ t → RoomAt i (length k) t₀
+KeepGrows = (i : Input) → Passes i → (k : Table) (t₀ t t′ : Cols) → HoldsKept i k t₀ t → RoomAt i (length k) t₀
     → (rows : List ℕ) (c : Candidate (List ℕ)) → i .recording .sessions ≤ length rows → take (i .recording .sessions) rows ≡ c .matrix → Fine i (c .matrix)
     → (b : Bool) → KeepAnswer (i .recording .sessions) rows (length k) (c .node) t t′ b
-    → (b ≡ true) × Holds i (k ++ (c ∷ [])) t₀ t′
+    → (b ≡ true) × HoldsKept i (k ++ (c ∷ [])) t₀ t′

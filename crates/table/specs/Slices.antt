@@ -3,7 +3,7 @@
 use mathlib.Core.List.{List, map, flatMap}
 use Prim.Native.Nat.{ℕ}
 use Rattle.rules.specs.Answers.{over}
-use Rattle.walk.specs.Promises.{Table}
+use Rattle.walk.specs.Kept.{Table}
 
 -- "The kept formulas are a lent list of nodes: operator code, left place, right place, size": four lists of numbers. "The matrices lie in a lent
 -- slice of words, r per place"

@@ -20,10 +20,10 @@ use Rattle.formula.specs.Nodes.{Node}
 use Rattle.formula.specs.Rule.{Broken, brokenList}
 use Rattle.text.specs.Text.{text}
 use Rattle.text.specs.Print.{shortRoom, PrintAnswer, PrintsBy, Prints}
-use Rattle.formula.specs.Inner.{Fits}
+use Rattle.formula.specs.Faultless.{Fits}
 use Rattle.text.specs.Inner.{Printable, Long, Written}
 use Rattle.formula.proofs.Faults.{whole-fits}
-use Rattle.formula.proofs.Checking.{decided-early}
+use Rattle.formula.proofs.Tests.{decided-early}
 use Rattle.text.proofs.Printing.{formula-of}
 
 -- ---- the names

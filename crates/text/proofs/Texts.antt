@@ -7,10 +7,10 @@ use Prim.Native.Nat.{ℕ, _+_, _*_, _≤_}
 use native.Mathlib.Omega.{arith}
 use lib.Dec.{lit≤}
 use lib.ListN.{length, getD, take, length-append}
-use Rattle.sequence.specs.declared.operators.Operator.{Operator}
+use Rattle.operators.specs.declared.Operator.{Operator}
 use Rattle.sequence.specs.Operators.{Unary, Binary, not, weakNext, strongNext, finally, globally, or, and, until, release, implies, equiv, unaryToken, binaryToken}
-use Rattle.sequence.specs.Table.{Listed, unaryRow, binaryRow}
-use Rattle.sequence.specs.Table.Listed.{unary as unary-row, binary as binary-row, neither as no-row}
+use Rattle.operators.specs.Table.{Listed, unaryListed, binaryListed}
+use Rattle.operators.specs.Table.Listed.{unary as unary-row, binary as binary-row, neither as no-row}
 use Rattle.sequence.proofs.Groups.{unary-below, binary-between}
 use Rattle.sequence.proofs.Unique.{unary-one, binary-one}
 use Rattle.names.specs.Names.{nameLength}
@@ -36,14 +36,14 @@ binary-short release = lit≤ tt
 binary-short implies = lit≤ tt
 binary-short equiv = lit≤ tt
 
-unary-taken : (op : Unary) → take (unaryRow op .bytes) (unaryRow op .token) ≡ unaryToken op
+unary-taken : (op : Unary) → take (unaryListed op .bytes) (unaryListed op .token) ≡ unaryToken op
 unary-taken not = refl
 unary-taken weakNext = refl
 unary-taken strongNext = refl
 unary-taken finally = refl
 unary-taken globally = refl
 
-binary-taken : (op : Binary) → take (binaryRow op .bytes) (binaryRow op .token) ≡ binaryToken op
+binary-taken : (op : Binary) → take (binaryListed op .bytes) (binaryListed op .token) ≡ binaryToken op
 binary-taken or = refl
 binary-taken and = refl
 binary-taken until = refl

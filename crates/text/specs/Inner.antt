@@ -5,12 +5,12 @@ use mathlib.Core.Path.{_≡_}
 use mathlib.Core.List.{List, [], _∷_, _++_}
 use Prim.Native.Nat.{ℕ, _≤_}
 use lib.ListN.{length, take}
-use Rattle.sequence.specs.declared.operators.Operator.{Operator}
+use Rattle.operators.specs.declared.Operator.{Operator}
 use Rattle.formula.specs.Formula.{Formula}
 use Rattle.formula.specs.Nodes.{Node, Spells, codes}
 use Rattle.names.specs.Names.{namesIn, GoodNames}
 use Rattle.writing.specs.Writing.{Wrote}
-use Rattle.formula.specs.Inner.{Fits, AllFit}
+use Rattle.formula.specs.Faultless.{Fits, AllFit}
 use Rattle.text.specs.Text.{text}
 
 -- the names and the list have passed

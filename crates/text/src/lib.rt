@@ -23,7 +23,8 @@ pub fn print(
     root: Node,
     room: &mut [u8],
 ) -> Printed
-    ensures { λ p. ⌜ Prints (now (names .entry)) (nodes (now (codes .entry)) (now (lefts .entry)) (now (rights .entry)) (now (sizes .entry))) (nodeOf root) (now (room .entry)) (saidPrinted p) (now (room .exit)) ⌝ }
+    ensures { λ p. ⌜ Prints (now (names .entry)) (nodes (now (codes .entry)) (now (lefts .entry)) (now (rights .entry)) (now (sizes .entry)))
+        (nodeOf root) (now (room .entry)) (saidPrinted p) (now (room .exit)) ⌝ }
 {
     let judged = names::judge(names);
     match judged {

@@ -4,10 +4,9 @@ use formula::kinds::Node;
 use formula::kinds::PROPOSITION;
 use formula::nodes::node_at;
 use names::lookup::letters;
+use operators::Group;
+use operators::Operator;
 use rules::kinds::Proposition;
-use sequence::operators;
-use sequence::operators::Group;
-use sequence::operators::Operator;
 use writing::put;
 ghost use mathlib.Core.Path.{_≡_};
 ghost use Prim.Native.Nat.{_≤_, _<_};
@@ -127,7 +126,8 @@ fn put_leaf(
     at: usize,
 ) -> usize
     requires { ⌜ Printable (now names) (nodes (now codes) (now lefts) (now rights) (now sizes)) below (nodeOf node) × (IsUnary (node .code) → ⊥) × (IsBinary (node .code) → ⊥) ⌝ }
-    ensures { λ r. ⌜ Written (now (names .entry)) (nodes (now (codes .entry)) (now (lefts .entry)) (now (rights .entry)) (now (sizes .entry))) (nodeOf node) (now (room .entry)) at (now (room .exit)) r ⌝ }
+    ensures { λ r. ⌜ Written (now (names .entry)) (nodes (now (codes .entry)) (now (lefts .entry)) (now (rights .entry)) (now (sizes .entry)))
+        (nodeOf node) (now (room .entry)) at (now (room .exit)) r ⌝ }
 {
     if node.code == PROPOSITION {
         let p = Proposition::from_left(node.left).0 as usize;
@@ -152,7 +152,8 @@ pub(crate) fn write(
     at: usize,
 ) -> usize
     requires { ⌜ Printable (now names) (nodes (now codes) (now lefts) (now rights) (now sizes)) below (nodeOf node) ⌝ }
-    ensures { λ r. ⌜ Written (now (names .entry)) (nodes (now (codes .entry)) (now (lefts .entry)) (now (rights .entry)) (now (sizes .entry))) (nodeOf node) (now (room .entry)) at (now (room .exit)) r ⌝ }
+    ensures { λ r. ⌜ Written (now (names .entry)) (nodes (now (codes .entry)) (now (lefts .entry)) (now (rights .entry)) (now (sizes .entry)))
+        (nodeOf node) (now (room .entry)) at (now (room .exit)) r ⌝ }
 {
     let operator = operators::operator_of(node.code);
     let group = operator.group;

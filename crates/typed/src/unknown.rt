@@ -1,8 +1,8 @@
 // The first unknown name of a text.
-use names::letter::is_name_byte;
 use names::lookup::Found;
 use names::lookup::find;
-use names::reserved::is_reserved;
+use spelling::letter::is_name_byte;
+use spelling::reserved::is_reserved;
 ghost use mathlib.Core.Path.{_≡_};
 ghost use mathlib.Core.Bool.{not};
 ghost use Prim.Native.Nat.{_≤_, _<_};

@@ -11,10 +11,12 @@ use native.Mathlib.Decide.{decLt}
 use lib.ListN.{length, getD, take, length-append, List·getD-append}
 use lib.Dec.{leb}
 use Rattle.rules.specs.Lists.{_∈_}
-use Rattle.walk.specs.Walk.{Offer, Candidate, Ending, found, full, none, Tally, tally, oneTried, oneDropped, State, going, ended, kept, dropped, known, judge, layer, consider, after, finish, walk, trail}
+use Rattle.walk.specs.Walk.{Offer, Candidate, Ending, found, full, none, Tally, tally, oneTried, oneDropped, State, going, ended, kept, dropped, known, judge, layer}
+use Rattle.walk.specs.Walk.{consider, after, finish, walk, trail}
 use Rattle.walk.specs.Input.{Input, offer, search}
 use Rattle.walk.specs.Cut.{Cut, more, over}
-use Rattle.walk.specs.Promises.{Table, deciding, AddsUp, TriedAddsUp, CutOf, CutSum, CutAddsUp, goOn, begun, Drops, SuperfluousBy, DroppedBy}
+use Rattle.walk.specs.Kept.{Table, goOn, begun}
+use Rattle.walk.specs.Promises.{deciding, AddsUp, TriedAddsUp, CutOf, CutSum, CutAddsUp, Drops, SuperfluousBy, DroppedBy}
 use Rattle.walk.proofs.Trees.{Lawful}
 use Rattle.walk.proofs.Layers.{layer-fits}
 use Rattle.walk.proofs.Pass.{kept-finish, Distinct, grown, Tidy, tidy}

@@ -1,5 +1,4 @@
--- The settled examples S2, S3, S4 of document 01 and larger runs, computed by the definition.
--- The larger runs' figures are those that differential/walk_counts.py prints, which is written from the prose of document 01 alone.
+-- The settled examples S2, S3, S4 of document 01, and what tells the walk's orders apart, computed by the definition. Larger runs: crate walk_runs.
 -- Assumes nothing.
 use mathlib.Core.Path.{_≡_, refl, sym, subst}
 use mathlib.Core.Logic.{_⊎_, inl, inr}
@@ -11,13 +10,15 @@ use Rattle.words.specs.Word.{width, bit, Wf}
 use Rattle.words.proofs.At.{lt-wf}
 use Rattle.sequence.specs.Operators.{Unary, Binary, decode}
 use Rattle.formula.specs.Nodes.{Node}
-use Rattle.walk.specs.Walk.{Candidate, State, found, full, none, tally, going, ended, ofSize, leftSizes, finish, orders, unaryCandidates, pairs, layer, known, judge, consider, through, after, walk}
+use Rattle.walk.specs.Walk.{Candidate, State, found, full, none, tally, going, ended, ofSize, leftSizes, finish, orders, unaryCandidates, pairs, layer, known, judge}
+use Rattle.walk.specs.Walk.{consider, through, after, walk}
 use Rattle.rules.specs.Lists.{each, count}
 use Rattle.rules.specs.Limits.{mostSize, mostRoom}
 use Rattle.walk.specs.Rows.{word, someOf, allOf, unaryRow, binaryRow, constantRow}
 use Rattle.walk.specs.Input.{Input, Passes, sameRows, every, separating, search, inputOf}
 use Rattle.session.specs.Recording.{markOf, lengthOf, wordOf}
-use Rattle.walk.specs.Promises.{NoneBelow, Found, Full, begun, goOn}
+use Rattle.walk.specs.Kept.{begun, goOn}
+use Rattle.walk.specs.Promises.{NoneBelow, FoundAs, Full}
 use Rattle.walk.specs.Cut.{more, over, settle, start, step, turn}
 use Rattle.walk.proofs.Promises.{found-smallest, none-means-none, full-needs-room}
 
@@ -42,17 +43,20 @@ s2 bound room = inputOf 2 1 bound room 0 (1 ∷ 0 ∷ []) (1 ∷ 1 ∷ []) (1 �
 
 -- "B = 2 gives none, tried 2, kept 2"
 s2-none : search (s2 2 4096) ≡ ended none (at 16 0 0 1 (1 ∷ 1 ∷ []) ∷ at 0 0 0 2 (0 ∷ 0 ∷ []) ∷ []) (tally 2 0)
-unfolding each count ofSize leftSizes finish orders unaryCandidates pairs layer known judge consider through after walk word someOf allOf unaryRow binaryRow constantRow sameRows every separating bit decode
+unfolding each count ofSize leftSizes finish orders unaryCandidates pairs layer known judge consider through after walk word someOf allOf unaryRow
+    binaryRow constantRow sameRows every separating bit decode
 s2-none = refl
 
 -- "with C = 1 full at size 2, tried 2, kept 1"
 s2-full : search (s2 2 1) ≡ ended (full 2) (at 16 0 0 1 (1 ∷ 1 ∷ []) ∷ []) (tally 2 0)
-unfolding each count ofSize leftSizes finish orders unaryCandidates pairs layer known judge consider through after walk word someOf allOf unaryRow binaryRow constantRow sameRows every separating bit decode
+unfolding each count ofSize leftSizes finish orders unaryCandidates pairs layer known judge consider through after walk word someOf allOf unaryRow
+    binaryRow constantRow sameRows every separating bit decode
 s2-full = refl
 
 -- "B = 3 and C = 2 gives none, tried 3 (a duplicate needs no place)"
 s2-duplicate : search (s2 3 2) ≡ ended none (at 16 0 0 1 (1 ∷ 1 ∷ []) ∷ at 0 0 0 2 (0 ∷ 0 ∷ []) ∷ []) (tally 3 1)
-unfolding each count ofSize leftSizes finish orders unaryCandidates pairs layer known judge consider through after walk word someOf allOf unaryRow binaryRow constantRow sameRows every separating bit decode
+unfolding each count ofSize leftSizes finish orders unaryCandidates pairs layer known judge consider through after walk word someOf allOf unaryRow
+    binaryRow constantRow sameRows every separating bit decode
 s2-duplicate = refl
 
 -- it passes the checks, so the theorems speak of it
@@ -93,11 +97,13 @@ s2-two = full-needs-room (s2 2 1) (s2-passes 2 1 (omega arith, omega arith) (ome
 
 -- cut after its first candidate the walk stands at size 2, before the first of its candidates; one candidate more, and none is left
 s2-cut : goOn (s2 2 4096) 1 (begun (s2 2 4096)) ≡ more 2 0 (at 16 0 0 1 (1 ∷ 1 ∷ []) ∷ []) (tally 1 0)
-unfolding each count ofSize leftSizes finish orders unaryCandidates pairs layer known judge consider through after walk word someOf allOf unaryRow binaryRow constantRow sameRows every separating bit settle start step turn decode
+unfolding each count ofSize leftSizes finish orders unaryCandidates pairs layer known judge consider through after walk word someOf allOf unaryRow
+    binaryRow constantRow sameRows every separating bit settle start step turn decode
 s2-cut = refl
 
 s2-over : goOn (s2 2 4096) 1 (more 2 0 (at 16 0 0 1 (1 ∷ 1 ∷ []) ∷ []) (tally 1 0)) ≡ over none (at 16 0 0 1 (1 ∷ 1 ∷ []) ∷ at 0 0 0 2 (0 ∷ 0 ∷ []) ∷ []) (tally 2 0)
-unfolding each count ofSize leftSizes finish orders unaryCandidates pairs layer known judge consider through after walk word someOf allOf unaryRow binaryRow constantRow sameRows every separating bit settle start step turn decode
+unfolding each count ofSize leftSizes finish orders unaryCandidates pairs layer known judge consider through after walk word someOf allOf unaryRow
+    binaryRow constantRow sameRows every separating bit settle start step turn decode
 s2-over = refl
 
 -- ---- S3: "only `U`, p = 3, q = 4, mark 1; p = 1, q = 4, mark 0; length 3, B = 3: `(p) U (q)`, tried 5, kept 2"
@@ -106,7 +112,8 @@ abbrev s3 : Input
 s3 = inputOf 2 2 3 4096 0 (1 ∷ 0 ∷ []) (3 ∷ 3 ∷ []) (3 ∷ 4 ∷ 1 ∷ 4 ∷ []) [] (7 ∷ [])
 
 s3-found : search s3 ≡ ended (found (node 7 0 1 3)) (at 16 0 0 1 (3 ∷ 1 ∷ []) ∷ at 16 1 0 1 (4 ∷ 4 ∷ []) ∷ []) (tally 5 2)
-unfolding each count ofSize leftSizes finish orders unaryCandidates pairs layer known judge consider through after walk word someOf allOf unaryRow binaryRow constantRow sameRows every separating bit decode
+unfolding each count ofSize leftSizes finish orders unaryCandidates pairs layer known judge consider through after walk word someOf allOf unaryRow
+    binaryRow constantRow sameRows every separating bit decode
 s3-found = refl
 
 -- it passes the checks, so the theorem speaks of it: `(p) U (q)` separates, and nothing smaller does
@@ -132,7 +139,7 @@ s3-passes = record {
   binary-once = (List·Memᴰ·not-nil, tt);
 }
 
-s3-smallest : Found s3 (node 7 0 1 3) (at 16 0 0 1 (3 ∷ 1 ∷ []) ∷ at 16 1 0 1 (4 ∷ 4 ∷ []) ∷ [])
+s3-smallest : FoundAs s3 (node 7 0 1 3) (at 16 0 0 1 (3 ∷ 1 ∷ []) ∷ at 16 1 0 1 (4 ∷ 4 ∷ []) ∷ [])
 s3-smallest = found-smallest s3 s3-passes (node 7 0 1 3) (at 16 0 0 1 (3 ∷ 1 ∷ []) ∷ at 16 1 0 1 (4 ∷ 4 ∷ []) ∷ []) _ s3-found
 
 -- ---- S4: "one empty session, mark 1, p, all operators", as document 02, E4, amends it
@@ -142,16 +149,19 @@ s4 mark bound = inputOf 1 1 bound 4096 0 (mark ∷ []) (0 ∷ []) (0 ∷ []) (0 
 
 -- "S4 with mark 1 becomes found `! (p)`, tried 2, kept 1", whatever the bound from 2 on
 s4-found : search (s4 1 2) ≡ ended (found (node 0 0 0 2)) (at 16 0 0 1 (0 ∷ []) ∷ []) (tally 2 0)
-unfolding each count ofSize leftSizes finish orders unaryCandidates pairs layer known judge consider through after walk word someOf allOf unaryRow binaryRow constantRow sameRows every separating bit decode
+unfolding each count ofSize leftSizes finish orders unaryCandidates pairs layer known judge consider through after walk word someOf allOf unaryRow
+    binaryRow constantRow sameRows every separating bit decode
 s4-found = refl
 
 s4-larger : search (s4 1 3) ≡ ended (found (node 0 0 0 2)) (at 16 0 0 1 (0 ∷ []) ∷ []) (tally 2 0)
-unfolding each count ofSize leftSizes finish orders unaryCandidates pairs layer known judge consider through after walk word someOf allOf unaryRow binaryRow constantRow sameRows every separating bit decode
+unfolding each count ofSize leftSizes finish orders unaryCandidates pairs layer known judge consider through after walk word someOf allOf unaryRow
+    binaryRow constantRow sameRows every separating bit decode
 s4-larger = refl
 
 -- "Mark 0: found p, tried 1, kept 0."
 s4-bad : search (s4 0 3) ≡ ended (found (node 16 0 0 1)) [] (tally 1 0)
-unfolding each count ofSize leftSizes finish orders unaryCandidates pairs layer known judge consider through after walk word someOf allOf unaryRow binaryRow constantRow sameRows every separating bit decode
+unfolding each count ofSize leftSizes finish orders unaryCandidates pairs layer known judge consider through after walk word someOf allOf unaryRow
+    binaryRow constantRow sameRows every separating bit decode
 s4-bad = refl
 
 -- an empty session beside one of one snapshot, at which p holds: at the empty one `X[!] (p)` and `F (p)` are not accepted, `X (p)` and `! (p)` are
@@ -159,7 +169,8 @@ abbrev beside : Input
 beside = inputOf 2 1 2 4096 0 (1 ∷ 0 ∷ []) (0 ∷ 1 ∷ []) (0 ∷ 1 ∷ []) (2 ∷ 3 ∷ 1 ∷ 0 ∷ []) []
 
 beside-found : search beside ≡ ended (found (node 0 0 0 2)) (at 16 0 0 1 (0 ∷ 1 ∷ []) ∷ at 2 0 0 2 (0 ∷ 0 ∷ []) ∷ at 1 0 0 2 (1 ∷ 1 ∷ []) ∷ []) (tally 5 1)
-unfolding each count ofSize leftSizes finish orders unaryCandidates pairs layer known judge consider through after walk word someOf allOf unaryRow binaryRow constantRow sameRows every separating bit decode
+unfolding each count ofSize leftSizes finish orders unaryCandidates pairs layer known judge consider through after walk word someOf allOf unaryRow
+    binaryRow constantRow sameRows every separating bit decode
 beside-found = refl
 
 -- bit 0 of an empty session counts in the duplicate test: p and `G (p)` differ there alone, and both are kept
@@ -167,7 +178,8 @@ abbrev apart : Input
 apart = inputOf 2 1 2 4096 1 (0 ∷ 1 ∷ []) (0 ∷ 1 ∷ []) (0 ∷ 0 ∷ []) (4 ∷ []) []
 
 apart-none : search apart ≡ ended none (at 16 0 0 1 (0 ∷ 0 ∷ []) ∷ at 18 0 0 1 (1 ∷ 1 ∷ []) ∷ at 4 0 0 2 (1 ∷ 0 ∷ []) ∷ []) (tally 5 2)
-unfolding each count ofSize leftSizes finish orders unaryCandidates pairs layer known judge consider through after walk word someOf allOf unaryRow binaryRow constantRow sameRows every separating bit decode
+unfolding each count ofSize leftSizes finish orders unaryCandidates pairs layer known judge consider through after walk word someOf allOf unaryRow
+    binaryRow constantRow sameRows every separating bit decode
 apart-none = refl
 
 -- ---- constants: "propositions in order, then, if constants are asked for, false, then true", and after them `G` and `X`, in the given order
@@ -177,7 +189,8 @@ asked = inputOf 2 1 2 4096 1 (1 ∷ 0 ∷ []) (2 ∷ 2 ∷ []) (1 ∷ 1 ∷ []) 
 
 asked-none : search asked ≡ ended none
     (at 16 0 0 1 (1 ∷ 1 ∷ []) ∷ at 17 0 0 1 (0 ∷ 0 ∷ []) ∷ at 18 0 0 1 (3 ∷ 3 ∷ []) ∷ at 1 0 0 2 (2 ∷ 2 ∷ []) ∷ []) (tally 9 5)
-unfolding each count ofSize leftSizes finish orders unaryCandidates pairs layer known judge consider through after walk word someOf allOf unaryRow binaryRow constantRow sameRows every separating bit decode
+unfolding each count ofSize leftSizes finish orders unaryCandidates pairs layer known judge consider through after walk word someOf allOf unaryRow
+    binaryRow constantRow sameRows every separating bit decode
 asked-none = refl
 
 -- ---- the order of the loops over the left formulas, the right ones and the operators: with two of them exchanged the answer is another
@@ -187,7 +200,8 @@ nested = inputOf 2 2 4 10 0 (1 ∷ 0 ∷ []) (2 ∷ 2 ∷ []) (2 ∷ 0 ∷ 3 ∷
 
 nested-found : search nested ≡ ended (found (node 9 0 4 4))
     (at 16 0 0 1 (2 ∷ 3 ∷ []) ∷ at 16 1 0 1 (0 ∷ 1 ∷ []) ∷ at 2 0 0 2 (1 ∷ 1 ∷ []) ∷ at 1 0 0 2 (3 ∷ 3 ∷ []) ∷ at 2 1 0 2 (0 ∷ 0 ∷ []) ∷ at 1 1 0 2 (2 ∷ 2 ∷ []) ∷ []) (tally 34 27)
-unfolding each count ofSize leftSizes finish orders unaryCandidates pairs layer known judge consider through after walk word someOf allOf unaryRow binaryRow constantRow sameRows every separating bit decode
+unfolding each count ofSize leftSizes finish orders unaryCandidates pairs layer known judge consider through after walk word someOf allOf unaryRow
+    binaryRow constantRow sameRows every separating bit decode
 nested-found = refl
 
 -- ---- the left sizes rise, and an operator that commutes has the left formula in its left field: with the sizes falling, or the fields
@@ -197,7 +211,8 @@ abbrev rising : Input
 rising = inputOf 3 1 5 40 0 (0 ∷ 0 ∷ 1 ∷ []) (3 ∷ 3 ∷ 3 ∷ []) (4 ∷ 3 ∷ 0 ∷ []) (3 ∷ 4 ∷ []) (10 ∷ [])
 
 rising-found : brief (search rising) ≡ 1 ∷ 10 ∷ 0 ∷ 3 ∷ 5 ∷ 19 ∷ 7 ∷ 11 ∷ []
-unfolding each count ofSize leftSizes finish orders unaryCandidates pairs layer known judge consider through after walk word someOf allOf unaryRow binaryRow constantRow sameRows every separating bit decode
+unfolding each count ofSize leftSizes finish orders unaryCandidates pairs layer known judge consider through after walk word someOf allOf unaryRow
+    binaryRow constantRow sameRows every separating bit decode
 rising-found = refl
 
 -- ---- FOUND before FULL: one place, which the first proposition takes, and the second, which separates, needs none
@@ -206,35 +221,6 @@ abbrev narrow : Input
 narrow = inputOf 1 2 1 1 0 (1 ∷ []) (1 ∷ []) (0 ∷ 1 ∷ []) [] []
 
 narrow-found : search narrow ≡ ended (found (node 16 1 0 1)) (at 16 0 0 1 (0 ∷ []) ∷ []) (tally 2 0)
-unfolding each count ofSize leftSizes finish orders unaryCandidates pairs layer known judge consider through after walk word someOf allOf unaryRow binaryRow constantRow sameRows every separating bit decode
+unfolding each count ofSize leftSizes finish orders unaryCandidates pairs layer known judge consider through after walk word someOf allOf unaryRow
+    binaryRow constantRow sameRows every separating bit decode
 narrow-found = refl
-
--- ---- larger runs
-
--- one proposition, constants, all operators: no formula tells two equal sessions apart
-abbrev equals : Input
-equals = inputOf 2 1 5 200 1 (1 ∷ 0 ∷ []) (2 ∷ 2 ∷ []) (1 ∷ 1 ∷ []) (0 ∷ 1 ∷ 2 ∷ 3 ∷ 4 ∷ []) (5 ∷ 6 ∷ 7 ∷ 8 ∷ 9 ∷ 10 ∷ [])
-
-equals-none : brief (search equals) ≡ 2 ∷ 140 ∷ 4 ∷ 136 ∷ []
-unfolding each count ofSize leftSizes finish orders unaryCandidates pairs layer known judge consider through after walk word someOf allOf unaryRow binaryRow constantRow sameRows every separating bit decode
-equals-none = refl
-
--- two propositions, four sessions, all operators
-abbrev four : ℕ → Input
-four room = inputOf 4 2 5 room 0 (1 ∷ 1 ∷ 0 ∷ 0 ∷ []) (3 ∷ 3 ∷ 3 ∷ 3 ∷ []) (5 ∷ 2 ∷ 1 ∷ 6 ∷ 5 ∷ 6 ∷ 0 ∷ 2 ∷ []) (0 ∷ 1 ∷ 2 ∷ 3 ∷ 4 ∷ []) (5 ∷ 6 ∷ 7 ∷ 8 ∷ 9 ∷ 10 ∷ [])
-
-four-found : brief (search (four 200)) ≡ 1 ∷ 4 ∷ 82 ∷ 0 ∷ 5 ∷ 633 ∷ 164 ∷ 468 ∷ []
-unfolding each count ofSize leftSizes finish orders unaryCandidates pairs layer known judge consider through after walk word someOf allOf unaryRow binaryRow constantRow sameRows every separating bit decode
-four-found = refl
-
-four-full : brief (search (four 20)) ≡ 3 ∷ 3 ∷ 25 ∷ 20 ∷ 4 ∷ []
-unfolding each count ofSize leftSizes finish orders unaryCandidates pairs layer known judge consider through after walk word someOf allOf unaryRow binaryRow constantRow sameRows every separating bit decode
-four-full = refl
-
--- constants, two unary and two binary operators, sessions of different lengths
-abbrev three : Input
-three = inputOf 3 1 5 200 1 (1 ∷ 0 ∷ 0 ∷ []) (4 ∷ 4 ∷ 2 ∷ []) (9 ∷ 1 ∷ 1 ∷ []) (1 ∷ 4 ∷ []) (8 ∷ 7 ∷ [])
-
-three-found : brief (search three) ≡ 1 ∷ 1 ∷ 8 ∷ 0 ∷ 4 ∷ 56 ∷ 11 ∷ 44 ∷ []
-unfolding each count ofSize leftSizes finish orders unaryCandidates pairs layer known judge consider through after walk word someOf allOf unaryRow binaryRow constantRow sameRows every separating bit decode
-three-found = refl

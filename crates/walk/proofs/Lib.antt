@@ -8,6 +8,7 @@ pub mod Smallest
 pub mod Rows
 pub mod Reading
 pub mod Promises
+pub mod Empty
 pub mod Steady
 pub mod Position
 pub mod Resume

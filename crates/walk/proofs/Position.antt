@@ -9,7 +9,8 @@ use native.Mathlib.Omega.{arith}
 use lib.ListN.{length}
 use lib.Dec.{leb}
 use Rattle.rules.specs.Lists.{_∈_}
-use Rattle.walk.specs.Walk.{Offer, Candidate, Ending, found, full, none, Tally, tally, oneTried, State, going, ended, kept, counted, known, judge, layer, consider, through, after, finish, walk, trail}
+use Rattle.walk.specs.Walk.{Offer, Candidate, Ending, found, full, none, Tally, tally, oneTried, State, going, ended, kept, counted, known, judge, layer, consider, through}
+use Rattle.walk.specs.Walk.{after, finish, walk, trail}
 use Rattle.walk.specs.Input.{offer}
 use Rattle.walk.specs.Promises.{Nth, Has, DecidedAt, TriedIsPosition}
 use Rattle.walk.proofs.Trees.{Lawful}

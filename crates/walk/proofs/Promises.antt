@@ -16,7 +16,8 @@ use Rattle.formula.proofs.Trees.{spells-size}
 use Rattle.formula.specs.Nodes.{Node, codes}
 use Rattle.walk.specs.Walk.{Candidate, Ending, found, full, none, Tally, State, going, ended, finish, after, walk}
 use Rattle.walk.specs.Input.{Input, Passes, language, row, separating, offer, search}
-use Rattle.walk.specs.Promises.{Table, nodes, NoneBelow, Alike, Apart, Found, KeepsNext, Full, Keeps, KeepsAll, Kept, FoundSmallest, NoneMeansNone, FullNeedsRoom, KeptDistinct, WalkEnds}
+use Rattle.walk.specs.Kept.{Table, nodes}
+use Rattle.walk.specs.Promises.{NoneBelow, Alike, Apart, FoundAs, KeepsNext, Full, Keeps, KeepsAll, Kept, FoundSmallest, NoneMeansNone, FullNeedsRoom, KeptDistinct, WalkEnds}
 use Rattle.walk.proofs.Trees.{Is, is-size, Ordered}
 use Rattle.walk.proofs.Pass.{Rejected, Distinct, Tidy}
 use Rattle.walk.proofs.Smallest.{Needs, Ours, Smallest, Spills, EndsWell, Says, walk-says}
@@ -31,7 +32,7 @@ module _ (i : Input) (ok : Passes i) where
   said : (e : Ending) (k : Table) (n : Tally) → search i ≡ ended e k n → Tidy (offer i) (i .room) k × Ours (offer i) k × EndsWell (offer i) (i .room) (i .bound) e k
   said e k n q = subst (Says (offer i) (i .room) (lawful i) (i .bound)) q (walk-says (offer i) (i .room) (lawful i) (i .bound))
 
-  found-one : (root : Node) (k : Table) → Smallest (offer i) (i .bound) root k → Found i root k
+  found-one : (root : Node) (k : Table) → Smallest (offer i) (i .bound) root k → FoundAs i root k
   found-one root k w =
       let o = offered-from i ok (w .formula) (w .from) in
       record {

@@ -12,7 +12,8 @@ use lib.ListN.{length, take, drop, length-append, length-take, length-drop, take
 use lib.Seq.{take-all, take-add, take-append-seam}
 use lib.Dec.{eqb, ltb}
 use borrow.Author.Tests.{eqb-true, ltb-true, ltb-false}
-use Rattle.walk.specs.Walk.{Offer, Candidate, Placed, Ending, found, full, none, Tally, tally, State, going, ended, kept, tried, ofSize, keepIf, leftSizes, orders, unaryOn, unaryCandidates, pairs, layer, consider, through, after, finish, walk, trail}
+use Rattle.walk.specs.Walk.{Offer, Candidate, Placed, Ending, found, full, none, Tally, tally, State, going, ended, kept, tried, ofSize, keepIf, leftSizes, orders, unaryOn}
+use Rattle.walk.specs.Walk.{unaryCandidates, pairs, layer, consider, through, after, finish, walk, trail}
 use Rattle.rules.specs.Lists.{each, _∈_}
 use Rattle.walk.specs.Input.{offer}
 use Rattle.walk.specs.Cut.{Cut, more, over, settle, start, step, turn}

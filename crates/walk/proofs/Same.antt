@@ -11,7 +11,8 @@ use lib.ListN.{length, getD}
 use lib.Dec.{eqb, leb}
 use Rattle.sequence.specs.Operators.{Unary, Binary}
 use Rattle.formula.specs.Formula.{Leaf, proposition, constant}
-use Rattle.walk.specs.Walk.{Offer, Candidate, Placed, Tally, oneTried, State, going, ended, kept, seed, orders, unaryCandidates, pairs, layer, known, judge, consider, through, after, finish, walk}
+use Rattle.walk.specs.Walk.{Offer, Candidate, Placed, Tally, oneTried, State, going, ended, kept, seed, orders, unaryCandidates, pairs, layer, known, judge, consider}
+use Rattle.walk.specs.Walk.{through, after, finish, walk}
 use Rattle.rules.specs.Lists.{count, _∈_}
 use Rattle.walk.specs.Rows.{unaryRow, binaryRow, constantRow, acceptsRow}
 use Rattle.walk.specs.Input.{Input, row, rows, every, leaves, separating, offer, search, inputOf}
@@ -161,7 +162,8 @@ module _ (r m b room constants : ℕ) (us bs : List ℕ) where
         ∙ ap (λ (o : Offer Leaf Unary Binary (List ℕ)). walk o room b) same-offer
 
 search-of : (i : Input)
-    → searchOf (i .recording .sessions) (i .recording .propositions) (i .bound) (i .room) (i .constants) (i .unary) (i .binary) (i .recording .marks) (i .recording .lengths) (i .recording .words) ≡ search i
+    → searchOf (i .recording .sessions) (i .recording .propositions) (i .bound) (i .room) (i .constants) (i .unary) (i .binary) (i .recording .marks)
+    (i .recording .lengths) (i .recording .words) ≡ search i
 unfolding searchOf
 search-of i = refl
 

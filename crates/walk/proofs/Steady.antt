@@ -14,7 +14,8 @@ use borrow.Author.Tests.{leb-true, leb-false}
 use Rattle.formula.specs.Nodes.{Node}
 use Rattle.walk.specs.Walk.{Offer, Candidate, Ending, found, full, Tally, oneTried, State, going, ended, kept, known, judge, layer, consider, through, after, finish, walk}
 use Rattle.walk.specs.Input.{Input, separating, offer, search}
-use Rattle.walk.specs.Promises.{Table, again, KeepsNext, LargerBoundSame, LargerRoomSame, FoundStays}
+use Rattle.walk.specs.Kept.{Table}
+use Rattle.walk.specs.Promises.{again, KeepsNext, LargerBoundSame, LargerRoomSame, FoundStays}
 use Rattle.walk.proofs.Trees.{Lawful}
 use Rattle.walk.proofs.Pass.{kept-finish, stays, grown, Tidy, tidy}
 use Rattle.walk.proofs.Smallest.{Says, walk-says}

@@ -3,4 +3,5 @@ pub mod Walk
 pub mod Rows
 pub mod Input
 pub mod Cut
+pub mod Kept
 pub mod Promises

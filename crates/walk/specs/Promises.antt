@@ -10,22 +10,17 @@ use Prim.Native.Nat.{ℕ, suc, _+_, _*_, _≤_, _<_}
 use lib.ListN.{length, take, getD}
 use Rattle.words.specs.Word.{At, places, Means}
 use Rattle.sequence.specs.Operators.{Unary, Binary, unaryReading, binaryReading}
-use Rattle.formula.specs.Formula.{Formula, size, Holds, Separates, Offered}
+use Rattle.formula.specs.Formula.{Formula, size, Holds, Accepts, Separates, Offered}
 use Rattle.rules.specs.Lists.{_∈_}
+use Rattle.formula.specs.Empty.{OnEmpty}
 use Rattle.formula.specs.Recorded.{markedTrace, markedTraces}
 use Rattle.session.specs.Recording.{lengthOf}
 use Rattle.formula.specs.Nodes.{Node, Spells, codes}
 use Rattle.walk.specs.Walk.{Candidate, Ending, found, full, none, Tally, tally, oneTried, oneDropped, going, ended, kept, tried, matrix, leftSizes, consider, trail}
 use Rattle.walk.specs.Rows.{unaryRow, binaryRow}
 use Rattle.walk.specs.Input.{Input, Passes, language, row, separating, offer, search}
-use Rattle.walk.specs.Cut.{Cut, more, over, start, turn}
-
--- what a walk keeps
-abbrev pub Table : Type 0
-Table = List (Candidate (List ℕ))
-
-abbrev pub nodes : Table → List Node
-nodes k = map (λ c. c .node) k
+use Rattle.walk.specs.Cut.{Cut, more, over}
+use Rattle.walk.specs.Kept.{Table, nodes, begun, goOn}
 
 -- the same input but for bound and room
 abbrev pub again : Input → ℕ → ℕ → Input
@@ -51,7 +46,7 @@ module _ (i : Input) where
 
   -- "FOUND": the root node over the kept list is a formula that uses only what was offered, whose size is the size reported and at most B;
   -- it separates, and no smaller one does
-  pub record Found (root : Node) (k : Table) : Type 0 where
+  pub record FoundAs (root : Node) (k : Table) : Type 0 where
     pub formula : Formula
     pub spelled : Spells codes (nodes k) root formula
     pub offered : Offered (language i) formula
@@ -119,7 +114,7 @@ BinaryRowOnly = (op : Binary) (n r x y : ℕ) → Means n r (binaryReading op n 
 -- ---- (1) to (3): FOUND, NONE, FULL
 
 abbrev pub FoundSmallest : Type 0
-FoundSmallest = (i : Input) → Passes i → (root : Node) (k : Table) (n : Tally) → search i ≡ ended (found root) k n → Found i root k
+FoundSmallest = (i : Input) → Passes i → (root : Node) (k : Table) (n : Tally) → search i ≡ ended (found root) k n → FoundAs i root k
 
 abbrev pub NoneMeansNone : Type 0
 NoneMeansNone = (i : Input) → Passes i → (k : Table) (n : Tally) → search i ≡ ended none k n → NoneBelow i (i .bound + 1)
@@ -204,13 +199,6 @@ LeftSizes = (s i j : ℕ) → i + j + 1 ≡ s → (i ∈ leftSizes s) ↔ ((1 �
 
 -- ---- cut and resume
 
--- the input's walk, of which nothing is tried, and n candidates more
-abbrev pub begun : Input → Cut (List ℕ)
-begun i = start (offer i) (i .room) (i .bound)
-
-abbrev pub goOn : Input → ℕ → Cut (List ℕ) → Cut (List ℕ)
-goOn i n c = turn (offer i) (i .room) (i .bound) n c
-
 -- a turn of a candidates, then one of b, is a turn of a + b
 abbrev pub TurnsAdd : Type 0
 TurnsAdd = (i : Input) (a b : ℕ) (c : Cut (List ℕ)) → goOn i b (goOn i a c) ≡ goOn i (a + b) c
@@ -271,3 +259,9 @@ pub record SuperfluousBy {Mat : Type 0} (k before : List (Candidate Mat)) (c : C
 abbrev pub DroppedBy : Type 0
 DroppedBy = (i : Input) (e : Ending) (k : Table) (n : Tally) → search i ≡ ended e k n → (before : Table) (c : Candidate (List ℕ)) (d : Drops i before c)
     → (place : ℕ) × (place < length (d .so-far)) × SuperfluousBy k before c place
+
+-- request E4's "the usual reading of the empty trace", of what was recorded: of an input that passes the checks, a session without snapshots accepts a formula
+-- over what was offered exactly where the table of E4 says so
+abbrev pub EmptySession : Type 0
+EmptySession = (i : Input) → Passes i → (j : ℕ) → j < i .recording .sessions → lengthOf (i .recording) j ≡ 0
+    → (t : Formula) → Offered (language i) t → Accepts (markedTrace (i .recording) j .trace) t ↔ OnEmpty t

@@ -5,7 +5,7 @@ use mathlib.Core.Logic.{_↔_}
 use Prim.Native.Nat.{ℕ, _/_, _%_, _^_, _≤_, _<_, max}
 use Rattle.words.specs.Ltlf.{Reading}
 
--- "a 64-bit word": the bits that it has, which is also the largest length
+-- "a 64-bit word": the bits that it has; "snapshots per session 0 to 64": also the largest length
 abbrev pub width : ℕ
 width = 64
 

@@ -9,7 +9,7 @@ use crate::program::root;
 
 /// The functions that the library has, each at its place in `FUNCTIONS`.
 pub struct Linked {
-    functions: [*mut c_void; 7],
+    functions: [*mut c_void; 9],
 }
 
 // A slice is pointer and count.
@@ -28,6 +28,10 @@ type Print = unsafe extern "C" fn(P, N, P, N, P, N, P, N, P, N,
     u8, u16, u16, u8, P, N, P, N) -> u64;
 type Read = unsafe extern "C" fn(P, N, P, N, P, N, P, N, P, N, P, N, P, N) -> u64;
 type Parse = unsafe extern "C" fn(P, N, P, N, P, N, P, N, P, N, P, N, P, N) -> u64;
+type Fresh = unsafe extern "C" fn(P, N) -> u64;
+#[rustfmt::skip]
+type Resume = unsafe extern "C" fn(N, N, N, N, u8,
+    P, N, P, N, P, N, P, N, P, N, P, N, P, N, P, N, P, N, P, N, u64, P, N, P, N) -> u64;
 
 impl Linked {
     pub fn load() -> Result<Self, String> {
@@ -82,6 +86,12 @@ impl Boundary for Linked {
                 Function::Parse => transmute::<P, Parse>(address)(
                     s[0].0, s[0].1, s[1].0, s[1].1, s[2].0, s[2].1, s[3].0, s[3].1, s[4].0, s[4].1, s[5].0, s[5].1,
                     s[6].0, s[6].1,
+                ),
+                Function::Fresh => transmute::<P, Fresh>(address)(s[0].0, s[0].1),
+                Function::Resume => transmute::<P, Resume>(address)(
+                    n(0), n(1), n(2), n(3), x[4] as u8,
+                    s[0].0, s[0].1, s[1].0, s[1].1, s[2].0, s[2].1, s[3].0, s[3].1, s[4].0, s[4].1, s[5].0, s[5].1,
+                    s[6].0, s[6].1, s[7].0, s[7].1, s[8].0, s[8].1, s[9].0, s[9].1, x[5], s[10].0, s[10].1, s[11].0, s[11].1,
                 ),
             }
         }

@@ -19,9 +19,11 @@ pub enum Function {
     Print = 5,
     Read = 6,
     Parse = 7,
+    Fresh = 8,
+    Resume = 9,
 }
 
-pub const FUNCTIONS: [(Function, &str); 7] = [
+pub const FUNCTIONS: [(Function, &str); 9] = [
     (Function::Search, "scarfpylon_search"),
     (Function::Unary, "scarfpylon_unary"),
     (Function::Binary, "scarfpylon_binary"),
@@ -29,6 +31,8 @@ pub const FUNCTIONS: [(Function, &str); 7] = [
     (Function::Print, "scarfpylon_print"),
     (Function::Read, "scarfpylon_read"),
     (Function::Parse, "scarfpylon_parse"),
+    (Function::Fresh, "scarfpylon_fresh"),
+    (Function::Resume, "scarfpylon_resume"),
 ];
 
 /// A lent slice: what may be written, and what may not.

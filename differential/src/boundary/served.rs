@@ -8,7 +8,7 @@ use crate::program::root;
 /// As many numbers as serve.c reads first: the function, the scalars, the slices' counts.
 const HEAD: usize = 1 + SCALARS + SLICES;
 const SCALARS: usize = 8;
-const SLICES: usize = 11;
+const SLICES: usize = 12;
 
 pub struct Served {
     child: Child,

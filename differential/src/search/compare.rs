@@ -68,7 +68,7 @@ struct Comparison {
 }
 
 /// What differs between an answer that has to be and what the library answered and wrote.
-fn judge(answer: u64, due: u64, input: &Input, given: &Input, lent: &Lent, expected: &Lent) -> Option<String> {
+pub fn judge(answer: u64, due: u64, input: &Input, given: &Input, lent: &Lent, expected: &Lent) -> Option<String> {
     if answer != due {
         return Some(format!("answers {answer} and has to answer {due}"));
     }
@@ -123,7 +123,12 @@ fn said(outcome: &Outcome) -> String {
         Ending::None => "none".to_string(),
         Ending::Full(size) => format!("full size {size}"),
     };
-    format!("{ending} tried {} kept {} dropped {}", outcome.tried, outcome.kept(), outcome.dropped)
+    format!(
+        "{ending} tried {} kept {} dropped {}",
+        outcome.tried,
+        outcome.kept(),
+        outcome.dropped
+    )
 }
 
 impl Comparison {

@@ -52,15 +52,21 @@ impl Lent {
         }
     }
 
-    /// What is to stand there after a search that ended like this, by the C boundary's lines; all else stays.
-    pub fn write(&mut self, outcome: &Outcome) {
-        for (place, node) in outcome.nodes.iter().enumerate() {
+    /// The first `kept` formulas that an outcome has, each with r words.
+    pub fn keep(&mut self, outcome: &Outcome, kept: usize, r: usize) {
+        for (place, node) in outcome.nodes[..kept].iter().enumerate() {
             self.codes[place] = node.code;
             self.lefts[place] = node.left;
             self.rights[place] = node.right;
             self.sizes[place] = node.size;
         }
-        self.matrices[..outcome.matrices.len()].copy_from_slice(&outcome.matrices);
+        self.matrices[..kept * r].copy_from_slice(&outcome.matrices[..kept * r]);
+    }
+
+    /// What is to stand there after a search that ended like this, by the C boundary's lines; all else stays.
+    pub fn write(&mut self, outcome: &Outcome) {
+        let kept = outcome.kept();
+        self.keep(outcome, kept, if kept == 0 { 0 } else { outcome.matrices.len() / kept });
         match outcome.ending {
             Ending::Found(Node {
                 code,

@@ -1,17 +1,15 @@
-//! A stored sample of searches with the Rust's answers: a module of our program `searches`, and what it has to print, so that the gate runs them with
-//! no Rust at hand.
+//! A stored sample of searches with the Rust's answers: lines that our program `run_searches` reads, and what it has to print, so that the gate runs them
+//! with no Rust at hand.
 use super::drawn;
 use super::due;
 use super::input::{Ending, Input};
 use super::lent::Lent;
 
-/// What the module lends to each search: so many places, and so many words, all of them 9.
+/// What a line lends to its search: so many places, and so many words, all of them 9.
 const PLACES: usize = 12;
 const WORDS: usize = 48;
 /// Searches of each ending.
 const EACH: usize = 4;
-/// Searches in one function: short ones are proved quickly.
-const PART: usize = 4;
 
 /// Inputs of several kinds that fit, the first so many of each ending.
 fn inputs() -> Vec<Input> {
@@ -48,102 +46,31 @@ fn inputs() -> Vec<Input> {
     chosen
 }
 
-/// The module, in the layout of `rt fmt`.
-pub fn module() -> String {
-    let mut text = String::from(
-        "// Searches whose stored answers are the Rust's. The differential harness writes this file and those answers (`sample`).
-use crate::say;
-use crate::say_answer;
-use crate::say_bytes;
-use crate::say_number;
-use crate::say_places;
-use crate::say_words;
-
-",
-    );
-    text += &format!(
-        "fn sampled(
-    number: u64,
-    r: usize,
-    m: usize,
-    bound: usize,
-    room: usize,
-    constants: u8,
-    marks: &[u8],
-    lengths: &[u8],
-    words: &[u64],
-    unary: &[u8],
-    binary: &[u8],
-) {{
-    let mut codes = [9u8; {PLACES}];
-    let mut lefts = [9u16; {PLACES}];
-    let mut rights = [9u16; {PLACES}];
-    let mut sizes = [9u8; {PLACES}];
-    let mut matrices = [9u64; {WORDS}];
-    say_number(b\"sample \", number);
-    say(b\": \");
-    let answer = search::search(
-        r,
-        m,
-        bound,
-        room,
-        constants,
-        marks,
-        lengths,
-        words,
-        unary,
-        binary,
-        &mut codes,
-        &mut lefts,
-        &mut rights,
-        &mut sizes,
-        &mut matrices,
-    );
-    say_answer(answer);
-    say_bytes(&codes);
-    say_places(&lefts);
-    say_places(&rights);
-    say_bytes(&sizes);
-    say_words(&matrices);
-    say(b\"\\n\");
-}}
-"
-    );
-    let inputs = inputs();
-    for (part, some) in inputs.chunks(PART).enumerate() {
-        text += &format!("\nfn part_{part}() {{\n");
-        for (at, input) in some.iter().enumerate() {
-            let numbers = [
-                part * PART + at,
-                input.r,
-                input.m,
-                input.bound,
-                input.room,
-                input.constants as usize,
-            ];
-            text += "    sampled(\n";
-            for x in numbers {
-                text += &format!("        {x},\n");
-            }
-            for list in [&input.marks, &input.lengths] {
-                text += &format!("        &{list:?},\n");
-            }
-            text += &format!("        &{:?},\n", input.words);
-            for list in [&input.unary, &input.binary] {
-                text += &format!("        &{list:?},\n");
-            }
-            text += "    );\n";
-        }
-        text += "}\n";
+/// The lines that the program reads, as its src/main.rt describes them.
+pub fn questions() -> String {
+    fn list<T: ToString>(numbers: &[T]) -> String {
+        let numbers: Vec<String> = numbers.iter().map(T::to_string).collect();
+        numbers.join(" ")
     }
-    text += "\npub(crate) fn run() {\n";
-    for part in 0..inputs.len().div_ceil(PART) {
-        text += &format!("    part_{part}();\n");
+    let mut text = String::new();
+    for (number, input) in inputs().iter().enumerate() {
+        let head = [input.r, input.m, input.bound, input.room, input.constants as usize];
+        let fields = [
+            format!("sample {number}"),
+            list(&head),
+            list(&input.marks),
+            list(&input.lengths),
+            list(&input.words),
+            list(&input.unary),
+            list(&input.binary),
+        ];
+        let lent = format!("9:{PLACES}/9:{PLACES}/9:{PLACES}/9:{PLACES}/9:{WORDS}");
+        text += &format!("{}/{lent}/said\n", fields.join("/"));
     }
-    text + "}\n"
+    text
 }
 
-/// What the module has to print.
+/// What the program has to print for them.
 pub fn lines() -> String {
     fn list<T: ToString>(numbers: &[T]) -> String {
         let numbers: Vec<String> = numbers.iter().map(T::to_string).collect();

@@ -14,29 +14,13 @@ Inv-loop codes unary i₀ i = GoodBelow unary codes i
 abbrev μ-loop : tie.MeasureT-loop
 μ-loop codes unary i₀ i = length codes - i
 
-loop-holds : tie.Need-loop-holds Inv-loop μ-loop
-loop-holds c = good-none _ _
-
-shared-slice-read-code : tie.Need-shared-slice-read-code Inv-loop μ-loop
-shared-slice-read-code c = search needs
-
-in-group-requires : tie.Need-in-group-requires Inv-loop μ-loop
-in-group-requires c κs = search needs
-
-seen-requires : tie.Need-seen-requires Inv-loop μ-loop
-seen-requires c κs = search needs
-
 returns : tie.Need-returns Inv-loop μ-loop
-returns c = let w = rw (c .if2 .taken) at (c .before .seen .ensures) in inr (w .0, c .before .before .before .before .before .before .loop .i, w .1, c .before .before .before .before .before .loop-test .taken, w .2)
-
-add-i : tie.Need-add-i Inv-loop μ-loop
-add-i c = search needs
-
-loop-less : tie.Need-loop-less Inv-loop μ-loop
-loop-less c = search needs
+returns c = let w = rw (c .if2 .taken) at (c .before .seen .ensures) in inr
+    (w .0, c .before .before .before .before .before .before .loop .i, w .1, c .before .before .before .before .before .loop-test .taken, w .2)
 
 loop-again : tie.Need-loop-again Inv-loop μ-loop
-loop-again c = good-more (c .before .before .before .before .before .before .loop .inv) (c .before .before .before .before .before .loop-test .taken) (rw (c .before .before .if1 .taken) at (c .before .before .before .in-group .ensures)) (rw (c .if2 .left) at (c .before .seen .ensures))
+loop-again c = good-more (c .before .before .before .before .before .before .loop .inv) (c .before .before .before .before .before .loop-test .taken)
+    (rw (c .before .before .if1 .taken) at (c .before .before .before .in-group .ensures)) (rw (c .if2 .left) at (c .before .seen .ensures))
 
 returns-2 : tie.Need-returns-2 Inv-loop μ-loop
 returns-2 c = inl (c .before .before .before .before .loop .i, c .before .before .before .loop-test .taken, rw (c .if1 .left) at (c .before .in-group .ensures))
@@ -45,18 +29,6 @@ returns-3 : tie.Need-returns-3 Inv-loop μ-loop
 returns-3 c = good-all (c .before .loop .inv) (c .loop-test .left)
 
 pub codes-good-spec : {M : Type 1} → statement M
-codes-good-spec =
-    tie.close
-    (tie.spec
-    Inv-loop
-    μ-loop
-    loop-holds
-    shared-slice-read-code
-    in-group-requires
-    seen-requires
-    returns
-    add-i
-    loop-less
-    loop-again
-    returns-2
-    returns-3)
+codes-good-spec = tie.close (tie.spec
+    Inv-loop μ-loop (λ c. good-none _ _) (λ c. search needs) (λ c κs. search needs) (λ c κs. search needs) returns (λ c. search needs)
+    (λ c. search needs) loop-again returns-2 returns-3)

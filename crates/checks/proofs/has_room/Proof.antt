@@ -6,27 +6,13 @@ use Rattle.rows.proofs.Products.{at-most}
 use Rattle.checks.proofs.has_room.Statement.{statement}
 use Rattle.checks.proofs.has_room.Tie as tie
 
-returns : tie.Need-returns
-returns c = inl (c .if1 .taken)
-
-returns-2 : tie.Need-returns-2
-returns-2 c = inr (inl (c .if2 .taken))
-
-returns-3 : tie.Need-returns-3
-returns-3 c = inr (inr (inl (c .if3 .taken)))
-
-returns-4 : tie.Need-returns-4
-returns-4 c = inr (inr (inr (inl (c .if4 .taken))))
-
 mul-if5 : tie.Need-mul-if5
 mul-if5 c = omega (arith, at-most (c .before .before .before .before .args .room) 4096 (c .before .before .before .before .args .r) 32 (omega arith) (omega arith))
-
-returns-5 : tie.Need-returns-5
-returns-5 c = inr (inr (inr (inr (c .if5 .taken))))
 
 returns-6 : tie.Need-returns-6
 returns-6 c = (omega arith, omega arith, omega arith, omega arith, omega arith)
 
 pub has-room-spec : {M : Type 1} → statement M
 has-room-spec =
-    tie.close (tie.spec returns returns-2 returns-3 returns-4 mul-if5 returns-5 returns-6)
+    tie.close (tie.spec (λ c. inl (c .if1 .taken)) (λ c. inr (inl (c .if2 .taken))) (λ c. inr (inr (inl (c .if3 .taken))))
+    (λ c. inr (inr (inr (inl (c .if4 .taken))))) mul-if5 (λ c. inr (inr (inr (inr (c .if5 .taken))))) returns-6)

@@ -4,33 +4,24 @@ use mathlib.Core.Path.{_≡_}
 use Prim.Native.Nat.{ℕ}
 use native.Mathlib.Omega.{arith}
 use borrow.Author.Needs.{needs}
-use Rattle.sequence.proofs.Groups.{in-unary, in-binary, off-unary, off-binary}
+use Rattle.operators.proofs.Groups.{in-unary, in-binary, off-unary, off-binary}
 use Rattle.checks.proofs.Codes.{group-unary, group-binary, group-neither}
 use Rattle.checks.proofs.in_group.Statement.{statement}
 use Rattle.checks.proofs.in_group.Tie as tie
-
-operator-of-requires : tie.Need-operator-of-requires
-operator-of-requires c κs = search needs
-
-enum-told : tie.Need-enum-told
-enum-told c = search needs
-
-enum-told-2 : tie.Need-enum-told-2
-enum-told-2 c = search needs
-
-enum-told-3 : tie.Need-enum-told-3
-enum-told-3 c = search needs
 
 returns : tie.Need-returns
 returns c = let f = c .before .before .operator-of in let op = in-unary _ (f .result) (f .ensures) (c .enum-told .given .1) in group-unary (c .before .before .before .args .unary) _ (op .0) (op .1)
 
 returns-2 : tie.Need-returns-2
-returns-2 c = let f = c .before .before .operator-of in let op = in-binary _ (f .result) (f .ensures) (c .enum-told2 .given .1) in group-binary (c .before .before .before .args .unary) _ (op .0) (op .1)
+returns-2 c = let f = c .before .before .operator-of in let op = in-binary _ (f .result) (f .ensures) (c .enum-told2 .given .1) in group-binary
+    (c .before .before .before .args .unary) _ (op .0) (op .1)
 
 returns-3 : tie.Need-returns-3
-returns-3 c = let f = c .before .before .operator-of in group-neither (c .before .before .before .args .unary) _ (off-unary _ (f .result) (f .ensures) (λ g. let z : _≡_ {A = ℕ} 0 1 = cc (c .enum-told3 .given .1) in omega arith)) (off-binary _ (f .result) (f .ensures) (λ g. let z : _≡_ {A = ℕ} 0 1 = cc (c .enum-told3 .given .1) in omega arith))
+returns-3 c = let f = c .before .before .operator-of in group-neither (c .before .before .before .args .unary) _
+    (off-unary _ (f .result) (f .ensures) (λ g. let z : _≡_ {A = ℕ} 0 1 = cc (c .enum-told3 .given .1) in omega arith))
+    (off-binary _ (f .result) (f .ensures) (λ g. let z : _≡_ {A = ℕ} 0 1 = cc (c .enum-told3 .given .1) in omega arith))
 
 pub in-group-spec : {M : Type 1} → statement M
 in-group-spec =
     tie.close
-    (tie.spec operator-of-requires enum-told enum-told-2 enum-told-3 returns returns-2 returns-3)
+    (tie.spec (λ c κs. search needs) (λ c. search needs) (λ c. search needs) (λ c. search needs) returns returns-2 returns-3)

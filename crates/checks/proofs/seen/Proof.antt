@@ -15,20 +15,8 @@ Inv-loop codes n code i₀ i = (i ≤ n) × ((o : ℕ) → o < i → getD codes 
 abbrev μ-loop : tie.MeasureT-loop
 μ-loop codes n code i₀ i = n - i
 
-loop-holds : tie.Need-loop-holds Inv-loop μ-loop
-loop-holds c = search needs
-
-shared-slice-read-if1 : tie.Need-shared-slice-read-if1 Inv-loop μ-loop
-shared-slice-read-if1 c = search needs
-
 returns : tie.Need-returns Inv-loop μ-loop
 returns c = (c .before .before .before .loop .i, c .before .before .loop-test .taken, c .if1 .taken)
-
-add-i : tie.Need-add-i Inv-loop μ-loop
-add-i c = search needs
-
-loop-less : tie.Need-loop-less Inv-loop μ-loop
-loop-less c = search needs
 
 loop-again : tie.Need-loop-again Inv-loop μ-loop
 loop-again c = (omega arith, below-more _ _ (c .before .before .before .loop .inv .1) (c .if1 .left))
@@ -37,15 +25,5 @@ returns-2 : tie.Need-returns-2 Inv-loop μ-loop
 returns-2 c = λ w. c .before .loop .inv .1 (w .0) (omega (arith, w .1)) (w .2)
 
 pub seen-spec : {M : Type 1} → statement M
-seen-spec =
-    tie.close
-    (tie.spec
-    Inv-loop
-    μ-loop
-    loop-holds
-    shared-slice-read-if1
-    returns
-    add-i
-    loop-less
-    loop-again
-    returns-2)
+seen-spec = tie.close (tie.spec
+    Inv-loop μ-loop (λ c. search needs) (λ c. search needs) returns (λ c. search needs) (λ c. search needs) loop-again returns-2)

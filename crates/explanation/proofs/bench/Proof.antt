@@ -8,31 +8,12 @@ use borrow.Author.Needs.{needs}
 use Rattle.explanation.proofs.bench.Statement.{statement}
 use Rattle.explanation.proofs.bench.Tie as tie
 
-of-file-requires : tie.Need-of-file-requires
-of-file-requires c κs = search needs
-
-array-share-prefix-lines : tie.Need-array-share-prefix-lines
-array-share-prefix-lines c = lines-in (c .before .of-file .ensures)
-
 slice-aggregate-put : tie.Need-slice-aggregate-put
 slice-aggregate-put c = sym (length-take-le _ _ (lines-in (c .before .before .of-file .ensures)))
-
-put-requires : tie.Need-put-requires
-put-requires c κs = search needs
-
-same-length : tie.Need-same-length
-same-length c = search needs
 
 returns : tie.Need-returns
 returns c = bench-stands (c .before .before .before .before .before .of-file .ensures) (c .before .before .put .ensures)
 
 pub bench-spec : {M : Type 1} → statement M
-bench-spec =
-    tie.close
-    (tie.spec
-    of-file-requires
-    array-share-prefix-lines
-    slice-aggregate-put
-    put-requires
-    same-length
-    returns)
+bench-spec = tie.close (tie.spec
+    (λ c κs. search needs) (λ c. lines-in (c .before .of-file .ensures)) slice-aggregate-put (λ c κs. search needs) (λ c. search needs) returns)

@@ -20,127 +20,149 @@ roomy = record {
   matrices = length-replicate {A = ℕ} 131072 0;
 }
 
-slice-aggregate-search : tie.Need-slice-aggregate-search
-slice-aggregate-search c = search needs
-
-slice-aggregate-search-2 : tie.Need-slice-aggregate-search-2
-slice-aggregate-search-2 c = search needs
-
-slice-aggregate-search-3 : tie.Need-slice-aggregate-search-3
-slice-aggregate-search-3 c = search needs
-
-slice-aggregate-search-4 : tie.Need-slice-aggregate-search-4
-slice-aggregate-search-4 c = search needs
-
-slice-aggregate-search-5 : tie.Need-slice-aggregate-search-5
-slice-aggregate-search-5 c = search needs
-
-search-requires : tie.Need-search-requires
-search-requires c κs = search needs
-
-enum-known-answer : tie.Need-enum-known-answer
-enum-known-answer c = search needs
-
 array-share-prefix-codes : tie.Need-array-share-prefix-codes
-array-share-prefix-codes c = codes-in (this (c .before .before .before .before .before .before .before .before .before .before .before .before .before .before .before .before .before .before .before .before .before .args .file .now) _ (c .before .before .before .before .before .before .before .before .before .before .before .before .before .before .before .before .before .before .before .before .before .pre .0 .0) (c .before .before .before .before .before .before .before .before .before .before .before .before .before .before .before .before .before .before .before .before .before .pre .0 .1) (c .before .before .before .before .before .before .before .before .before .before .before .before .before .before .before .before .before .before .before .before .before .pre .0 .2) _ roomy _ (c .before .before .before .before .before .before .before .before .search .result) (c .before .before .before .before .before .before .before .before .search .ensures) (c .before .answer .given .1))
+array-share-prefix-codes c = codes-in (this (c .before .before .before .before .before .before .before .before .before .before .before .before .before .before .before
+    .before .before .before .before .before .before .args .file .now) _ (c .before .before .before .before .before .before .before .before .before .before .before
+    .before .before .before .before .before .before .before .before .before .before .pre .0 .0)
+    (c .before .before .before .before .before .before .before .before .before .before .before .before .before .before .before .before .before .before .before .before
+    .before .pre .0 .1) (c .before .before .before .before .before .before .before .before .before .before .before .before .before .before .before .before .before
+    .before .before .before .before .pre .0 .2) _ roomy _ (c .before .before .before .before .before .before .before .before .search .result)
+    (c .before .before .before .before .before .before .before .before .search .ensures) (c .before .answer .given .1))
 
 slice-aggregate-reported : tie.Need-slice-aggregate-reported
-slice-aggregate-reported c = codes-part (this (c .before .before .before .before .before .before .before .before .before .before .before .before .before .before .before .before .before .before .before .before .before .before .args .file .now) _ (c .before .before .before .before .before .before .before .before .before .before .before .before .before .before .before .before .before .before .before .before .before .before .pre .0 .0) (c .before .before .before .before .before .before .before .before .before .before .before .before .before .before .before .before .before .before .before .before .before .before .pre .0 .1) (c .before .before .before .before .before .before .before .before .before .before .before .before .before .before .before .before .before .before .before .before .before .before .pre .0 .2) _ roomy _ (c .before .before .before .before .before .before .before .before .before .search .result) (c .before .before .before .before .before .before .before .before .before .search .ensures) (c .before .before .answer .given .1))
+slice-aggregate-reported c = codes-part (this (c .before .before .before .before .before .before .before .before .before .before .before .before .before .before .before
+    .before .before .before .before .before .before .before .args .file .now) _ (c .before .before .before .before .before .before .before .before .before .before
+    .before .before .before .before .before .before .before .before .before .before .before .before .pre .0 .0)
+    (c .before .before .before .before .before .before .before .before .before .before .before .before .before .before .before .before .before .before .before .before
+    .before .before .pre .0 .1) (c .before .before .before .before .before .before .before .before .before .before .before .before .before .before .before .before
+    .before .before .before .before .before .before .pre .0 .2) _ roomy _ (c .before .before .before .before .before .before .before .before .before .search .result)
+    (c .before .before .before .before .before .before .before .before .before .search .ensures) (c .before .before .answer .given .1))
 
 array-share-prefix-lefts : tie.Need-array-share-prefix-lefts
-array-share-prefix-lefts c = lefts-in (this (c .before .before .before .before .before .before .before .before .before .before .before .before .before .before .before .before .before .before .before .before .before .before .args .file .now) _ (c .before .before .before .before .before .before .before .before .before .before .before .before .before .before .before .before .before .before .before .before .before .before .pre .0 .0) (c .before .before .before .before .before .before .before .before .before .before .before .before .before .before .before .before .before .before .before .before .before .before .pre .0 .1) (c .before .before .before .before .before .before .before .before .before .before .before .before .before .before .before .before .before .before .before .before .before .before .pre .0 .2) _ roomy _ (c .before .before .before .before .before .before .before .before .before .search .result) (c .before .before .before .before .before .before .before .before .before .search .ensures) (c .before .before .answer .given .1))
+array-share-prefix-lefts c = lefts-in (this (c .before .before .before .before .before .before .before .before .before .before .before .before .before .before .before
+    .before .before .before .before .before .before .before .args .file .now) _ (c .before .before .before .before .before .before .before .before .before .before
+    .before .before .before .before .before .before .before .before .before .before .before .before .pre .0 .0)
+    (c .before .before .before .before .before .before .before .before .before .before .before .before .before .before .before .before .before .before .before .before
+    .before .before .pre .0 .1) (c .before .before .before .before .before .before .before .before .before .before .before .before .before .before .before .before
+    .before .before .before .before .before .before .pre .0 .2) _ roomy _ (c .before .before .before .before .before .before .before .before .before .search .result)
+    (c .before .before .before .before .before .before .before .before .before .search .ensures) (c .before .before .answer .given .1))
 
 slice-aggregate-reported-2 : tie.Need-slice-aggregate-reported-2
-slice-aggregate-reported-2 c = lefts-part (this (c .before .before .before .before .before .before .before .before .before .before .before .before .before .before .before .before .before .before .before .before .before .before .before .args .file .now) _ (c .before .before .before .before .before .before .before .before .before .before .before .before .before .before .before .before .before .before .before .before .before .before .before .pre .0 .0) (c .before .before .before .before .before .before .before .before .before .before .before .before .before .before .before .before .before .before .before .before .before .before .before .pre .0 .1) (c .before .before .before .before .before .before .before .before .before .before .before .before .before .before .before .before .before .before .before .before .before .before .before .pre .0 .2) _ roomy _ (c .before .before .before .before .before .before .before .before .before .before .search .result) (c .before .before .before .before .before .before .before .before .before .before .search .ensures) (c .before .before .before .answer .given .1))
+slice-aggregate-reported-2 c = lefts-part (this (c .before .before .before .before .before .before .before .before .before .before .before .before .before .before
+    .before .before .before .before .before .before .before .before .before .args .file .now) _
+    (c .before .before .before .before .before .before .before .before .before .before .before .before .before .before .before .before .before .before .before .before
+    .before .before .before .pre .0 .0) (c .before .before .before .before .before .before .before .before .before .before .before .before .before .before .before
+    .before .before .before .before .before .before .before .before .pre .0 .1) (c .before .before .before .before .before .before .before .before .before .before
+    .before .before .before .before .before .before .before .before .before .before .before .before .before .pre .0 .2) _ roomy _
+    (c .before .before .before .before .before .before .before .before .before .before .search .result)
+    (c .before .before .before .before .before .before .before .before .before .before .search .ensures) (c .before .before .before .answer .given .1))
 
 array-share-prefix-rights : tie.Need-array-share-prefix-rights
-array-share-prefix-rights c = rights-in (this (c .before .before .before .before .before .before .before .before .before .before .before .before .before .before .before .before .before .before .before .before .before .before .before .args .file .now) _ (c .before .before .before .before .before .before .before .before .before .before .before .before .before .before .before .before .before .before .before .before .before .before .before .pre .0 .0) (c .before .before .before .before .before .before .before .before .before .before .before .before .before .before .before .before .before .before .before .before .before .before .before .pre .0 .1) (c .before .before .before .before .before .before .before .before .before .before .before .before .before .before .before .before .before .before .before .before .before .before .before .pre .0 .2) _ roomy _ (c .before .before .before .before .before .before .before .before .before .before .search .result) (c .before .before .before .before .before .before .before .before .before .before .search .ensures) (c .before .before .before .answer .given .1))
+array-share-prefix-rights c = rights-in (this (c .before .before .before .before .before .before .before .before .before .before .before .before .before .before .before
+    .before .before .before .before .before .before .before .before .args .file .now) _
+    (c .before .before .before .before .before .before .before .before .before .before .before .before .before .before .before .before .before .before .before .before
+    .before .before .before .pre .0 .0) (c .before .before .before .before .before .before .before .before .before .before .before .before .before .before .before
+    .before .before .before .before .before .before .before .before .pre .0 .1) (c .before .before .before .before .before .before .before .before .before .before
+    .before .before .before .before .before .before .before .before .before .before .before .before .before .pre .0 .2) _ roomy _
+    (c .before .before .before .before .before .before .before .before .before .before .search .result)
+    (c .before .before .before .before .before .before .before .before .before .before .search .ensures) (c .before .before .before .answer .given .1))
 
 slice-aggregate-reported-3 : tie.Need-slice-aggregate-reported-3
-slice-aggregate-reported-3 c = rights-part (this (c .before .before .before .before .before .before .before .before .before .before .before .before .before .before .before .before .before .before .before .before .before .before .before .before .args .file .now) _ (c .before .before .before .before .before .before .before .before .before .before .before .before .before .before .before .before .before .before .before .before .before .before .before .before .pre .0 .0) (c .before .before .before .before .before .before .before .before .before .before .before .before .before .before .before .before .before .before .before .before .before .before .before .before .pre .0 .1) (c .before .before .before .before .before .before .before .before .before .before .before .before .before .before .before .before .before .before .before .before .before .before .before .before .pre .0 .2) _ roomy _ (c .before .before .before .before .before .before .before .before .before .before .before .search .result) (c .before .before .before .before .before .before .before .before .before .before .before .search .ensures) (c .before .before .before .before .answer .given .1))
+slice-aggregate-reported-3 c = rights-part (this (c .before .before .before .before .before .before .before .before .before .before .before .before .before .before
+    .before .before .before .before .before .before .before .before .before .before .args .file .now) _
+    (c .before .before .before .before .before .before .before .before .before .before .before .before .before .before .before .before .before .before .before .before
+    .before .before .before .before .pre .0 .0) (c .before .before .before .before .before .before .before .before .before .before .before .before .before .before
+    .before .before .before .before .before .before .before .before .before .before .pre .0 .1)
+    (c .before .before .before .before .before .before .before .before .before .before .before .before .before .before .before .before .before .before .before .before
+    .before .before .before .before .pre .0 .2) _ roomy _ (c .before .before .before .before .before .before .before .before .before .before .before .search .result)
+    (c .before .before .before .before .before .before .before .before .before .before .before .search .ensures) (c .before .before .before .before .answer .given .1))
 
 array-share-prefix-sizes : tie.Need-array-share-prefix-sizes
-array-share-prefix-sizes c = sizes-in (this (c .before .before .before .before .before .before .before .before .before .before .before .before .before .before .before .before .before .before .before .before .before .before .before .before .args .file .now) _ (c .before .before .before .before .before .before .before .before .before .before .before .before .before .before .before .before .before .before .before .before .before .before .before .before .pre .0 .0) (c .before .before .before .before .before .before .before .before .before .before .before .before .before .before .before .before .before .before .before .before .before .before .before .before .pre .0 .1) (c .before .before .before .before .before .before .before .before .before .before .before .before .before .before .before .before .before .before .before .before .before .before .before .before .pre .0 .2) _ roomy _ (c .before .before .before .before .before .before .before .before .before .before .before .search .result) (c .before .before .before .before .before .before .before .before .before .before .before .search .ensures) (c .before .before .before .before .answer .given .1))
+array-share-prefix-sizes c = sizes-in (this (c .before .before .before .before .before .before .before .before .before .before .before .before .before .before .before
+    .before .before .before .before .before .before .before .before .before .args .file .now) _
+    (c .before .before .before .before .before .before .before .before .before .before .before .before .before .before .before .before .before .before .before .before
+    .before .before .before .before .pre .0 .0) (c .before .before .before .before .before .before .before .before .before .before .before .before .before .before
+    .before .before .before .before .before .before .before .before .before .before .pre .0 .1)
+    (c .before .before .before .before .before .before .before .before .before .before .before .before .before .before .before .before .before .before .before .before
+    .before .before .before .before .pre .0 .2) _ roomy _ (c .before .before .before .before .before .before .before .before .before .before .before .search .result)
+    (c .before .before .before .before .before .before .before .before .before .before .before .search .ensures) (c .before .before .before .before .answer .given .1))
 
 slice-aggregate-reported-4 : tie.Need-slice-aggregate-reported-4
-slice-aggregate-reported-4 c = sizes-part (this (c .before .before .before .before .before .before .before .before .before .before .before .before .before .before .before .before .before .before .before .before .before .before .before .before .before .args .file .now) _ (c .before .before .before .before .before .before .before .before .before .before .before .before .before .before .before .before .before .before .before .before .before .before .before .before .before .pre .0 .0) (c .before .before .before .before .before .before .before .before .before .before .before .before .before .before .before .before .before .before .before .before .before .before .before .before .before .pre .0 .1) (c .before .before .before .before .before .before .before .before .before .before .before .before .before .before .before .before .before .before .before .before .before .before .before .before .before .pre .0 .2) _ roomy _ (c .before .before .before .before .before .before .before .before .before .before .before .before .search .result) (c .before .before .before .before .before .before .before .before .before .before .before .before .search .ensures) (c .before .before .before .before .before .answer .given .1))
+slice-aggregate-reported-4 c = sizes-part (this (c .before .before .before .before .before .before .before .before .before .before .before .before .before .before
+    .before .before .before .before .before .before .before .before .before .before .before .args .file .now) _
+    (c .before .before .before .before .before .before .before .before .before .before .before .before .before .before .before .before .before .before .before .before
+    .before .before .before .before .before .pre .0 .0) (c .before .before .before .before .before .before .before .before .before .before .before .before .before
+    .before .before .before .before .before .before .before .before .before .before .before .before .pre .0 .1)
+    (c .before .before .before .before .before .before .before .before .before .before .before .before .before .before .before .before .before .before .before .before
+    .before .before .before .before .before .pre .0 .2) _ roomy _ (c .before .before .before .before .before .before .before .before .before .before .before
+    .before .search .result) (c .before .before .before .before .before .before .before .before .before .before .before .before .search .ensures)
+    (c .before .before .before .before .before .answer .given .1))
 
 reported-requires : tie.Need-reported-requires
-reported-requires c κs = (found-passes (c .before .before .before .before .before .before .before .before .before .before .before .before .before .before .before .before .before .before .before .before .before .before .before .before .before .before .args .file .now) _ (c .before .before .before .before .before .before .before .before .before .before .before .before .before .before .before .before .before .before .before .before .before .before .before .before .before .before .pre .0 .0) (c .before .before .before .before .before .before .before .before .before .before .before .before .before .before .before .before .before .before .before .before .before .before .before .before .before .before .pre .0 .1) (c .before .before .before .before .before .before .before .before .before .before .before .before .before .before .before .before .before .before .before .before .before .before .before .before .before .before .pre .0 .2) _ roomy _ (c .before .before .before .before .before .before .before .before .before .before .before .before .before .search .result) (c .before .before .before .before .before .before .before .before .before .before .before .before .before .search .ensures) (c .before .before .before .before .before .before .answer .given .1), c .before .before .before .before .before .before .before .before .before .before .before .before .before .before .before .before .before .before .before .before .before .before .before .before .before .before .pre .1)
-
-enum-told : tie.Need-enum-told
-enum-told c = search needs
-
-bench-requires : tie.Need-bench-requires
-bench-requires c κs = search needs
-
-enum-told-2 : tie.Need-enum-told-2
-enum-told-2 c = search needs
-
-bench-requires-2 : tie.Need-bench-requires-2
-bench-requires-2 c κs = search needs
-
-enum-told-3 : tie.Need-enum-told-3
-enum-told-3 c = search needs
-
-bench-requires-3 : tie.Need-bench-requires-3
-bench-requires-3 c κs = search needs
-
-same-length : tie.Need-same-length
-same-length c = search needs
+reported-requires c κs = (
+  found-passes (c .before .before .before .before .before .before .before .before .before .before .before .before .before .before .before
+      .before .before .before .before .before .before .before .before .before .before .before .args .file .now) _
+      (c .before .before .before .before .before .before .before .before .before .before .before .before .before .before .before .before .before .before .before .before
+      .before .before .before .before .before .before .pre .0 .0) (c .before .before .before .before .before .before .before .before .before .before .before .before
+      .before .before .before .before .before .before .before .before .before .before .before .before .before .before .pre .0 .1)
+      (c .before .before .before .before .before .before .before .before .before .before .before .before .before .before .before .before .before .before .before .before
+      .before .before .before .before .before .before .pre .0 .2) _ roomy _ (c .before .before .before .before .before .before .before .before .before .before .before
+      .before .before .search .result) (c .before .before .before .before .before .before .before .before .before .before .before .before .before .search .ensures)
+      (c .before .before .before .before .before .before .answer .given .1),
+  c .before .before .before .before .before .before .before .before .before .before .before
+      .before .before .before .before .before .before .before .before .before .before .before .before .before .before .before .pre .1,
+)
 
 returns : tie.Need-returns
-returns c = found-stands (c .before .before .before .before .before .before .before .before .before .before .before .before .before .before .before .before .before .before .before .before .before .before .before .before .before .before .before .before .before .args .file .now) _ (c .before .before .before .before .before .before .before .before .before .before .before .before .before .before .before .before .before .before .before .before .before .before .before .before .before .before .before .before .before .pre .0 .0) (c .before .before .before .before .before .before .before .before .before .before .before .before .before .before .before .before .before .before .before .before .before .before .before .before .before .before .before .before .before .pre .0 .1) (c .before .before .before .before .before .before .before .before .before .before .before .before .before .before .before .before .before .before .before .before .before .before .before .before .before .before .before .before .before .pre .0 .2) _ roomy _ (c .before .before .before .before .before .before .before .before .before .before .before .before .before .before .before .before .search .result) (c .before .before .before .before .before .before .before .before .before .before .before .before .before .before .before .before .search .ensures) (c .before .before .before .before .before .before .before .before .before .answer .given .1) (c .before .before .reported .ensures)
-
-same-length-2 : tie.Need-same-length-2
-same-length-2 c = search needs
+returns c = found-stands (c .before .before .before .before .before .before .before .before .before .before .before .before .before .before .before .before .before
+    .before .before .before .before .before .before .before .before .before .before .before .before .args .file .now) _
+    (c .before .before .before .before .before .before .before .before .before .before .before .before .before .before .before .before .before .before .before .before
+    .before .before .before .before .before .before .before .before .before .pre .0 .0)
+    (c .before .before .before .before .before .before .before .before .before .before .before .before .before .before .before .before .before .before .before .before
+    .before .before .before .before .before .before .before .before .before .pre .0 .1)
+    (c .before .before .before .before .before .before .before .before .before .before .before .before .before .before .before .before .before .before .before .before
+    .before .before .before .before .before .before .before .before .before .pre .0 .2) _ roomy _
+    (c .before .before .before .before .before .before .before .before .before .before .before .before .before .before .before .before .search .result)
+    (c .before .before .before .before .before .before .before .before .before .before .before .before .before .before .before .before .search .ensures)
+    (c .before .before .before .before .before .before .before .before .before .answer .given .1) (c .before .before .reported .ensures)
 
 returns-2 : tie.Need-returns-2
-returns-2 c = none-stands (c .before .before .before .before .before .before .before .before .before .before .before .before .before .before .before .before .before .before .before .before .before .before .before .before .args .file .now) _ (c .before .before .before .before .before .before .before .before .before .before .before .before .before .before .before .before .before .before .before .before .before .before .before .before .pre .0 .0) (c .before .before .before .before .before .before .before .before .before .before .before .before .before .before .before .before .before .before .before .before .before .before .before .before .pre .0 .1) (c .before .before .before .before .before .before .before .before .before .before .before .before .before .before .before .before .before .before .before .before .before .before .before .before .pre .0 .2) _ roomy _ (c .before .before .before .before .before .before .before .before .before .before .before .search .result) (c .before .before .before .before .before .before .before .before .before .before .before .search .ensures) (c .before .before .before .before .enum-told .given .1) (c .before .before .bench .ensures)
-
-same-length-3 : tie.Need-same-length-3
-same-length-3 c = search needs
+returns-2 c = none-stands (c .before .before .before .before .before .before .before .before .before .before .before .before .before .before .before .before .before
+    .before .before .before .before .before .before .before .args .file .now) _ (c .before .before .before .before .before .before .before .before .before .before
+    .before .before .before .before .before .before .before .before .before .before .before .before .before .before .pre .0 .0)
+    (c .before .before .before .before .before .before .before .before .before .before .before .before .before .before .before .before .before .before .before .before
+    .before .before .before .before .pre .0 .1) (c .before .before .before .before .before .before .before .before .before .before .before .before .before .before
+    .before .before .before .before .before .before .before .before .before .before .pre .0 .2) _ roomy _
+    (c .before .before .before .before .before .before .before .before .before .before .before .search .result)
+    (c .before .before .before .before .before .before .before .before .before .before .before .search .ensures) (c .before .before .before .before .enum-told .given .1)
+    (c .before .before .bench .ensures)
 
 returns-3 : tie.Need-returns-3
-returns-3 c = full-stands (c .before .before .before .before .before .before .before .before .before .before .before .before .before .before .before .before .before .before .before .before .before .before .before .before .args .file .now) _ (c .before .before .before .before .before .before .before .before .before .before .before .before .before .before .before .before .before .before .before .before .before .before .before .before .pre .0 .0) (c .before .before .before .before .before .before .before .before .before .before .before .before .before .before .before .before .before .before .before .before .before .before .before .before .pre .0 .1) (c .before .before .before .before .before .before .before .before .before .before .before .before .before .before .before .before .before .before .before .before .before .before .before .before .pre .0 .2) _ roomy _ (c .before .before .before .before .before .before .before .before .before .before .before .search .result) (c .before .before .before .before .before .before .before .before .before .before .before .search .ensures) (c .before .before .before .before .enum-told2 .given .1) (c .before .before .bench2 .ensures)
-
-same-length-4 : tie.Need-same-length-4
-same-length-4 c = search needs
+returns-3 c = full-stands (c .before .before .before .before .before .before .before .before .before .before .before .before .before .before .before .before .before
+    .before .before .before .before .before .before .before .args .file .now) _ (c .before .before .before .before .before .before .before .before .before .before
+    .before .before .before .before .before .before .before .before .before .before .before .before .before .before .pre .0 .0)
+    (c .before .before .before .before .before .before .before .before .before .before .before .before .before .before .before .before .before .before .before .before
+    .before .before .before .before .pre .0 .1) (c .before .before .before .before .before .before .before .before .before .before .before .before .before .before
+    .before .before .before .before .before .before .before .before .before .before .pre .0 .2) _ roomy _
+    (c .before .before .before .before .before .before .before .before .before .before .before .search .result)
+    (c .before .before .before .before .before .before .before .before .before .before .before .search .ensures) (c .before .before .before .before .enum-told2 .given .1)
+    (c .before .before .bench2 .ensures)
 
 returns-4 : tie.Need-returns-4
-returns-4 c = refused-stands (c .before .before .before .before .before .before .before .before .before .before .before .before .before .before .before .before .before .before .before .before .before .before .before .before .args .file .now) _ (c .before .before .before .before .before .before .before .before .before .before .before .before .before .before .before .before .before .before .before .before .before .before .before .before .pre .0 .0) (c .before .before .before .before .before .before .before .before .before .before .before .before .before .before .before .before .before .before .before .before .before .before .before .before .pre .0 .1) (c .before .before .before .before .before .before .before .before .before .before .before .before .before .before .before .before .before .before .before .before .before .before .before .before .pre .0 .2) _ roomy _ (c .before .before .before .before .before .before .before .before .before .before .before .search .result) (c .before .before .before .before .before .before .before .before .before .before .before .search .ensures) (c .before .before .before .before .enum-told3 .given .1) (c .before .before .bench3 .ensures)
+returns-4 c = refused-stands (c .before .before .before .before .before .before .before .before .before .before .before .before .before .before .before .before .before
+    .before .before .before .before .before .before .before .args .file .now) _ (c .before .before .before .before .before .before .before .before .before .before
+    .before .before .before .before .before .before .before .before .before .before .before .before .before .before .pre .0 .0)
+    (c .before .before .before .before .before .before .before .before .before .before .before .before .before .before .before .before .before .before .before .before
+    .before .before .before .before .pre .0 .1) (c .before .before .before .before .before .before .before .before .before .before .before .before .before .before
+    .before .before .before .before .before .before .before .before .before .before .pre .0 .2) _ roomy _
+    (c .before .before .before .before .before .before .before .before .before .before .before .search .result)
+    (c .before .before .before .before .before .before .before .before .before .before .before .search .ensures) (c .before .before .before .before .enum-told3 .given .1)
+    (c .before .before .bench3 .ensures)
 
 pub searched-spec : {M : Type 1} → statement M
-searched-spec =
-    tie.close
-    (tie.spec
-    slice-aggregate-search
-    slice-aggregate-search-2
-    slice-aggregate-search-3
-    slice-aggregate-search-4
-    slice-aggregate-search-5
-    search-requires
-    enum-known-answer
-    array-share-prefix-codes
-    slice-aggregate-reported
-    array-share-prefix-lefts
-    slice-aggregate-reported-2
-    array-share-prefix-rights
-    slice-aggregate-reported-3
-    array-share-prefix-sizes
-    slice-aggregate-reported-4
-    reported-requires
-    enum-told
-    bench-requires
-    enum-told-2
-    bench-requires-2
-    enum-told-3
-    bench-requires-3
-    same-length
-    returns
-    same-length-2
-    returns-2
-    same-length-3
-    returns-3
-    same-length-4
-    returns-4)
+searched-spec = tie.close (tie.spec
+    (λ c. search needs) (λ c. search needs) (λ c. search needs) (λ c. search needs) (λ c. search needs) (λ c κs. search needs) (λ c. search needs)
+    array-share-prefix-codes slice-aggregate-reported array-share-prefix-lefts slice-aggregate-reported-2 array-share-prefix-rights
+    slice-aggregate-reported-3 array-share-prefix-sizes slice-aggregate-reported-4 reported-requires (λ c. search needs) (λ c κs. search needs)
+    (λ c. search needs) (λ c κs. search needs) (λ c. search needs) (λ c κs. search needs) (λ c. search needs) returns (λ c. search needs) returns-2
+    (λ c. search needs) returns-3 (λ c. search needs) returns-4)

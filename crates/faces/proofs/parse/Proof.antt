@@ -47,16 +47,16 @@ use Rattle.reader.specs.declared.Parsed.{Parsed}
 use Rattle.reader.specs.Parsing.{saidParsed, Parses}
 use Rattle.reader.proofs.Parsed as Said-type
 use Rattle.reader.proofs.Parsed.Laws as Said-laws
-use Rattle.faces.specs.declared.parsing.Read.{Read}
-use Rattle.faces.specs.Typed.{fields}
-use Rattle.faces.specs.Placing.{placedOver, ReadIn}
-use Rattle.faces.proofs.parsing.Read as D
-use Rattle.faces.proofs.parsing.Read.Laws as D′
-use Rattle.faces.proofs.Placed.{as-read}
-use Rattle.faces.proofs.parsing.read_text as work
-use Rattle.faces.proofs.parsing.read_text.Symbol as work-def
-use Rattle.faces.proofs.parsing.read_text.Symbol.{name as #work}
-use Rattle.faces.proofs.parsing.read_text.Met as work-thm
+use Rattle.nodes_out.specs.declared.Read.{Read}
+use Rattle.nodes_out.specs.Columns.{fields}
+use Rattle.nodes_out.specs.Arrays.{placedOver, ReadIn}
+use Rattle.nodes_out.proofs.Read as D
+use Rattle.nodes_out.proofs.Read.Laws as D′
+use Rattle.nodes_out.proofs.Placed.{as-read}
+use Rattle.nodes_out.proofs.parse as work
+use Rattle.nodes_out.proofs.parse.Symbol as work-def
+use Rattle.nodes_out.proofs.parse.Symbol.{name as #work}
+use Rattle.nodes_out.proofs.parse.Met as work-thm
 use Rattle.faces.proofs.parsing.put as put
 use Rattle.faces.proofs.parsing.put.Symbol as put-def
 use Rattle.faces.proofs.parsing.put.Symbol.{name as #put}
@@ -174,7 +174,8 @@ module _ {M : Type 1} (𝓤 : URA M) (H : Heap 𝓤) (A : Atoms 𝓤) (W : Given
 
   exits : (r : Parsed) (w : Val) (ys : List Node) → Parses xs₀ xs₁ (fields xs₂) (fields ys) (saidParsed r) → length ys ≡ length xs₂ → ent 𝓤 (⋆ 𝓤 H A (Last r w ys)) (Post w)
   exits r w ys d l =
-      qed W (Last r w ys) ∵ suffices ! _ (ends-at 𝓤 H A this.ended stayed (this.clauses 𝓤 H A mem run) W (((κ₀, (κ₁, (κ₂, tt))), (q₀, (q₁, (q₂, tt))), tt, a, at), tt) w r (tt, (tt, (ys, tt))) (tt, (tt, (l, tt)))) $ says ! d $
+      qed W (Last r w ys) ∵ suffices ! _ (ends-at 𝓤 H A this.ended stayed (this.clauses 𝓤 H A mem run) W
+      (((κ₀, (κ₁, (κ₂, tt))), (q₀, (q₁, (q₂, tt))), tt, a, at), tt) w r (tt, (tt, (ys, tt))) (tt, (tt, (l, tt)))) $ says ! d $
       nothing ! $ move ! (3 ∷ 0 ∷ []) $ join ! $ move ! (2 ∷ 0 ∷ []) $ join ! $ move ! (1 ∷ 0 ∷ []) $ join ! $ frame ! $
       nothing ! $ move ! (3 ∷ 0 ∷ []) $ fjoin ! $ move ! (2 ∷ 0 ∷ []) $ fjoin ! $ move ! (1 ∷ 0 ∷ []) $ fjoin ! $ frame ! $ done !
 
@@ -190,33 +191,50 @@ module _ {M : Type 1} (𝓤 : URA M) (H : Heap 𝓤) (A : Atoms 𝓤) (W : Given
       (typed₁ : (d : Read) (w : Val) → Is D.the-row d (w ∷ []) → Holds (hasTy τ₁ w) × WT w) where
     module _ (l₀ l₁ l₂ l₃ l₄ l₅ l₆ l₇ : ℕ) where
       abbrev En : Env 𝓤 H
-      En = (τ₀, l₀) ∷ (s₀, l₁) ∷ (s₁, l₂) ∷ (s₂, l₃) ∷ (τ₁, l₄) ∷ ((tyInt w64), l₅) ∷ ((tyRef erased mut (pointee (T.the-row .written))), l₆) ∷ ((sliceTy (tyRef erased mut (pointee (T.the-row .written)))), l₇) ∷ []
+      En = (τ₀, l₀) ∷ (s₀, l₁) ∷ (s₁, l₂) ∷ (s₂, l₃) ∷ (τ₁, l₄) ∷ ((tyInt w64), l₅) ∷ ((tyRef erased mut (pointee (T.the-row .written))), l₆) ∷
+          ((sliceTy (tyRef erased mut (pointee (T.the-row .written)))), l₇) ∷ []
 
       -- what was read is put over the nodes
       abbrev Put-next : Read → Val → List (Item 𝓤)
-      Put-next d u = ‵ (froom τ₀ l₀ 0) ∷ ‵ (fat fullShare s₀ l₁ 0 v₀) ∷ ‵ (fat fullShare s₁ l₂ 0 v₁) ∷ ‵ (fat fullShare s₂ l₃ 0 v₂) ∷ ‵ (fat fullShare τ₁ l₄ 0 u) ∷ ‵ (froom (tyInt w64) l₅ 0) ∷ ‵ (froom (tyRef erased mut (pointee (T.the-row .written))) l₆ 0) ∷ ‵ (froom (sliceTy (tyRef erased mut (pointee (T.the-row .written)))) l₇ 0) ∷ Tok₀ ∷ Tok₁ ∷ Tok₂ ∷ Own₀ ∷ Own₁ ∷ Own₂ ∷ ‵ (D.the-row .own d (u ∷ [])) ∷ ‵ (fdies τ₀ l₀) ∷ ‵ (fdies s₀ l₁) ∷ ‵ (fdies s₁ l₂) ∷ ‵ (fdies s₂ l₃) ∷ ‵ (fdies τ₁ l₄) ∷ ‵ (fdies (tyInt w64) l₅) ∷ ‵ (fdies (tyRef erased mut (pointee (T.the-row .written))) l₆) ∷ ‵ (fdies (sliceTy (tyRef erased mut (pointee (T.the-row .written)))) l₇) ∷ []
+      Put-next d u = ‵ (froom τ₀ l₀ 0) ∷ ‵ (fat fullShare s₀ l₁ 0 v₀) ∷ ‵ (fat fullShare s₁ l₂ 0 v₁) ∷ ‵ (fat fullShare s₂ l₃ 0 v₂) ∷ ‵
+          (fat fullShare τ₁ l₄ 0 u) ∷ ‵ (froom (tyInt w64) l₅ 0) ∷ ‵ (froom (tyRef erased mut (pointee (T.the-row .written))) l₆ 0) ∷ ‵
+          (froom (sliceTy (tyRef erased mut (pointee (T.the-row .written)))) l₇ 0) ∷ Tok₀ ∷ Tok₁ ∷ Tok₂ ∷ Own₀ ∷ Own₁ ∷ Own₂ ∷ ‵
+          (D.the-row .own d (u ∷ [])) ∷ ‵ (fdies τ₀ l₀) ∷ ‵ (fdies s₀ l₁) ∷ ‵ (fdies s₁ l₂) ∷ ‵ (fdies s₂ l₃) ∷ ‵ (fdies τ₁ l₄) ∷ ‵
+          (fdies (tyInt w64) l₅) ∷ ‵ (fdies (tyRef erased mut (pointee (T.the-row .written))) l₆) ∷ ‵
+          (fdies (sliceTy (tyRef erased mut (pointee (T.the-row .written)))) l₇) ∷ []
 
       then-put : FmC 𝓤 H (W .laws) C → Triple 𝓤 (C #put) (Put 𝓤 H A mem run) → Room T.the-row (length xs₂) → (d : Read) (u : Val)
           → ReadIn xs₀ xs₁ (length xs₂) d → ent 𝓤 (⋆ 𝓤 H A (Put-next d u)) (Wp 𝓤 H C Λ En mir′.t-3 (atReturn 𝓤 H En Post))
       then-put fm known g d u f =
           qed W (Put-next d u) ∵ exec ! C Λ En mir′.t-3 (atRet En Post) $
           assigns ! (addr ! (from ! (fld ! refl (hop ! (look-in ! 3 (sub ! 0 refl (whole !))) (stop !))))) (from ! (stop !)) (init ! 6 refl (tt, tt)) $
-          assigns ! (agg ! (and-then ! (load ! (from ! (stop !)) (look ! 6 refl)) (and-then ! (load ! (from ! (fld ! refl (stop !))) (look-in ! 3 (sub ! 1 refl (whole !)))) (no-more !)))) (from ! (stop !)) (init ! 7 refl (tt, (tt, (record { fits = g .0 }, tt)))) $
+          assigns ! (agg ! (and-then ! (load ! (from ! (stop !)) (look ! 6 refl))
+          (and-then ! (load ! (from ! (fld ! refl (stop !))) (look-in ! 3 (sub ! 1 refl (whole !)))) (no-more !)))) (from ! (stop !))
+          (init ! 7 refl (tt, (tt, (record { fits = g .0 }, tt)))) $
           move ! (10 ∷ 14 ∷ 13 ∷ []) $ move ! (1 ∷ 2 ∷ []) $ join ! $ move ! (1 ∷ 0 ∷ []) $ join ! $ use1 W (raw (Put 𝓤 H A mem run .pre (to-put d u))) (goes-put d u (f xs₂ refl .0)) $
           calls-at ! fm (Put 𝓤 H A mem run) known (to-put d u) (and-then ! (load ! (from ! (stop !)) (look ! 5 refl)) (and-then ! (load ! (from ! (stop !)) (look ! 8 refl)) (no-more !))) (λ w.
-          use1 W (later (some (λ (r : Parsed). ((Tok₂ ⊛ ‵ ftrue) ⊛ ‵ (Said-type.the-row .own r (w ∷ []))) ⊛ raw (ensured 𝓤 H A put.ended (put.clauses 𝓤 H A mem run) (κ₂, tt) (args-p d) tt r)))) (id⊢ 𝓤 _) $ await ! tt $ pick ! (λ r.
-          split ! $ move ! (1 ∷ []) $ use1 W (some (λ (ws : Unit {0} × (List Node × Unit {0})). ‵ (lasts put.ended (κ₂, tt) (args-p d) ws) ⊛ raw (fact 𝓤 ((r ≡ d .answer) × (ws .1 .0 ≡ placedOver d xs₂))))) (id⊢ 𝓤 _) $ pick ! (λ ws.
+          use1 W (later (some (λ (r : Parsed). ((Tok₂ ⊛ ‵ ftrue) ⊛ ‵ (Said-type.the-row .own r (w ∷ []))) ⊛ raw
+          (ensured 𝓤 H A put.ended (put.clauses 𝓤 H A mem run) (κ₂, tt) (args-p d) tt r)))) (id⊢ 𝓤 _) $ await ! tt $ pick ! (λ r.
+          split ! $ move ! (1 ∷ []) $ use1 W (some (λ (ws : Unit {0} × (List Node × Unit {0})). ‵ (lasts put.ended (κ₂, tt) (args-p d) ws) ⊛ raw
+          (fact 𝓤 ((r ≡ d .answer) × (ws .1 .0 ≡ placedOver d xs₂))))) (id⊢ 𝓤 _) $ pick ! (λ ws.
           split ! $ move ! (1 ∷ []) $ heard ! ((r ≡ d .answer) × (ws .1 .0 ≡ placedOver d xs₂)) (λ e.
           fsplit ! $ drop ! $ fsplit ! $ fsplit ! $ move ! (1 ∷ []) $ feqL ! (λ m. move ! (1 ∷ []) $ drop ! $
-          move ! (1 ∷ []) $ split ! $ move ! (1 ∷ []) $ peeks ! Said-type.the-row (Is Said-type.the-row) (shows 𝓤 H A Said-type.the-row) r (w ∷ []) (λ is. land ! (from ! (stop !)) (init ! 3 refl (typed₀ r w is)) $
+          move ! (1 ∷ []) $ split ! $ move ! (1 ∷ []) $ peeks ! Said-type.the-row (Is Said-type.the-row) (shows 𝓤 H A Said-type.the-row) r (w ∷ [])
+          (λ is. land ! (from ! (stop !)) (init ! 3 refl (typed₀ r w is)) $
           move ! (1 ∷ []) $ split ! $ move ! (1 ∷ []) $ drop ! $
           returns ! (look ! 3 refl) $ forget ! 3 refl $ forget ! 4 refl $ forget ! 5 refl $ forget ! 6 refl $ forget ! 7 refl $ forget ! 9 refl $ forget ! 10 refl $
-          move ! (3 ∷ 15 ∷ []) $ free1 ! $ move ! (3 ∷ 14 ∷ []) $ free1 ! $ move ! (3 ∷ 13 ∷ []) $ free1 ! $ move ! (3 ∷ 12 ∷ []) $ free1 ! $ move ! (3 ∷ 11 ∷ []) $ free1 ! $ move ! (3 ∷ 10 ∷ []) $ free1 ! $ move ! (3 ∷ 9 ∷ []) $ free1 ! $ move ! (3 ∷ 8 ∷ []) $ free1 ! $ free0 ! $
+          move ! (3 ∷ 15 ∷ []) $ free1 ! $ move ! (3 ∷ 14 ∷ []) $ free1 ! $ move ! (3 ∷ 13 ∷ []) $ free1 ! $ move ! (3 ∷ 12 ∷ []) $ free1 ! $ move !
+          (3 ∷ 11 ∷ []) $ free1 ! $ move ! (3 ∷ 10 ∷ []) $ free1 ! $ move ! (3 ∷ 9 ∷ []) $ free1 ! $ move ! (3 ∷ 8 ∷ []) $ free1 ! $ free0 ! $
           keep ! (3 ∷ 4 ∷ 0 ∷ 5 ∷ 6 ∷ 2 ∷ 1 ∷ []) $ by ! (exits r w (ws .1 .0) (as-read xs₀ xs₁ (fields xs₂) (d .answer) r (ws .1 .0) (placedOver d xs₂) (e .0) (e .1) (f xs₂ refl .1)) m)))))))
 
       -- the reading, then that
       abbrev Work-next : List (Item 𝓤)
-      Work-next = ‵ (froom τ₀ l₀ 0) ∷ ‵ (fat fullShare s₀ l₁ 0 v₀) ∷ ‵ (fat fullShare s₁ l₂ 0 v₁) ∷ ‵ (fat fullShare s₂ l₃ 0 v₂) ∷ ‵ (froom τ₁ l₄ 0) ∷ ‵ (froom (tyInt w64) l₅ 0) ∷ ‵ (froom (tyRef erased mut (pointee (T.the-row .written))) l₆ 0) ∷ ‵ (froom (sliceTy (tyRef erased mut (pointee (T.the-row .written)))) l₇ 0) ∷ (Tok₀ ⊛ (Tok₁ ⊛ (Tok₂ ⊛ (‵ ftrue)))) ∷ ‵ (owns (ShrSlice (named 0) κ₀ u8 ∷ ShrSlice (named 1) κ₁ u8 ∷ MutSlice (named 2) κ₂ T.the-row ∷ []) a at) ∷ ‵ (fdies τ₀ l₀) ∷ ‵ (fdies s₀ l₁) ∷ ‵ (fdies s₁ l₂) ∷ ‵ (fdies s₂ l₃) ∷ ‵ (fdies τ₁ l₄) ∷ ‵ (fdies (tyInt w64) l₅) ∷ ‵ (fdies (tyRef erased mut (pointee (T.the-row .written))) l₆) ∷ ‵ (fdies (sliceTy (tyRef erased mut (pointee (T.the-row .written)))) l₇) ∷ []
+      Work-next = ‵ (froom τ₀ l₀ 0) ∷ ‵ (fat fullShare s₀ l₁ 0 v₀) ∷ ‵ (fat fullShare s₁ l₂ 0 v₁) ∷ ‵ (fat fullShare s₂ l₃ 0 v₂) ∷ ‵ (froom τ₁ l₄ 0) ∷
+          ‵ (froom (tyInt w64) l₅ 0) ∷ ‵ (froom (tyRef erased mut (pointee (T.the-row .written))) l₆ 0) ∷ ‵
+          (froom (sliceTy (tyRef erased mut (pointee (T.the-row .written)))) l₇ 0) ∷ (Tok₀ ⊛ (Tok₁ ⊛ (Tok₂ ⊛ (‵ ftrue)))) ∷ ‵
+          (owns (ShrSlice (named 0) κ₀ u8 ∷ ShrSlice (named 1) κ₁ u8 ∷ MutSlice (named 2) κ₂ T.the-row ∷ []) a at) ∷ ‵ (fdies τ₀ l₀) ∷ ‵ (fdies s₀ l₁)
+          ∷ ‵ (fdies s₁ l₂) ∷ ‵ (fdies s₂ l₃) ∷ ‵ (fdies τ₁ l₄) ∷ ‵ (fdies (tyInt w64) l₅) ∷ ‵
+          (fdies (tyRef erased mut (pointee (T.the-row .written))) l₆) ∷ ‵ (fdies (sliceTy (tyRef erased mut (pointee (T.the-row .written)))) l₇) ∷ []
 
       then-work : FmC 𝓤 H (W .laws) C → Triple 𝓤 (C #work) (Read-in 𝓤 H A mem run) → Triple 𝓤 (C #put) (Put 𝓤 H A mem run) → Room T.the-row (length xs₂)
           → ent 𝓤 (⋆ 𝓤 H A Work-next) (Wp 𝓤 H C Λ En mir′.t-1 (atReturn 𝓤 H En Post))
@@ -227,9 +245,12 @@ module _ {M : Type 1} (𝓤 : URA M) (H : Heap 𝓤) (A : Atoms 𝓤) (W : Given
           move ! (11 ∷ []) $ split ! $ move ! (1 ∷ []) $ split ! $ move ! (1 ∷ []) $ split ! $ move ! (1 ∷ []) $ drop ! $
           move ! (5 ∷ []) $ use1 W (Own₀ ⊛ Own₀) (shr-slice-copy 𝓤 H A W (named 0) κ₀ u8 .twice x₀ (v₀ ∷ [])) $ split ! $
           move ! (6 ∷ []) $ use1 W (Own₁ ⊛ Own₁) (shr-slice-copy 𝓤 H A W (named 1) κ₁ u8 .twice x₁ (v₁ ∷ [])) $ split ! $
-          move ! (6 ∷ 5 ∷ 2 ∷ 0 ∷ []) $ move ! (2 ∷ 3 ∷ []) $ join ! $ move ! (2 ∷ 0 ∷ []) $ join ! $ move ! (1 ∷ 0 ∷ []) $ join ! $ use1 W (raw (Read-in 𝓤 H A mem run .pre to-work)) (goes-work (g .0)) $
-          calls-at ! fm (Read-in 𝓤 H A mem run) known-w to-work (and-then ! (load ! (from ! (stop !)) (look ! 6 refl)) (and-then ! (load ! (from ! (stop !)) (look ! 7 refl)) (and-then ! (load ! (from ! (stop !)) (look ! 10 refl)) (no-more !)))) (λ u.
-          use1 W (later (some (λ (d : Read). ((Tok₀ ⊛ (Tok₁ ⊛ (‵ ftrue))) ⊛ ‵ (D.the-row .own d (u ∷ []))) ⊛ raw (ensured 𝓤 H A work.ended (work.clauses 𝓤 H A mem run) (κ₀, (κ₁, tt)) args-w tt d)))) (id⊢ 𝓤 _) $ await ! tt $ pick ! (λ d.
+          move ! (6 ∷ 5 ∷ 2 ∷ 0 ∷ []) $ move ! (2 ∷ 3 ∷ []) $ join ! $ move ! (2 ∷ 0 ∷ []) $ join ! $ move ! (1 ∷ 0 ∷ []) $ join ! $ use1 W
+          (raw (Read-in 𝓤 H A mem run .pre to-work)) (goes-work (g .0)) $
+          calls-at ! fm (Read-in 𝓤 H A mem run) known-w to-work (and-then ! (load ! (from ! (stop !)) (look ! 6 refl))
+          (and-then ! (load ! (from ! (stop !)) (look ! 7 refl)) (and-then ! (load ! (from ! (stop !)) (look ! 10 refl)) (no-more !)))) (λ u.
+          use1 W (later (some (λ (d : Read). ((Tok₀ ⊛ (Tok₁ ⊛ (‵ ftrue))) ⊛ ‵ (D.the-row .own d (u ∷ []))) ⊛ raw
+          (ensured 𝓤 H A work.ended (work.clauses 𝓤 H A mem run) (κ₀, (κ₁, tt)) args-w tt d)))) (id⊢ 𝓤 _) $ await ! tt $ pick ! (λ d.
           split ! $ move ! (1 ∷ []) $ use1 W (raw (fact 𝓤 (ReadIn xs₀ xs₁ (length xs₂) d))) (work-said d) $ heard ! (ReadIn xs₀ xs₁ (length xs₂) d) (λ f.
           split ! $ move ! (1 ∷ []) $ peeks ! D.the-row (Is D.the-row) (shows 𝓤 H A D.the-row) d (u ∷ []) (λ is. land ! (from ! (stop !)) (init ! 10 refl (typed₁ d u is)) $
           move ! (1 ∷ []) $ split ! $ move ! (1 ∷ []) $ split ! $ move ! (1 ∷ []) $ drop ! $ forget ! 12 refl $
@@ -241,23 +262,32 @@ module _ {M : Type 1} (𝓤 : URA M) (H : Heap 𝓤) (A : Atoms 𝓤) (W : Given
       lifetimes = 3;
       outlives = [];
       params = 3;
-      locals = local τ₀ valueLocal ∷ local s₀ valueLocal ∷ local s₁ valueLocal ∷ local s₂ valueLocal ∷ local τ₁ valueLocal ∷ local (tyInt w64) valueLocal ∷ local (tyRef erased mut (pointee (T.the-row .written))) valueLocal ∷ local (sliceTy (tyRef erased mut (pointee (T.the-row .written)))) valueLocal ∷ [];
+      locals = local τ₀ valueLocal ∷ local s₀ valueLocal ∷ local s₁ valueLocal ∷ local s₂ valueLocal ∷ local τ₁ valueLocal ∷ local (tyInt w64)
+          valueLocal ∷ local (tyRef erased mut (pointee (T.the-row .written))) valueLocal ∷ local
+          (sliceTy (tyRef erased mut (pointee (T.the-row .written)))) valueLocal ∷ [];
       body = body;
     }
 
     enters : (body : Body) → Room u8 (length xs₀) → Room u8 (length xs₁) → Room T.the-row (length xs₂)
         → ((l₀ l₁ l₂ l₃ l₄ l₅ l₆ l₇ : ℕ) → ent 𝓤 (⋆ 𝓤 H A (Work-next l₀ l₁ l₂ l₃ l₄ l₅ l₆ l₇)) (Wp 𝓤 H C Λ (En l₀ l₁ l₂ l₃ l₄ l₅ l₆ l₇) body (atReturn 𝓤 H (En l₀ l₁ l₂ l₃ l₄ l₅ l₆ l₇) Post)))
-        → ent 𝓤 (⋆ 𝓤 H A ((Tok₀ ⊛ (Tok₁ ⊛ (Tok₂ ⊛ (‵ ftrue)))) ∷ ‵ (owns (ShrSlice (named 0) κ₀ u8 ∷ ShrSlice (named 1) κ₁ u8 ∷ MutSlice (named 2) κ₂ T.the-row ∷ []) a at) ∷ [])) (WpFn 𝓤 H C Λ (fn body) (v₀ ∷ v₁ ∷ v₂ ∷ []) Post)
+        → ent 𝓤 (⋆ 𝓤 H A ((Tok₀ ⊛ (Tok₁ ⊛ (Tok₂ ⊛ (‵ ftrue)))) ∷ ‵
+        (owns (ShrSlice (named 0) κ₀ u8 ∷ ShrSlice (named 1) κ₁ u8 ∷ MutSlice (named 2) κ₂ T.the-row ∷ []) a at) ∷ []))
+        (WpFn 𝓤 H C Λ (fn body) (v₀ ∷ v₁ ∷ v₂ ∷ []) Post)
     enters body g₀ g₁ g₂ k =
-        qed W ((Tok₀ ⊛ (Tok₁ ⊛ (Tok₂ ⊛ (‵ ftrue)))) ∷ ‵ (owns (ShrSlice (named 0) κ₀ u8 ∷ ShrSlice (named 1) κ₁ u8 ∷ MutSlice (named 2) κ₂ T.the-row ∷ []) a at) ∷ []) ∵ enter ! C Λ (fn body) (v₀ ∷ v₁ ∷ v₂ ∷ []) _ $
+        qed W ((Tok₀ ⊛ (Tok₁ ⊛ (Tok₂ ⊛ (‵ ftrue)))) ∷ ‵
+        (owns (ShrSlice (named 0) κ₀ u8 ∷ ShrSlice (named 1) κ₁ u8 ∷ MutSlice (named 2) κ₂ T.the-row ∷ []) a at) ∷ []) ∵ enter ! C Λ (fn body)
+        (v₀ ∷ v₁ ∷ v₂ ∷ []) _ $
         alloc1 ! (λ l₀. alloc1 ! (λ l₁. alloc1 ! (λ l₂. alloc1 ! (λ l₃. alloc1 ! (λ l₄. alloc1 ! (λ l₅. alloc1 ! (λ l₆. alloc1 ! (λ l₇. alloc0 ! $ params1 ! $
-        pass1 ! (init ! 12 refl (tt, (tt, (record { fits = g₀ .0 }, tt)))) $ pass1 ! (init ! 10 refl (tt, (tt, (record { fits = g₁ .0 }, tt)))) $ pass1 ! (init ! 8 refl (tt, (tt, (record { fits = g₂ .0 }, tt)))) $ pass0 ! $
+        pass1 ! (init ! 12 refl (tt, (tt, (record { fits = g₀ .0 }, tt)))) $ pass1 ! (init ! 10 refl (tt, (tt, (record { fits = g₁ .0 }, tt)))) $
+        pass1 ! (init ! 8 refl (tt, (tt, (record { fits = g₂ .0 }, tt)))) $ pass0 ! $
         keep ! (14 ∷ 12 ∷ 10 ∷ 8 ∷ 6 ∷ 4 ∷ 2 ∷ 0 ∷ 16 ∷ 17 ∷ 15 ∷ 13 ∷ 11 ∷ 9 ∷ 7 ∷ 5 ∷ 3 ∷ 1 ∷ []) $ by ! (k l₀ l₁ l₂ l₃ l₄ l₅ l₆ l₇)))))))))
 
-  walk : (C : Calls 𝓤 H) (Λ : Loops 𝓤 H) → FmC 𝓤 H (W .laws) C → Triple 𝓤 (C #work) (Read-in 𝓤 H A mem run) → Triple 𝓤 (C #put) (Put 𝓤 H A mem run) → Room u8 (length xs₀) → Room u8 (length xs₁) → Room T.the-row (length xs₂)
+  walk : (C : Calls 𝓤 H) (Λ : Loops 𝓤 H) → FmC 𝓤 H (W .laws) C → Triple 𝓤 (C #work) (Read-in 𝓤 H A mem run) → Triple 𝓤 (C #put) (Put 𝓤 H A mem run) →
+      Room u8 (length xs₀) → Room u8 (length xs₁) → Room T.the-row (length xs₂)
       → ent 𝓤 (onEntry 𝓤 H A this.signature (κ₀, (κ₁, (κ₂, tt))) (q₀, (q₁, (q₂, tt))) a at) (WpFn 𝓤 H C Λ code.function (v₀ ∷ v₁ ∷ v₂ ∷ []) Post)
   walk C Λ fm known-w known-p g₀ g₁ g₂ =
-      enters C Λ Said-laws.mir D′.mir typed-answer typed-read mir′.t-1 g₀ g₁ g₂ (λ l₀ l₁ l₂ l₃ l₄ l₅ l₆ l₇. then-work C Λ Said-laws.mir D′.mir typed-answer typed-read l₀ l₁ l₂ l₃ l₄ l₅ l₆ l₇ fm known-w known-p g₂)
+      enters C Λ Said-laws.mir D′.mir typed-answer typed-read mir′.t-1 g₀ g₁ g₂
+      (λ l₀ l₁ l₂ l₃ l₄ l₅ l₆ l₇. then-work C Λ Said-laws.mir D′.mir typed-answer typed-read l₀ l₁ l₂ l₃ l₄ l₅ l₆ l₇ fm known-w known-p g₂)
 
 module _ {M : Type 1} (𝓤 : URA M) (H : Heap 𝓤) (A : Atoms 𝓤) (W : Given 𝓤 H A) (mem : Memory → SProp 𝓤) (run : Routine → Fun 𝓤) where
   this-walks : (C : Calls 𝓤 H) (Λ : Loops 𝓤 H) → FmC 𝓤 H (W .laws) C → Triple 𝓤 (C #work) (Read-in 𝓤 H A mem run) → Triple 𝓤 (C #put) (Put 𝓤 H A mem run)
@@ -266,7 +296,8 @@ module _ {M : Type 1} (𝓤 : URA M) (H : Heap 𝓤) (A : Atoms 𝓤) (W : Given
       (λ κs. (slice-vals, (slice-vals, (slice-vals, tt))))
       (λ κs. (shr-slice-tells (named 0) (κs .0) u8, (shr-slice-tells (named 1) (κs .1 .0) u8, (mut-slice-tells (named 2) (κs .1 .1 .0) T.the-row, tt))))
       (λ κs qs bounds a g are. via 𝓤 _ (fst∗ 𝓤 _ (this.clauses 𝓤 H A mem run κs a .requires g))
-      (walk 𝓤 H A W mem run (κs .0) (κs .1 .0) (κs .1 .1 .0) (qs .0) (qs .1 .0) (qs .1 .1 .0) (a .0 .ptr .0) (a .0 .ptr .1) (a .1 .0 .ptr .0) (a .1 .0 .ptr .1) (a .1 .1 .0 .ptr .0) (a .1 .1 .0 .ptr .1)
+      (walk 𝓤 H A W mem run (κs .0) (κs .1 .0) (κs .1 .1 .0) (qs .0) (qs .1 .0) (qs .1 .1 .0) (a .0 .ptr .0) (a .0 .ptr .1) (a .1 .0 .ptr .0)
+      (a .1 .0 .ptr .1) (a .1 .1 .0 .ptr .0) (a .1 .1 .0 .ptr .1)
       (a .0 .name) (a .1 .0 .name) (a .1 .1 .0 .name) (a .0 .now) (a .1 .0 .now) (a .1 .1 .0 .now) C Λ fm known-w known-p (are .0 .0 .1) (are .1 .0 .0 .1) (are .1 .1 .0 .0 .1)))
 
 this-meets : {M : Type 1} (𝓤 : URA M) (H : Heap 𝓤) (A : Atoms 𝓤) → Given 𝓤 H A → (mem : Memory → SProp 𝓤) (run : Routine → Fun 𝓤) (𝓣 : Tables 𝓤 H)
@@ -284,5 +315,5 @@ parse-spec 𝓤 H 𝓜 𝓖 𝓡 =
     entered 𝓤 H (tripleOf 𝓤 H (𝓖 .A) this.signature (this.spec 𝓤 H (𝓖 .A) (𝓜 .mem) (𝓡 .run)))
     (tables 𝓤 H 𝓜 𝓡 code.env .C) (tables 𝓤 H 𝓜 𝓡 code.env .Λ) #this code.function (code.unfolded 𝓤 H 𝓜 𝓡)
     (this-meets 𝓤 H (𝓖 .A) (givenOf 𝓤 H 𝓜 𝓖) (𝓜 .mem) (𝓡 .run) (tablesOf 𝓤 H 𝓜 (tables 𝓤 H 𝓜 𝓡 code.env))
-    (cited 𝓤 H (Read-in 𝓤 H (𝓖 .A) (𝓜 .mem) (𝓡 .run)) 𝓜 𝓡 code.env #work work-def.routine code.calls-faces·parsing·read-text (work-thm.met 𝓤 H 𝓜 𝓖 𝓡))
+    (cited 𝓤 H (Read-in 𝓤 H (𝓖 .A) (𝓜 .mem) (𝓡 .run)) 𝓜 𝓡 code.env #work work-def.routine code.calls-nodes-out·parse (work-thm.met 𝓤 H 𝓜 𝓖 𝓡))
     (cited 𝓤 H (Put 𝓤 H (𝓖 .A) (𝓜 .mem) (𝓡 .run)) 𝓜 𝓡 code.env #put put-def.routine code.calls-faces·parsing·put (put-thm.met 𝓤 H 𝓜 𝓖 𝓡)))

@@ -5,51 +5,6 @@ use borrow.Author.Needs.{needs}
 use Rattle.file.proofs.judge.Statement.{statement}
 use Rattle.file.proofs.judge.Tie as tie
 
-section-requires : tie.Need-section-requires
-section-requires c κs = search needs
-
-enum-known-names : tie.Need-enum-known-names
-enum-known-names c = search needs
-
-sessions-section-requires : tie.Need-sessions-section-requires
-sessions-section-requires c κs = search needs
-
-enum-known-sessions : tie.Need-enum-known-sessions
-enum-known-sessions c = search needs
-
-codes-section-requires : tie.Need-codes-section-requires
-codes-section-requires c κs = search needs
-
-enum-known-unary : tie.Need-enum-known-unary
-enum-known-unary c = search needs
-
-codes-section-requires-2 : tie.Need-codes-section-requires-2
-codes-section-requires-2 c κs = search needs
-
-enum-known-binary : tie.Need-enum-known-binary
-enum-known-binary c = search needs
-
-tail-at-requires : tie.Need-tail-at-requires
-tail-at-requires c κs = search needs
-
-enum-known-tail : tie.Need-enum-known-tail
-enum-known-tail c = search needs
-
-enum-known-tail-2 : tie.Need-enum-known-tail-2
-enum-known-tail-2 c = search needs
-
-enum-known-binary-2 : tie.Need-enum-known-binary-2
-enum-known-binary-2 c = search needs
-
-enum-known-unary-2 : tie.Need-enum-known-unary-2
-enum-known-unary-2 c = search needs
-
-enum-known-sessions-2 : tie.Need-enum-known-sessions-2
-enum-known-sessions-2 c = search needs
-
-enum-known-names-2 : tie.Need-enum-known-names-2
-enum-known-names-2 c = search needs
-
 returns : tie.Need-returns
 returns c =
     let at-tail = c .before in
@@ -62,7 +17,9 @@ returns c =
     let at-sessions-section = at-sessions .before .before in
     let at-names = at-sessions-section .before .before in
     let at-section = at-names .before .before in
-    judge-whole _ _ (at-section .section .ensures) (at-names .names .given .1) _ (at-sessions-section .sessions-section .ensures) (at-sessions .sessions .given .1) _ (at-codes-section .codes-section .ensures) (at-unary .unary .given .1) _ (at-codes-section2 .codes-section2 .ensures) (at-binary .binary .given .1) _ (at-tail-at .tail-at .ensures) (at-tail .tail .given .1)
+    judge-whole _ _ (at-section .section .ensures) (at-names .names .given .1) _ (at-sessions-section .sessions-section .ensures) (at-sessions .sessions .given .1) _
+    (at-codes-section .codes-section .ensures) (at-unary .unary .given .1) _ (at-codes-section2 .codes-section2 .ensures) (at-binary .binary .given .1) _ (at-tail-at .tail-at .ensures)
+    (at-tail .tail .given .1)
 
 returns-2 : tie.Need-returns-2
 returns-2 c =
@@ -76,7 +33,9 @@ returns-2 c =
     let at-sessions-section = at-sessions .before .before in
     let at-names = at-sessions-section .before .before in
     let at-section = at-names .before .before in
-    judge-tail _ _ (at-section .section .ensures) (at-names .names .given .1) _ (at-sessions-section .sessions-section .ensures) (at-sessions .sessions .given .1) _ (at-codes-section .codes-section .ensures) (at-unary .unary .given .1) _ (at-codes-section2 .codes-section2 .ensures) (at-binary .binary .given .1) _ (at-tail-at .tail-at .ensures) (at-tail2 .tail2 .given .1)
+    judge-tail _ _ (at-section .section .ensures) (at-names .names .given .1) _ (at-sessions-section .sessions-section .ensures) (at-sessions .sessions .given .1) _
+    (at-codes-section .codes-section .ensures) (at-unary .unary .given .1) _ (at-codes-section2 .codes-section2 .ensures) (at-binary .binary .given .1) _ (at-tail-at .tail-at .ensures)
+    (at-tail2 .tail2 .given .1)
 
 returns-3 : tie.Need-returns-3
 returns-3 c =
@@ -88,7 +47,8 @@ returns-3 c =
     let at-sessions-section = at-sessions .before .before in
     let at-names = at-sessions-section .before .before in
     let at-section = at-names .before .before in
-    judge-binary _ _ (at-section .section .ensures) (at-names .names .given .1) _ (at-sessions-section .sessions-section .ensures) (at-sessions .sessions .given .1) _ (at-codes-section .codes-section .ensures) (at-unary .unary .given .1) _ (at-codes-section2 .codes-section2 .ensures) (at-binary2 .binary2 .given .1)
+    judge-binary _ _ (at-section .section .ensures) (at-names .names .given .1) _ (at-sessions-section .sessions-section .ensures) (at-sessions .sessions .given .1) _
+    (at-codes-section .codes-section .ensures) (at-unary .unary .given .1) _ (at-codes-section2 .codes-section2 .ensures) (at-binary2 .binary2 .given .1)
 
 returns-4 : tie.Need-returns-4
 returns-4 c =
@@ -98,7 +58,8 @@ returns-4 c =
     let at-sessions-section = at-sessions .before .before in
     let at-names = at-sessions-section .before .before in
     let at-section = at-names .before .before in
-    judge-unary _ _ (at-section .section .ensures) (at-names .names .given .1) _ (at-sessions-section .sessions-section .ensures) (at-sessions .sessions .given .1) _ (at-codes-section .codes-section .ensures) (at-unary2 .unary2 .given .1)
+    judge-unary _ _ (at-section .section .ensures) (at-names .names .given .1) _ (at-sessions-section .sessions-section .ensures) (at-sessions .sessions .given .1) _
+    (at-codes-section .codes-section .ensures) (at-unary2 .unary2 .given .1)
 
 returns-5 : tie.Need-returns-5
 returns-5 c =
@@ -112,27 +73,7 @@ returns-6 : tie.Need-returns-6
 returns-6 c = judge-names _ _ (c .before .before .before .section .ensures) (c .before .names2 .given .1)
 
 pub judge-spec : {M : Type 1} → statement M
-judge-spec =
-    tie.close
-    (tie.spec
-    section-requires
-    enum-known-names
-    sessions-section-requires
-    enum-known-sessions
-    codes-section-requires
-    enum-known-unary
-    codes-section-requires-2
-    enum-known-binary
-    tail-at-requires
-    enum-known-tail
-    enum-known-tail-2
-    enum-known-binary-2
-    enum-known-unary-2
-    enum-known-sessions-2
-    enum-known-names-2
-    returns
-    returns-2
-    returns-3
-    returns-4
-    returns-5
-    returns-6)
+judge-spec = tie.close (tie.spec
+    (λ c κs. search needs) (λ c. search needs) (λ c κs. search needs) (λ c. search needs) (λ c κs. search needs) (λ c. search needs)
+    (λ c κs. search needs) (λ c. search needs) (λ c κs. search needs) (λ c. search needs) (λ c. search needs) (λ c. search needs) (λ c. search needs)
+    (λ c. search needs) (λ c. search needs) returns returns-2 returns-3 returns-4 returns-5 returns-6)

@@ -8,14 +8,13 @@ use Rattle.file.proofs.read.Tie as tie
 
 -- what the judging pass told of the file
 told : (c : tie.After-known-told)
-    → Known (c .before .before .before .before .before .before .before .before .before .before .args .file .now) (c .before .answer .given .0 .0) (c .before .answer .given .0 .1 .0) (c .before .answer .given .0 .1 .1 .0) (c .before .answer .given .0 .1 .1 .1 .0) (c .before .answer .given .0 .1 .1 .1 .1 .0) (c .before .answer .given .0 .1 .1 .1 .1 .1 .0) (c .before .answer .given .0 .1 .1 .1 .1 .1 .1 .0)
-told c = known (c .before .before .before .before .before .before .before .before .before .before .args .file .now) (λ i. omega (arith, c .before .before .before .before .before .before .before .before .before .shared-slice-known .given i)) _ (c .before .before .before .judge .ensures) (c .before .answer .given .1)
-
-judge-requires : tie.Need-judge-requires
-judge-requires c κs = search needs
-
-enum-known-answer : tie.Need-enum-known-answer
-enum-known-answer c = search needs
+    → Known (c .before .before .before .before .before .before .before .before .before .before .args .file .now) (c .before .answer .given .0 .0) (c .before .answer .given .0 .1 .0)
+    (c .before .answer .given .0 .1 .1 .0) (c .before .answer .given .0 .1 .1 .1 .0) (c .before .answer .given .0 .1 .1 .1 .1 .0) (c .before .answer .given .0 .1 .1 .1 .1 .1 .0)
+    (c .before .answer .given .0 .1 .1 .1 .1 .1 .1 .0)
+told c =
+    known (c .before .before .before .before .before .before .before .before .before .before .args .file .now)
+    (λ i. omega (arith, c .before .before .before .before .before .before .before .before .before .shared-slice-known .given i)) _
+    (c .before .before .before .judge .ensures) (c .before .answer .given .1)
 
 returns : tie.Need-returns
 returns c = let k = told (c .before) in room-marks _ _ _ _ _ _ k (c .if1 .taken)
@@ -138,27 +137,6 @@ fill-bytes-requires-4 c κs =
     let k = told at-told in
     (omega arith, at-if5 .if5 .left, omega (arith, k .room))
 
-enum-known-answer-2 : tie.Need-enum-known-answer-2
-enum-known-answer-2 c = search needs
-
-enum-told : tie.Need-enum-told
-enum-told c = search needs
-
-same-length : tie.Need-same-length
-same-length c = search needs
-
-same-length-2 : tie.Need-same-length-2
-same-length-2 c = search needs
-
-same-length-3 : tie.Need-same-length-3
-same-length-3 c = search needs
-
-same-length-4 : tie.Need-same-length-4
-same-length-4 c = search needs
-
-same-length-5 : tie.Need-same-length-5
-same-length-5 c = search needs
-
 returns-6 : tie.Need-returns-6
 returns-6 c =
     let at-fill-bytes4 = c .before .before in
@@ -192,38 +170,8 @@ returns-8 c =
     absurd (never-room (at-start .args .file .now) (λ i. omega (arith, at-known .shared-slice-known .given i)) _ (at-judge .judge .ensures) (c .enum-told .given .1))
 
 pub read-spec : {M : Type 1} → statement M
-read-spec =
-    tie.close
-    (tie.spec
-    judge-requires
-    enum-known-answer
-    returns
-    returns-2
-    mul-if3
-    returns-3
-    returns-4
-    returns-5
-    mul-stride
-    add-stride
-    add-at
-    mul-codes
-    add-codes
-    fill-bytes-requires
-    add-fill-bytes
-    fill-bytes-requires-2
-    fill-words-requires
-    add-fill-bytes-2
-    fill-bytes-requires-3
-    add-fill-bytes-3
-    add-fill-bytes-4
-    fill-bytes-requires-4
-    enum-known-answer-2
-    enum-told
-    same-length
-    same-length-2
-    same-length-3
-    same-length-4
-    same-length-5
-    returns-6
-    returns-7
-    returns-8)
+read-spec = tie.close (tie.spec
+    (λ c κs. search needs) (λ c. search needs) returns returns-2 mul-if3 returns-3 returns-4 returns-5 mul-stride add-stride add-at mul-codes
+    add-codes fill-bytes-requires add-fill-bytes fill-bytes-requires-2 fill-words-requires add-fill-bytes-2 fill-bytes-requires-3 add-fill-bytes-3
+    add-fill-bytes-4 fill-bytes-requires-4 (λ c. search needs) (λ c. search needs) (λ c. search needs) (λ c. search needs) (λ c. search needs)
+    (λ c. search needs) (λ c. search needs) returns-6 returns-7 returns-8)

@@ -5,24 +5,6 @@ use borrow.Author.Needs.{needs}
 use Rattle.file.proofs.tail_at.Statement.{statement}
 use Rattle.file.proofs.tail_at.Tie as tie
 
-byte-within-requires : tie.Need-byte-within-requires
-byte-within-requires c κs = search needs
-
-enum-known-count : tie.Need-enum-known-count
-enum-known-count c = search needs
-
-byte-within-requires-2 : tie.Need-byte-within-requires-2
-byte-within-requires-2 c κs = search needs
-
-enum-known-mark : tie.Need-enum-known-mark
-enum-known-mark c = search needs
-
-byte-within-requires-3 : tie.Need-byte-within-requires-3
-byte-within-requires-3 c κs = search needs
-
-enum-known-bound : tie.Need-enum-known-bound
-enum-known-bound c = search needs
-
 shared-slice-read-t19 : tie.Need-shared-slice-read-t19
 shared-slice-read-t19 c =
     let at-bound = c .before .before .before in
@@ -31,7 +13,8 @@ shared-slice-read-t19 c =
     let at-byte-within2 = at-mark .before .before in
     let at-count = at-byte-within2 .before .before in
     let at-byte-within = at-count .before .before in
-    tail-mark-in _ _ _ (at-byte-within .byte-within .ensures) (at-count .count .given .1) _ (at-byte-within2 .byte-within2 .ensures) (at-mark .mark .given .1) _ (at-byte-within3 .byte-within3 .ensures) (at-bound .bound .given .1)
+    tail-mark-in _ _ _ (at-byte-within .byte-within .ensures) (at-count .count .given .1) _ (at-byte-within2 .byte-within2 .ensures) (at-mark .mark .given .1) _
+    (at-byte-within3 .byte-within3 .ensures) (at-bound .bound .given .1)
 
 shared-slice-read-t21 : tie.Need-shared-slice-read-t21
 shared-slice-read-t21 c =
@@ -41,16 +24,8 @@ shared-slice-read-t21 c =
     let at-byte-within2 = at-mark .before .before in
     let at-count = at-byte-within2 .before .before in
     let at-byte-within = at-count .before .before in
-    tail-bound-in _ _ _ (at-byte-within .byte-within .ensures) (at-count .count .given .1) _ (at-byte-within2 .byte-within2 .ensures) (at-mark .mark .given .1) _ (at-byte-within3 .byte-within3 .ensures) (at-bound .bound .given .1)
-
-enum-known-bound-2 : tie.Need-enum-known-bound-2
-enum-known-bound-2 c = search needs
-
-enum-known-mark-2 : tie.Need-enum-known-mark-2
-enum-known-mark-2 c = search needs
-
-enum-known-count-2 : tie.Need-enum-known-count-2
-enum-known-count-2 c = search needs
+    tail-bound-in _ _ _ (at-byte-within .byte-within .ensures) (at-count .count .given .1) _ (at-byte-within2 .byte-within2 .ensures) (at-mark .mark .given .1) _
+    (at-byte-within3 .byte-within3 .ensures) (at-bound .bound .given .1)
 
 returns : tie.Need-returns
 returns c =
@@ -61,7 +36,8 @@ returns c =
     let at-byte-within2 = at-mark .before .before in
     let at-count = at-byte-within2 .before .before in
     let at-byte-within = at-count .before .before in
-    tail-whole _ _ _ (at-byte-within .byte-within .ensures) (at-count .count .given .1) _ (at-byte-within2 .byte-within2 .ensures) (at-mark .mark .given .1) _ (at-byte-within3 .byte-within3 .ensures) (at-bound .bound .given .1) (at-if1 .if1 .taken)
+    tail-whole _ _ _ (at-byte-within .byte-within .ensures) (at-count .count .given .1) _ (at-byte-within2 .byte-within2 .ensures) (at-mark .mark .given .1) _
+    (at-byte-within3 .byte-within3 .ensures) (at-bound .bound .given .1) (at-if1 .if1 .taken)
 
 returns-2 : tie.Need-returns-2
 returns-2 c =
@@ -71,7 +47,8 @@ returns-2 c =
     let at-byte-within2 = at-mark .before .before in
     let at-count = at-byte-within2 .before .before in
     let at-byte-within = at-count .before .before in
-    tail-extra _ _ _ (at-byte-within .byte-within .ensures) (at-count .count .given .1) _ (at-byte-within2 .byte-within2 .ensures) (at-mark .mark .given .1) _ (at-byte-within3 .byte-within3 .ensures) (at-bound .bound .given .1) (c .if1 .left)
+    tail-extra _ _ _ (at-byte-within .byte-within .ensures) (at-count .count .given .1) _ (at-byte-within2 .byte-within2 .ensures) (at-mark .mark .given .1) _
+    (at-byte-within3 .byte-within3 .ensures) (at-bound .bound .given .1) (c .if1 .left)
 
 returns-3 : tie.Need-returns-3
 returns-3 c =
@@ -81,7 +58,8 @@ returns-3 c =
     let at-byte-within2 = at-mark .before .before in
     let at-count = at-byte-within2 .before .before in
     let at-byte-within = at-count .before .before in
-    tail-no-bound _ _ _ (at-byte-within .byte-within .ensures) (at-count .count .given .1) _ (at-byte-within2 .byte-within2 .ensures) (at-mark .mark .given .1) _ (at-byte-within3 .byte-within3 .ensures) (at-bound2 .bound2 .given .1)
+    tail-no-bound _ _ _ (at-byte-within .byte-within .ensures) (at-count .count .given .1) _ (at-byte-within2 .byte-within2 .ensures) (at-mark .mark .given .1) _
+    (at-byte-within3 .byte-within3 .ensures) (at-bound2 .bound2 .given .1)
 
 returns-4 : tie.Need-returns-4
 returns-4 c =
@@ -95,22 +73,7 @@ returns-5 : tie.Need-returns-5
 returns-5 c = tail-no-count _ _ _ (c .before .before .before .byte-within .ensures) (c .before .count2 .given .1)
 
 pub tail-at-spec : {M : Type 1} → statement M
-tail-at-spec =
-    tie.close
-    (tie.spec
-    byte-within-requires
-    enum-known-count
-    byte-within-requires-2
-    enum-known-mark
-    byte-within-requires-3
-    enum-known-bound
-    shared-slice-read-t19
-    shared-slice-read-t21
-    enum-known-bound-2
-    enum-known-mark-2
-    enum-known-count-2
-    returns
-    returns-2
-    returns-3
-    returns-4
+tail-at-spec = tie.close (tie.spec
+    (λ c κs. search needs) (λ c. search needs) (λ c κs. search needs) (λ c. search needs) (λ c κs. search needs) (λ c. search needs)
+    shared-slice-read-t19 shared-slice-read-t21 (λ c. search needs) (λ c. search needs) (λ c. search needs) returns returns-2 returns-3 returns-4
     returns-5)

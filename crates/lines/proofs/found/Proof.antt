@@ -7,113 +7,57 @@ use Rattle.lines.proofs.Shown.{text-front, found-written, no-offset, no
 use borrow.Author.Needs.{needs}
 use Rattle.lines.proofs.found.Statement.{statement}
 use Rattle.lines.proofs.found.Tie as tie
-use Rattle.lines.proofs.found.Reads as reads
-use Rattle.lines.proofs.found.Lts as lts
-use Rattle.text.proofs.print.Reads as print-reads
-use Rattle.lines.proofs.line.broken.Reads as broken-reads
-use Rattle.lines.proofs.line.found.Reads as found-reads
-use Rattle.writing.proofs.put.Reads as put-reads
-use Rattle.lines.proofs.line.refused.Reads as refused-reads
 
--- src/lib.rt:33:76
-slice-aggregate-print : tie.Need-slice-aggregate-print
-slice-aggregate-print c = search needs
-
--- src/lib.rt:33:9
-print-requires : tie.Need-print-requires
-print-requires c κs = search needs
-
--- src/lib.rt:35:23
-enum-known-printed : tie.Need-enum-known-printed
-enum-known-printed c = search needs
-
--- src/lib.rt:36:17
-found-requires : tie.Need-found-requires
-found-requires c κs = search needs
-
--- src/lib.rt:37:40
 array-share-prefix-shown : tie.Need-array-share-prefix-shown
-array-share-prefix-shown c = let a = c .before .before .before .before .before .before .before .before .before .before .before .before .before .before .before .before .before .args in text-front (a .names .now) (nodes (a .codes .now) (a .lefts .now) (a .rights .now) (a .sizes .now)) (nodeOf (a .root)) (c .before .before .before .before .before .before .before .before .before .before .before .before .before .before .before .before .before .pre .0) _ refl (c .before .before .before .before .before .before .before .before .before .print .result) _ (c .before .before .before .before .before .before .before .before .before .print .ensures) (c .before .before .before .before .before .before .printed .given .1) .there
+array-share-prefix-shown c = let a = c .before .before .before .before .before .before .before .before .before .before .before .before .before .before .before .before
+    .before .args in text-front (a .names .now) (nodes (a .codes .now) (a .lefts .now) (a .rights .now) (a .sizes .now)) (nodeOf (a .root))
+    (c .before .before .before .before .before .before .before .before .before .before .before .before .before .before .before .before .before .pre .0) _ refl
+    (c .before .before .before .before .before .before .before .before .before .print .result) _
+    (c .before .before .before .before .before .before .before .before .before .print .ensures) (c .before .before .before .before .before .before .printed .given .1) .there
 
--- src/lib.rt:37:40
 slice-aggregate-put : tie.Need-slice-aggregate-put
-slice-aggregate-put c = let a = c .before .before .before .before .before .before .before .before .before .before .before .before .before .before .before .before .before .before .args in let f = text-front (a .names .now) (nodes (a .codes .now) (a .lefts .now) (a .rights .now) (a .sizes .now)) (nodeOf (a .root)) (c .before .before .before .before .before .before .before .before .before .before .before .before .before .before .before .before .before .before .pre .0) _ refl (c .before .before .before .before .before .before .before .before .before .before .print .result) _ (c .before .before .before .before .before .before .before .before .before .before .print .ensures) (c .before .before .before .before .before .before .before .printed .given .1) in f .long ∙ sym (ap length (f .is))
+slice-aggregate-put c = let a = c .before .before .before .before .before .before .before .before .before .before .before .before .before .before .before .before
+    .before .before .args in let f = text-front (a .names .now) (nodes (a .codes .now) (a .lefts .now) (a .rights .now) (a .sizes .now)) (nodeOf (a .root))
+    (c .before .before .before .before .before .before .before .before .before .before .before .before .before .before .before .before .before .before .pre .0) _ refl
+    (c .before .before .before .before .before .before .before .before .before .before .print .result) _
+    (c .before .before .before .before .before .before .before .before .before .before .print .ensures)
+    (c .before .before .before .before .before .before .before .printed .given .1) in f .long ∙ sym (ap length (f .is))
 
--- src/lib.rt:37:17
-put-requires : tie.Need-put-requires
-put-requires c κs = search needs
-
--- src/lib.rt:38:32
-slice-aggregate-put-2 : tie.Need-slice-aggregate-put-2
-slice-aggregate-put-2 c = search needs
-
--- src/lib.rt:38:13
-put-requires-2 : tie.Need-put-requires-2
-put-requires-2 c κs = search needs
-
--- src/lib.rt:40:25
-enum-known-printed-2 : tie.Need-enum-known-printed-2
-enum-known-printed-2 c = search needs
-
--- src/lib.rt:40:32
-broken-requires : tie.Need-broken-requires
-broken-requires c κs = search needs
-
--- src/lib.rt:41:26
-enum-known-printed-3 : tie.Need-enum-known-printed-3
-enum-known-printed-3 c = search needs
-
--- src/lib.rt:41:37
-refused-requires : tie.Need-refused-requires
-refused-requires c κs = search needs
-
--- src/lib.rt:17:1
-same-length : tie.Need-same-length
-same-length c = search needs
-
--- src/lib.rt:17:1
 returns : tie.Need-returns
-returns c = let a = c .before .before .before .before .before .before .before .before .before .before .before .before .before .before .before .before .before .before .before .before .before .before .before .before .before .before .args in λ names next e.
-    found-written (a .names .now) (nodes (a .codes .now) (a .lefts .now) (a .rights .now) (a .sizes .now)) (nodeOf (a .root)) (c .before .before .before .before .before .before .before .before .before .before .before .before .before .before .before .before .before .before .before .before .before .before .before .before .before .before .pre .0) _ refl (c .before .before .before .before .before .before .before .before .before .before .before .before .before .before .before .before .before .before .print .result) _ (c .before .before .before .before .before .before .before .before .before .before .before .before .before .before .before .before .before .before .print .ensures)
-    (text-front (a .names .now) (nodes (a .codes .now) (a .lefts .now) (a .rights .now) (a .sizes .now)) (nodeOf (a .root)) (c .before .before .before .before .before .before .before .before .before .before .before .before .before .before .before .before .before .before .before .before .before .before .before .before .before .before .pre .0) _ refl (c .before .before .before .before .before .before .before .before .before .before .before .before .before .before .before .before .before .before .print .result) _ (c .before .before .before .before .before .before .before .before .before .before .before .before .before .before .before .before .before .before .print .ensures) (c .before .before .before .before .before .before .before .before .before .before .before .before .before .before .before .printed .given .1))
-    names next e (a .root .size) (a .tried) (length (a .codes .now)) (a .dropped) (c .before .before .before .before .before .before .before .before .before .before .before .before .before .before .before .before .before .before .before .before .before .before .before .before .before .before .pre .1) (c .before .before .before .before .before .before .before .before .before .before .before .before .found .ensures) (c .before .before .before .before .before .before .before .put .ensures) (c .before .before .put2 .ensures)
+returns c = let a = c .before .before .before .before .before .before .before .before .before .before .before .before .before .before .before .before .before .before
+    .before .before .before .before .before .before .before .before .args in λ names next e.
+    found-written (a .names .now) (nodes (a .codes .now) (a .lefts .now) (a .rights .now) (a .sizes .now)) (nodeOf (a .root))
+    (c .before .before .before .before .before .before .before .before .before .before .before .before .before .before .before .before .before .before .before
+    .before .before .before .before .before .before .before .pre .0) _ refl (c .before .before .before .before .before .before .before .before .before .before
+    .before .before .before .before .before .before .before .before .print .result) _
+    (c .before .before .before .before .before .before .before .before .before .before .before .before .before .before .before .before .before .before .print .ensures)
+    (text-front (a .names .now) (nodes (a .codes .now) (a .lefts .now) (a .rights .now) (a .sizes .now)) (nodeOf (a .root))
+    (c .before .before .before .before .before .before .before .before .before .before .before .before .before .before .before .before .before .before .before
+    .before .before .before .before .before .before .before .pre .0) _ refl (c .before .before .before .before .before .before .before .before .before .before
+    .before .before .before .before .before .before .before .before .print .result) _
+    (c .before .before .before .before .before .before .before .before .before .before .before .before .before .before .before .before .before .before .print .ensures)
+    (c .before .before .before .before .before .before .before .before .before .before .before .before .before .before .before .printed .given .1))
+    names next e (a .root .size) (a .tried) (length (a .codes .now)) (a .dropped)
+    (c .before .before .before .before .before .before .before .before .before .before .before .before .before .before .before .before .before .before .before
+    .before .before .before .before .before .before .before .pre .1) (c .before .before .before .before .before .before .before .before .before .before .before
+    .before .found .ensures) (c .before .before .before .before .before .before .before .put .ensures) (c .before .before .put2 .ensures)
 
--- src/lib.rt:17:1
-same-length-2 : tie.Need-same-length-2
-same-length-2 c = search needs
-
--- src/lib.rt:17:1
 returns-2 : tie.Need-returns-2
-returns-2 c = let a = c .before .before .before .before .before .before .before .before .before .before .before .before .before .before .before .before .args in absurd (no-offset (a .names .now) (nodes (a .codes .now) (a .lefts .now) (a .rights .now) (a .sizes .now)) (nodeOf (a .root)) (c .before .before .before .before .before .before .before .before .before .before .before .before .before .before .before .before .pre .0) _ refl (c .before .before .before .before .before .before .before .before .print .result) _ (c .before .before .before .before .before .before .before .before .print .ensures) (c .before .before .before .before .before .printed2 .given .1))
+returns-2 c = let a = c .before .before .before .before .before .before .before .before .before .before .before .before .before .before .before .before .args in absurd
+    (no-offset (a .names .now) (nodes (a .codes .now) (a .lefts .now) (a .rights .now) (a .sizes .now)) (nodeOf (a .root))
+    (c .before .before .before .before .before .before .before .before .before .before .before .before .before .before .before .before .pre .0) _ refl
+    (c .before .before .before .before .before .before .before .before .print .result) _ (c .before .before .before .before .before .before .before .before .print .ensures)
+    (c .before .before .before .before .before .printed2 .given .1))
 
--- src/lib.rt:17:1
-same-length-3 : tie.Need-same-length-3
-same-length-3 c = search needs
-
--- src/lib.rt:17:1
 returns-3 : tie.Need-returns-3
-returns-3 c = let a = c .before .before .before .before .before .before .before .before .before .before .before .before .before .before .before .before .args in absurd (no-number (a .names .now) (nodes (a .codes .now) (a .lefts .now) (a .rights .now) (a .sizes .now)) (nodeOf (a .root)) (c .before .before .before .before .before .before .before .before .before .before .before .before .before .before .before .before .pre .0) _ refl (c .before .before .before .before .before .before .before .before .print .result) _ (c .before .before .before .before .before .before .before .before .print .ensures) (c .before .before .before .before .before .printed3 .given .1))
+returns-3 c = let a = c .before .before .before .before .before .before .before .before .before .before .before .before .before .before .before .before .args in absurd
+    (no-number (a .names .now) (nodes (a .codes .now) (a .lefts .now) (a .rights .now) (a .sizes .now)) (nodeOf (a .root))
+    (c .before .before .before .before .before .before .before .before .before .before .before .before .before .before .before .before .pre .0) _ refl
+    (c .before .before .before .before .before .before .before .before .print .result) _ (c .before .before .before .before .before .before .before .before .print .ensures)
+    (c .before .before .before .before .before .printed3 .given .1))
 
 pub found-spec : {M : Type 1} → statement M
-found-spec =
-    tie.close
-    (tie.spec
-    slice-aggregate-print
-    print-requires
-    enum-known-printed
-    found-requires
-    array-share-prefix-shown
-    slice-aggregate-put
-    put-requires
-    slice-aggregate-put-2
-    put-requires-2
-    enum-known-printed-2
-    broken-requires
-    enum-known-printed-3
-    refused-requires
-    same-length
-    returns
-    same-length-2
-    returns-2
-    same-length-3
-    returns-3)
+found-spec = tie.close (tie.spec
+    (λ c. search needs) (λ c κs. search needs) (λ c. search needs) (λ c κs. search needs) array-share-prefix-shown slice-aggregate-put
+    (λ c κs. search needs) (λ c. search needs) (λ c κs. search needs) (λ c. search needs) (λ c κs. search needs) (λ c. search needs)
+    (λ c κs. search needs) (λ c. search needs) returns (λ c. search needs) returns-2 (λ c. search needs) returns-3)

@@ -19,119 +19,192 @@ wide = record {
   binary = length-replicate {A = ℕ} 6 0;
 }
 
-slice-aggregate-read : tie.Need-slice-aggregate-read
-slice-aggregate-read c = search needs
-
-slice-aggregate-read-2 : tie.Need-slice-aggregate-read-2
-slice-aggregate-read-2 c = search needs
-
-slice-aggregate-read-3 : tie.Need-slice-aggregate-read-3
-slice-aggregate-read-3 c = search needs
-
-slice-aggregate-read-4 : tie.Need-slice-aggregate-read-4
-slice-aggregate-read-4 c = search needs
-
-slice-aggregate-read-5 : tie.Need-slice-aggregate-read-5
-slice-aggregate-read-5 c = search needs
-
-read-requires : tie.Need-read-requires
-read-requires c κs = search needs
-
-enum-known-read : tie.Need-enum-known-read
-enum-known-read c = search needs
-
 slice-aggregate-searched : tie.Need-slice-aggregate-searched
-slice-aggregate-searched c = handed (c .before .before .before .before .before .before .before .before .before .before .before .before .before .before .before .before .args .file .now) (λ i. omega (arith, c .before .before .before .before .before .before .before .before .before .before .before .before .before .before .before .shared-slice-known .given i)) _ wide (c .before .before .before .before .before .before .before .before .before .read .result) _ _ _ _ _ (c .before .before .before .before .before .before .before .before .before .read .ensures) (c .before .before .read2 .given .1) .names-long
-
-cast-searched : tie.Need-cast-searched
-cast-searched c = search needs
+slice-aggregate-searched c = handed (c .before .before .before .before .before .before .before .before .before .before .before .before .before .before .before
+    .before .args .file .now) (λ i. omega (
+      arith,
+      c .before .before .before .before .before .before .before .before .before .before .before .before .before .before
+          .before .shared-slice-known .given i,
+    )) _ wide (c .before .before .before .before .before .before .before .before .before .read .result) _ _ _ _ _
+    (c .before .before .before .before .before .before .before .before .before .read .ensures) (c .before .before .read2 .given .1) .names-long
 
 array-share-prefix-marks : tie.Need-array-share-prefix-marks
-array-share-prefix-marks c = handed (c .before .before .before .before .before .before .before .before .before .before .before .before .before .before .before .before .args .file .now) (λ i. omega (arith, c .before .before .before .before .before .before .before .before .before .before .before .before .before .before .before .shared-slice-known .given i)) _ wide (c .before .before .before .before .before .before .before .before .before .read .result) _ _ _ _ _ (c .before .before .before .before .before .before .before .before .before .read .ensures) (c .before .before .read2 .given .1) .all-marks .there
+array-share-prefix-marks c = handed (c .before .before .before .before .before .before .before .before .before .before .before .before .before .before .before
+    .before .args .file .now) (λ i. omega (
+      arith,
+      c .before .before .before .before .before .before .before .before .before .before .before .before .before .before
+          .before .shared-slice-known .given i,
+    )) _ wide (c .before .before .before .before .before .before .before .before .before .read .result) _ _ _ _ _
+    (c .before .before .before .before .before .before .before .before .before .read .ensures) (c .before .before .read2 .given .1) .all-marks .there
 
 slice-aggregate-searched-2 : tie.Need-slice-aggregate-searched-2
-slice-aggregate-searched-2 c = handed (c .before .before .before .before .before .before .before .before .before .before .before .before .before .before .before .before .before .args .file .now) (λ i. omega (arith, c .before .before .before .before .before .before .before .before .before .before .before .before .before .before .before .before .shared-slice-known .given i)) _ wide (c .before .before .before .before .before .before .before .before .before .before .read .result) _ _ _ _ _ (c .before .before .before .before .before .before .before .before .before .before .read .ensures) (c .before .before .before .read2 .given .1) .all-marks .long
+slice-aggregate-searched-2 c = handed (c .before .before .before .before .before .before .before .before .before .before .before .before .before .before .before .before
+    .before .args .file .now) (λ i. omega (
+      arith,
+      c .before .before .before .before .before .before .before .before .before .before .before .before .before .before
+          .before .before .shared-slice-known .given i,
+    )) _ wide (c .before .before .before .before .before .before .before .before .before .before .read .result) _ _ _ _ _
+    (c .before .before .before .before .before .before .before .before .before .before .read .ensures) (c .before .before .before .read2 .given .1) .all-marks .long
 
 array-share-prefix-lengths : tie.Need-array-share-prefix-lengths
-array-share-prefix-lengths c = handed (c .before .before .before .before .before .before .before .before .before .before .before .before .before .before .before .before .before .args .file .now) (λ i. omega (arith, c .before .before .before .before .before .before .before .before .before .before .before .before .before .before .before .before .shared-slice-known .given i)) _ wide (c .before .before .before .before .before .before .before .before .before .before .read .result) _ _ _ _ _ (c .before .before .before .before .before .before .before .before .before .before .read .ensures) (c .before .before .before .read2 .given .1) .all-lengths .there
+array-share-prefix-lengths c = handed (c .before .before .before .before .before .before .before .before .before .before .before .before .before .before .before .before
+    .before .args .file .now) (λ i. omega (
+      arith,
+      c .before .before .before .before .before .before .before .before .before .before .before .before .before .before
+          .before .before .shared-slice-known .given i,
+    )) _ wide (c .before .before .before .before .before .before .before .before .before .before .read .result) _ _ _ _ _
+    (c .before .before .before .before .before .before .before .before .before .before .read .ensures) (c .before .before .before .read2 .given .1) .all-lengths .there
 
 slice-aggregate-searched-3 : tie.Need-slice-aggregate-searched-3
-slice-aggregate-searched-3 c = handed (c .before .before .before .before .before .before .before .before .before .before .before .before .before .before .before .before .before .before .args .file .now) (λ i. omega (arith, c .before .before .before .before .before .before .before .before .before .before .before .before .before .before .before .before .before .shared-slice-known .given i)) _ wide (c .before .before .before .before .before .before .before .before .before .before .before .read .result) _ _ _ _ _ (c .before .before .before .before .before .before .before .before .before .before .before .read .ensures) (c .before .before .before .before .read2 .given .1) .all-lengths .long
+slice-aggregate-searched-3 c = handed (c .before .before .before .before .before .before .before .before .before .before .before .before .before .before .before .before
+    .before .before .args .file .now) (λ i. omega (
+      arith,
+      c .before .before .before .before .before .before .before .before .before .before .before .before .before
+          .before .before .before .before .shared-slice-known .given i,
+    )) _ wide (c .before .before .before .before .before .before .before .before .before .before
+    .before .read .result) _ _ _ _ _ (c .before .before .before .before .before .before .before .before .before .before .before .read .ensures)
+    (c .before .before .before .before .read2 .given .1) .all-lengths .long
 
 mul-words : tie.Need-mul-words
-mul-words c = let h = handed (c .before .before .before .before .before .before .before .before .before .before .before .before .before .before .before .before .before .before .args .file .now) (λ i. omega (arith, c .before .before .before .before .before .before .before .before .before .before .before .before .before .before .before .before .before .shared-slice-known .given i)) _ wide (c .before .before .before .before .before .before .before .before .before .before .before .read .result) _ _ _ _ _ (c .before .before .before .before .before .before .before .before .before .before .before .read .ensures) (c .before .before .before .before .read2 .given .1) in omega (arith, h .small)
+mul-words c = let h = handed (c .before .before .before .before .before .before .before .before .before .before .before .before .before .before .before .before .before
+    .before .args .file .now) (λ i. omega (
+      arith,
+      c .before .before .before .before .before .before .before .before .before .before .before .before .before .before
+          .before .before .before .shared-slice-known .given i,
+    )) _ wide (c .before .before .before .before .before .before .before .before .before .before
+    .before .read .result) _ _ _ _ _ (c .before .before .before .before .before .before .before .before .before .before .before .read .ensures)
+    (c .before .before .before .before .read2 .given .1) in omega (arith, h .small)
 
 array-share-prefix-words : tie.Need-array-share-prefix-words
-array-share-prefix-words c = handed (c .before .before .before .before .before .before .before .before .before .before .before .before .before .before .before .before .before .before .args .file .now) (λ i. omega (arith, c .before .before .before .before .before .before .before .before .before .before .before .before .before .before .before .before .before .shared-slice-known .given i)) _ wide (c .before .before .before .before .before .before .before .before .before .before .before .read .result) _ _ _ _ _ (c .before .before .before .before .before .before .before .before .before .before .before .read .ensures) (c .before .before .before .before .read2 .given .1) .all-words .there
+array-share-prefix-words c = handed (c .before .before .before .before .before .before .before .before .before .before .before .before .before .before .before .before
+    .before .before .args .file .now) (λ i. omega (
+      arith,
+      c .before .before .before .before .before .before .before .before .before .before .before .before .before
+          .before .before .before .before .shared-slice-known .given i,
+    )) _ wide (c .before .before .before .before .before .before .before .before .before .before
+    .before .read .result) _ _ _ _ _ (c .before .before .before .before .before .before .before .before .before .before .before .read .ensures)
+    (c .before .before .before .before .read2 .given .1) .all-words .there
 
 slice-aggregate-searched-4 : tie.Need-slice-aggregate-searched-4
-slice-aggregate-searched-4 c = handed (c .before .before .before .before .before .before .before .before .before .before .before .before .before .before .before .before .before .before .before .args .file .now) (λ i. omega (arith, c .before .before .before .before .before .before .before .before .before .before .before .before .before .before .before .before .before .before .shared-slice-known .given i)) _ wide (c .before .before .before .before .before .before .before .before .before .before .before .before .read .result) _ _ _ _ _ (c .before .before .before .before .before .before .before .before .before .before .before .before .read .ensures) (c .before .before .before .before .before .read2 .given .1) .all-words .long
+slice-aggregate-searched-4 c = handed (c .before .before .before .before .before .before .before .before .before .before .before .before .before .before .before .before
+    .before .before .before .args .file .now) (λ i. omega (
+      arith,
+      c .before .before .before .before .before .before .before .before .before .before .before .before
+          .before .before .before .before .before .before .shared-slice-known .given i,
+    )) _ wide
+    (c .before .before .before .before .before .before .before .before .before .before .before .before .read .result) _ _ _ _ _
+    (c .before .before .before .before .before .before .before .before .before .before .before .before .read .ensures)
+    (c .before .before .before .before .before .read2 .given .1) .all-words .long
 
 array-share-prefix-unary : tie.Need-array-share-prefix-unary
-array-share-prefix-unary c = handed (c .before .before .before .before .before .before .before .before .before .before .before .before .before .before .before .before .before .before .before .args .file .now) (λ i. omega (arith, c .before .before .before .before .before .before .before .before .before .before .before .before .before .before .before .before .before .before .shared-slice-known .given i)) _ wide (c .before .before .before .before .before .before .before .before .before .before .before .before .read .result) _ _ _ _ _ (c .before .before .before .before .before .before .before .before .before .before .before .before .read .ensures) (c .before .before .before .before .before .read2 .given .1) .all-unary .there
+array-share-prefix-unary c = handed (c .before .before .before .before .before .before .before .before .before .before .before .before .before .before .before .before
+    .before .before .before .args .file .now) (λ i. omega (
+      arith,
+      c .before .before .before .before .before .before .before .before .before .before .before .before
+          .before .before .before .before .before .before .shared-slice-known .given i,
+    )) _ wide
+    (c .before .before .before .before .before .before .before .before .before .before .before .before .read .result) _ _ _ _ _
+    (c .before .before .before .before .before .before .before .before .before .before .before .before .read .ensures)
+    (c .before .before .before .before .before .read2 .given .1) .all-unary .there
 
 slice-aggregate-searched-5 : tie.Need-slice-aggregate-searched-5
-slice-aggregate-searched-5 c = handed (c .before .before .before .before .before .before .before .before .before .before .before .before .before .before .before .before .before .before .before .before .args .file .now) (λ i. omega (arith, c .before .before .before .before .before .before .before .before .before .before .before .before .before .before .before .before .before .before .before .shared-slice-known .given i)) _ wide (c .before .before .before .before .before .before .before .before .before .before .before .before .before .read .result) _ _ _ _ _ (c .before .before .before .before .before .before .before .before .before .before .before .before .before .read .ensures) (c .before .before .before .before .before .before .read2 .given .1) .all-unary .long
+slice-aggregate-searched-5 c = handed (c .before .before .before .before .before .before .before .before .before .before .before .before .before .before .before .before
+    .before .before .before .before .args .file .now) (λ i. omega (
+      arith,
+      c .before .before .before .before .before .before .before .before .before .before .before
+          .before .before .before .before .before .before .before .before .shared-slice-known .given i,
+    )) _ wide
+    (c .before .before .before .before .before .before .before .before .before .before .before .before .before .read .result) _ _ _ _ _
+    (c .before .before .before .before .before .before .before .before .before .before .before .before .before .read .ensures)
+    (c .before .before .before .before .before .before .read2 .given .1) .all-unary .long
 
 array-share-prefix-binary : tie.Need-array-share-prefix-binary
-array-share-prefix-binary c = handed (c .before .before .before .before .before .before .before .before .before .before .before .before .before .before .before .before .before .before .before .before .args .file .now) (λ i. omega (arith, c .before .before .before .before .before .before .before .before .before .before .before .before .before .before .before .before .before .before .before .shared-slice-known .given i)) _ wide (c .before .before .before .before .before .before .before .before .before .before .before .before .before .read .result) _ _ _ _ _ (c .before .before .before .before .before .before .before .before .before .before .before .before .before .read .ensures) (c .before .before .before .before .before .before .read2 .given .1) .all-binary .there
+array-share-prefix-binary c = handed (c .before .before .before .before .before .before .before .before .before .before .before .before .before .before .before .before
+    .before .before .before .before .args .file .now) (λ i. omega (
+      arith,
+      c .before .before .before .before .before .before .before .before .before .before .before
+          .before .before .before .before .before .before .before .before .shared-slice-known .given i,
+    )) _ wide
+    (c .before .before .before .before .before .before .before .before .before .before .before .before .before .read .result) _ _ _ _ _
+    (c .before .before .before .before .before .before .before .before .before .before .before .before .before .read .ensures)
+    (c .before .before .before .before .before .before .read2 .given .1) .all-binary .there
 
 slice-aggregate-searched-6 : tie.Need-slice-aggregate-searched-6
-slice-aggregate-searched-6 c = handed (c .before .before .before .before .before .before .before .before .before .before .before .before .before .before .before .before .before .before .before .before .before .args .file .now) (λ i. omega (arith, c .before .before .before .before .before .before .before .before .before .before .before .before .before .before .before .before .before .before .before .before .shared-slice-known .given i)) _ wide (c .before .before .before .before .before .before .before .before .before .before .before .before .before .before .read .result) _ _ _ _ _ (c .before .before .before .before .before .before .before .before .before .before .before .before .before .before .read .ensures) (c .before .before .before .before .before .before .before .read2 .given .1) .all-binary .long
+slice-aggregate-searched-6 c = handed (c .before .before .before .before .before .before .before .before .before .before .before .before .before .before .before .before
+    .before .before .before .before .before .args .file .now) (λ i. omega (
+      arith,
+      c .before .before .before .before .before .before .before .before .before .before
+          .before .before .before .before .before .before .before .before .before .before .shared-slice-known .given i,
+    )) _ wide
+    (c .before .before .before .before .before .before .before .before .before .before .before .before .before .before .read .result) _ _ _ _ _
+    (c .before .before .before .before .before .before .before .before .before .before .before .before .before .before .read .ensures)
+    (c .before .before .before .before .before .before .before .read2 .given .1) .all-binary .long
 
 searched-requires : tie.Need-searched-requires
-searched-requires c κs = (given-by (c .before .before .before .before .before .before .before .before .before .before .before .before .before .before .before .before .before .before .before .before .before .before .args .file .now) (λ i. omega (arith, c .before .before .before .before .before .before .before .before .before .before .before .before .before .before .before .before .before .before .before .before .before .shared-slice-known .given i)) _ wide (c .before .before .before .before .before .before .before .before .before .before .before .before .before .before .before .read .result) _ _ _ _ _ (c .before .before .before .before .before .before .before .before .before .before .before .before .before .before .before .read .ensures) (handed (c .before .before .before .before .before .before .before .before .before .before .before .before .before .before .before .before .before .before .before .before .before .before .args .file .now) (λ i. omega (arith, c .before .before .before .before .before .before .before .before .before .before .before .before .before .before .before .before .before .before .before .before .before .shared-slice-known .given i)) _ wide (c .before .before .before .before .before .before .before .before .before .before .before .before .before .before .before .read .result) _ _ _ _ _ (c .before .before .before .before .before .before .before .before .before .before .before .before .before .before .before .read .ensures) (c .before .before .before .before .before .before .before .before .read2 .given .1)) (c .before .before .before .before .before .before .before .before .before .before .before .before .before .before .before .before .before .before .before .before .before .before .args .room), omega arith)
-
-enum-known-read-2 : tie.Need-enum-known-read-2
-enum-known-read-2 c = search needs
-
-broken-requires : tie.Need-broken-requires
-broken-requires c κs = search needs
-
-enum-told : tie.Need-enum-told
-enum-told c = search needs
-
-refused-requires : tie.Need-refused-requires
-refused-requires c κs = search needs
+searched-requires c κs = (
+  given-by (c .before .before .before .before .before .before .before .before .before .before .before .before .before .before .before .before
+      .before .before .before .before .before .before .args .file .now) (λ i. omega (
+        arith,
+        c .before .before .before .before .before .before .before .before .before .before .before .before .before .before .before .before .before .before .before
+            .before .before .shared-slice-known .given i,
+      )) _ wide (c .before .before .before .before .before .before .before .before .before .before .before .before .before
+      .before .before .read .result) _ _ _ _ _ (c .before .before .before .before .before .before .before .before .before .before .before .before .before .before
+      .before .read .ensures) (handed (c .before .before .before .before .before .before .before .before .before .before .before .before .before .before .before .before
+      .before .before .before .before .before .before .args .file .now) (λ i. omega (
+        arith,
+        c .before .before .before .before .before .before .before .before .before .before .before .before .before .before .before .before .before .before .before
+            .before .before .shared-slice-known .given i,
+      )) _ wide (c .before .before .before .before .before .before .before .before .before .before .before .before .before
+      .before .before .read .result) _ _ _ _ _ (c .before .before .before .before .before .before .before .before .before .before .before .before .before .before
+      .before .read .ensures) (c .before .before .before .before .before .before .before .before .read2 .given .1))
+      (c .before .before .before .before .before .before .before .before .before .before .before .before .before .before .before .before .before .before .before .before
+      .before .before .args .room),
+  omega arith,
+)
 
 returns : tie.Need-returns
-returns c = good-lines (c .before .before .before .before .before .before .before .before .before .before .before .before .before .before .before .before .before .before .before .before .before .before .before .args .file .now) (λ i. omega (arith, c .before .before .before .before .before .before .before .before .before .before .before .before .before .before .before .before .before .before .before .before .before .before .shared-slice-known .given i)) _ wide (c .before .before .before .before .before .before .before .before .before .before .before .before .before .before .before .before .read .result) _ _ _ _ _ (c .before .before .before .before .before .before .before .before .before .before .before .before .before .before .before .before .read .ensures) (handed (c .before .before .before .before .before .before .before .before .before .before .before .before .before .before .before .before .before .before .before .before .before .before .before .args .file .now) (λ i. omega (arith, c .before .before .before .before .before .before .before .before .before .before .before .before .before .before .before .before .before .before .before .before .before .before .shared-slice-known .given i)) _ wide (c .before .before .before .before .before .before .before .before .before .before .before .before .before .before .before .before .read .result) _ _ _ _ _ (c .before .before .before .before .before .before .before .before .before .before .before .before .before .before .before .before .read .ensures) (c .before .before .before .before .before .before .before .before .before .read2 .given .1)) (c .before .before .before .before .before .before .before .before .before .before .before .before .before .before .before .before .before .before .before .before .before .before .before .args .room) (c .searched .ensures)
+returns c = good-lines (c .before .before .before .before .before .before .before .before .before .before .before .before .before .before .before .before .before
+    .before .before .before .before .before .before .args .file .now) (λ i. omega (
+      arith,
+      c .before .before .before .before .before .before .before .before .before .before .before .before .before .before .before .before .before .before .before
+          .before .before .before .shared-slice-known .given i,
+    )) _ wide (c .before .before .before .before .before .before .before .before .before .before .before .before
+    .before .before .before .before .read .result) _ _ _ _ _ (c .before .before .before .before .before .before .before .before .before .before .before .before .before
+    .before .before .before .read .ensures) (handed (c .before .before .before .before .before .before .before .before .before .before .before .before .before .before
+    .before .before .before .before .before .before .before .before .before .args .file .now) (λ i. omega (
+      arith,
+      c .before .before .before .before .before .before .before .before .before .before .before .before .before .before .before .before .before .before .before
+          .before .before .before .shared-slice-known .given i,
+    )) _ wide (c .before .before .before .before .before .before .before .before .before .before .before .before
+    .before .before .before .before .read .result) _ _ _ _ _ (c .before .before .before .before .before .before .before .before .before .before .before .before .before
+    .before .before .before .read .ensures) (c .before .before .before .before .before .before .before .before .before .read2 .given .1))
+    (c .before .before .before .before .before .before .before .before .before .before .before .before .before .before .before .before .before .before .before .before
+    .before .before .before .args .room) (c .searched .ensures)
 
 returns-2 : tie.Need-returns-2
-returns-2 c = broken-lines (c .before .before .before .before .before .before .before .before .before .before .before .before .before .before .before .before .before .args .file .now) (λ i. omega (arith, c .before .before .before .before .before .before .before .before .before .before .before .before .before .before .before .before .shared-slice-known .given i)) _ wide (c .before .before .before .before .before .before .before .before .before .before .read .result) _ _ _ _ _ (c .before .before .before .before .before .before .before .before .before .before .read .ensures) (c .before .before .before .before .before .before .before .before .before .before .before .before .before .before .before .before .before .args .room) (c .before .before .before .read3 .given .1) (omega arith) (c .broken .ensures)
+returns-2 c = broken-lines (c .before .before .before .before .before .before .before .before .before .before .before .before .before .before .before .before
+    .before .args .file .now) (λ i. omega (
+      arith,
+      c .before .before .before .before .before .before .before .before .before .before .before .before .before .before
+          .before .before .shared-slice-known .given i,
+    )) _ wide (c .before .before .before .before .before .before .before .before .before .before .read .result) _ _ _ _ _
+    (c .before .before .before .before .before .before .before .before .before .before .read .ensures)
+    (c .before .before .before .before .before .before .before .before .before .before .before .before .before .before .before .before .before .args .room)
+    (c .before .before .before .read3 .given .1) (omega arith) (c .broken .ensures)
 
 returns-3 : tie.Need-returns-3
-returns-3 c = absurd (never-room (c .before .before .before .before .before .before .before .before .before .before .before .before .before .before .before .before .args .file .now) (λ i. omega (arith, c .before .before .before .before .before .before .before .before .before .before .before .before .before .before .before .shared-slice-known .given i)) _ wide (c .before .before .before .before .before .before .before .before .before .read .result) _ _ _ _ _ (c .before .before .before .before .before .before .before .before .before .read .ensures) (c .before .before .enum-told .given .1))
+returns-3 c = absurd (never-room (c .before .before .before .before .before .before .before .before .before .before .before .before .before .before .before
+    .before .args .file .now) (λ i. omega (
+      arith,
+      c .before .before .before .before .before .before .before .before .before .before .before .before .before .before
+          .before .shared-slice-known .given i,
+    )) _ wide (c .before .before .before .before .before .before .before .before .before .read .result) _ _ _ _ _
+    (c .before .before .before .before .before .before .before .before .before .read .ensures) (c .before .before .enum-told .given .1))
 
 pub of-file-spec : {M : Type 1} → statement M
-of-file-spec =
-    tie.close
-    (tie.spec
-    slice-aggregate-read
-    slice-aggregate-read-2
-    slice-aggregate-read-3
-    slice-aggregate-read-4
-    slice-aggregate-read-5
-    read-requires
-    enum-known-read
-    slice-aggregate-searched
-    cast-searched
-    array-share-prefix-marks
-    slice-aggregate-searched-2
-    array-share-prefix-lengths
-    slice-aggregate-searched-3
-    mul-words
-    array-share-prefix-words
-    slice-aggregate-searched-4
-    array-share-prefix-unary
-    slice-aggregate-searched-5
-    array-share-prefix-binary
-    slice-aggregate-searched-6
-    searched-requires
-    enum-known-read-2
-    broken-requires
-    enum-told
-    refused-requires
-    returns
-    returns-2
-    returns-3)
+of-file-spec = tie.close (tie.spec
+    (λ c. search needs) (λ c. search needs) (λ c. search needs) (λ c. search needs) (λ c. search needs) (λ c κs. search needs) (λ c. search needs)
+    slice-aggregate-searched (λ c. search needs) array-share-prefix-marks slice-aggregate-searched-2 array-share-prefix-lengths
+    slice-aggregate-searched-3 mul-words array-share-prefix-words slice-aggregate-searched-4 array-share-prefix-unary slice-aggregate-searched-5
+    array-share-prefix-binary slice-aggregate-searched-6 searched-requires (λ c. search needs) (λ c κs. search needs) (λ c. search needs)
+    (λ c κs. search needs) returns returns-2 returns-3)

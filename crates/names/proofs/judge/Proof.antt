@@ -5,15 +5,6 @@ use borrow.Author.Needs.{needs}
 use Rattle.names.proofs.judge.Statement.{statement}
 use Rattle.names.proofs.judge.Tie as tie
 
-section-requires : tie.Need-section-requires
-section-requires c κs = search needs
-
-enum-known-s : tie.Need-enum-known-s
-enum-known-s c = search needs
-
-enum-known-s-2 : tie.Need-enum-known-s-2
-enum-known-s-2 c = search needs
-
 returns : tie.Need-returns
 returns c = section-whole _ _ (c .before .before .before .before .section .ensures) (c .before .before .s .given .1) (c .if1 .taken)
 
@@ -26,4 +17,4 @@ returns-3 c = section-bad _ _ (c .before .before .before .section .ensures) (c .
 pub judge-spec : {M : Type 1} → statement M
 judge-spec =
     tie.close
-    (tie.spec section-requires enum-known-s enum-known-s-2 returns returns-2 returns-3)
+    (tie.spec (λ c κs. search needs) (λ c. search needs) (λ c. search needs) returns returns-2 returns-3)

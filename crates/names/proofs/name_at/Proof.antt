@@ -7,18 +7,6 @@ use borrow.Author.Needs.{needs}
 use Rattle.names.proofs.name_at.Statement.{statement}
 use Rattle.names.proofs.name_at.Tie as tie
 
-byte-within-requires : tie.Need-byte-within-requires
-byte-within-requires c κs = search needs
-
-enum-known-c : tie.Need-enum-known-c
-enum-known-c c = search needs
-
-letters-from-requires : tie.Need-letters-from-requires
-letters-from-requires c κs = search needs
-
-enum-known-s : tie.Need-enum-known-s
-enum-known-s c = search needs
-
 taken-name-requires : tie.Need-taken-name-requires
 taken-name-requires c κs =
     let at-s = c .before in
@@ -35,13 +23,8 @@ returns c =
     let at-letters-from = at-s .before .before in
     let at-c = at-letters-from .before .before in
     let at-byte-within = at-c .before .before in
-    name-twice _ _ _ _ (at-byte-within .byte-within .ensures) (at-c .c .given .1) _ (at-letters-from .letters-from .ensures) (at-s .s .given .1) (sym (at-taken-name .taken-name .ensures) ∙ c .if1 .taken)
-
-enum-known-s-2 : tie.Need-enum-known-s-2
-enum-known-s-2 c = search needs
-
-enum-known-c-2 : tie.Need-enum-known-c-2
-enum-known-c-2 c = search needs
+    name-twice _ _ _ _ (at-byte-within .byte-within .ensures) (at-c .c .given .1) _ (at-letters-from .letters-from .ensures) (at-s .s .given .1)
+    (sym (at-taken-name .taken-name .ensures) ∙ c .if1 .taken)
 
 returns-2 : tie.Need-returns-2
 returns-2 c =
@@ -64,17 +47,6 @@ returns-4 : tie.Need-returns-4
 returns-4 c = name-no-length _ _ _ _ (c .before .before .before .byte-within .ensures) (c .before .c2 .given .1)
 
 pub name-at-spec : {M : Type 1} → statement M
-name-at-spec =
-    tie.close
-    (tie.spec
-    byte-within-requires
-    enum-known-c
-    letters-from-requires
-    enum-known-s
-    taken-name-requires
-    returns
-    enum-known-s-2
-    enum-known-c-2
-    returns-2
-    returns-3
-    returns-4)
+name-at-spec = tie.close (tie.spec
+    (λ c κs. search needs) (λ c. search needs) (λ c κs. search needs) (λ c. search needs) taken-name-requires returns (λ c. search needs)
+    (λ c. search needs) returns-2 returns-3 returns-4)

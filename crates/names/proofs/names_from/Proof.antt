@@ -14,45 +14,21 @@ Inv-loop file count i₀ p₀ i p = Names file count i p
 abbrev μ-loop : tie.MeasureT-loop
 μ-loop file count i₀ p₀ i p = count - i
 
-loop-holds : tie.Need-loop-holds Inv-loop μ-loop
-loop-holds c = names-start _ _ (c .before .pre)
-
 name-at-requires : tie.Need-name-at-requires Inv-loop μ-loop
 name-at-requires c κs = omega (arith, c .before .loop .inv .at, c .before .loop .inv .room)
 
-enum-known-s : tie.Need-enum-known-s Inv-loop μ-loop
-enum-known-s c = search needs
-
-enum-known-s-2 : tie.Need-enum-known-s-2 Inv-loop μ-loop
-enum-known-s-2 c = search needs
-
 returns : tie.Need-returns Inv-loop μ-loop
-returns c = names-broken _ _ (c .before .before .before .before .before .loop .inv) _ (c .before .before .before .before .loop-test .taken) (c .before .before .before .name-at .ensures) (c .before .s2 .given .1)
-
-add-i : tie.Need-add-i Inv-loop μ-loop
-add-i c = search needs
-
-loop-less : tie.Need-loop-less Inv-loop μ-loop
-loop-less c = search needs
+returns c = names-broken _ _ (c .before .before .before .before .before .loop .inv) _ (c .before .before .before .before .loop-test .taken)
+    (c .before .before .before .name-at .ensures) (c .before .s2 .given .1)
 
 loop-again : tie.Need-loop-again Inv-loop μ-loop
-loop-again c = names-turn _ _ (c .before .before .before .before .before .loop .inv) _ (c .before .before .before .before .loop-test .taken) (c .before .before .before .name-at .ensures) (c .before .s .given .1)
+loop-again c = names-turn _ _ (c .before .before .before .before .before .loop .inv) _ (c .before .before .before .before .loop-test .taken)
+    (c .before .before .before .name-at .ensures) (c .before .s .given .1)
 
 returns-2 : tie.Need-returns-2 Inv-loop μ-loop
 returns-2 c = done _ _ (c .before .loop .inv .loop) (c .loop-test .left)
 
 pub names-from-spec : {M : Type 1} → statement M
-names-from-spec =
-    tie.close
-    (tie.spec
-    Inv-loop
-    μ-loop
-    loop-holds
-    name-at-requires
-    enum-known-s
-    enum-known-s-2
-    returns
-    add-i
-    loop-less
-    loop-again
-    returns-2)
+names-from-spec = tie.close (tie.spec
+    Inv-loop μ-loop (λ c. names-start _ _ (c .before .pre)) name-at-requires (λ c. search needs) (λ c. search needs) returns (λ c. search needs)
+    (λ c. search needs) loop-again returns-2)

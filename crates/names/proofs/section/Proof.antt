@@ -12,17 +12,8 @@ use borrow.Author.Needs.{needs}
 use Rattle.names.proofs.section.Statement.{statement}
 use Rattle.names.proofs.section.Tie as tie
 
-byte-within-requires : tie.Need-byte-within-requires
-byte-within-requires c κs = search needs
-
-enum-known-c : tie.Need-enum-known-c
-enum-known-c c = search needs
-
 names-from-requires : tie.Need-names-from-requires
 names-from-requires c κs = let n = byte-next _ _ _ (byte-read _ _ (c .before .before .before .byte-within .ensures) (c .before .c .given .1)) in omega (arith, n .0)
-
-enum-known-c-2 : tie.Need-enum-known-c-2
-enum-known-c-2 c = search needs
 
 returns : tie.Need-returns
 returns c =
@@ -35,12 +26,5 @@ returns-2 : tie.Need-returns-2
 returns-2 c = section-broken _ _ 1 _ 0 _ (c .before .before .before .byte-within .ensures) (c .before .c2 .given .1)
 
 pub section-spec : {M : Type 1} → statement M
-section-spec =
-    tie.close
-    (tie.spec
-    byte-within-requires
-    enum-known-c
-    names-from-requires
-    enum-known-c-2
-    returns
-    returns-2)
+section-spec = tie.close (tie.spec
+    (λ c κs. search needs) (λ c. search needs) names-from-requires (λ c. search needs) returns returns-2)

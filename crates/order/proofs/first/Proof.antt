@@ -10,26 +10,11 @@ use borrow.Author.Needs.{needs}
 use Rattle.order.proofs.first.Statement.{statement}
 use Rattle.order.proofs.first.Tie as tie
 
-leaf-cursor-requires : tie.Need-leaf-cursor-requires
-leaf-cursor-requires c κs = search needs
-
 returns : tie.Need-returns
 returns c = c .leaf-cursor .ensures ∙ first-zero (c .before .before .before .args .starts .now) _ (inl (c .before .if1 .taken))
 
-leaf-cursor-requires-2 : tie.Need-leaf-cursor-requires-2
-leaf-cursor-requires-2 c κs = search needs
-
 returns-2 : tie.Need-returns-2
 returns-2 c = c .leaf-cursor2 .ensures ∙ first-zero (c .before .before .before .before .args .starts .now) _ (inr (c .before .if2 .taken))
-
-sub-t4 : tie.Need-sub-t4
-sub-t4 c = search needs
-
-mul-t5 : tie.Need-mul-t5
-mul-t5 c = search needs
-
-shared-slice-read-t7 : tie.Need-shared-slice-read-t7
-shared-slice-read-t7 c = search needs
 
 cast-t8 : tie.Need-cast-t8
 cast-t8 c = omega (arith, c .shared-slice-known2 .given (c .before .before .before .before .args .s - 1))
@@ -38,15 +23,5 @@ returns-3 : tie.Need-returns-3
 returns-3 c = rw (lt-ltb 1 (c .before .before .before .before .args .s) (omega arith))
 
 pub first-spec : {M : Type 1} → statement M
-first-spec =
-    tie.close
-    (tie.spec
-    leaf-cursor-requires
-    returns
-    leaf-cursor-requires-2
-    returns-2
-    sub-t4
-    mul-t5
-    shared-slice-read-t7
-    cast-t8
-    returns-3)
+first-spec = tie.close (tie.spec
+    (λ c κs. search needs) returns (λ c κs. search needs) returns-2 (λ c. search needs) (λ c. search needs) (λ c. search needs) cast-t8 returns-3)

@@ -19,57 +19,26 @@ Inv-loop starts s unary binary half here₀ here = (m constants : ℕ) → parts
 abbrev μ-loop : tie.MeasureT-loop
 μ-loop starts s unary binary half here₀ here = half - here .split
 
-add-half : tie.Need-add-half Inv-loop μ-loop
-add-half c = search needs
-
-loop-holds : tie.Need-loop-holds Inv-loop μ-loop
-loop-holds c = λ m constants. refl
-
-part-of-requires : tie.Need-part-of-requires Inv-loop μ-loop
-part-of-requires c κs = search needs
-
-split-step-requires : tie.Need-split-step-requires Inv-loop μ-loop
-split-step-requires c κs = search needs
-
-enum-told : tie.Need-enum-told Inv-loop μ-loop
-enum-told c = search needs
-
-enum-told-2 : tie.Need-enum-told-2 Inv-loop μ-loop
-enum-told-2 c = search needs
-
 returns : tie.Need-returns Inv-loop μ-loop
-returns c = record { takes = λ m constants. carried (c .before .before .before .before .before .before .loop .inv m constants) (parts-step (layerOf _ _ m constants _ _) _ (omega arith) (c .before .before .split-step .result) (c .before .match .keys2) (rw (c .before .before .before .part-of .ensures) at (c .before .before .split-step .ensures))) }
-
-add-part-start : tie.Need-add-part-start Inv-loop μ-loop
-add-part-start c = search needs
-
-part-start-requires : tie.Need-part-start-requires Inv-loop μ-loop
-part-start-requires c κs = search needs
+returns c = record {
+  takes = λ m constants. carried (c .before .before .before .before .before .before .loop .inv m constants) (parts-step
+      (layerOf _ _ m constants _ _) _ (omega arith) (c .before .before .split-step .result) (c .before .match .keys2)
+      (rw (c .before .before .before .part-of .ensures) at (c .before .before .split-step .ensures)));
+}
 
 loop-less : tie.Need-loop-less Inv-loop μ-loop
 loop-less c = omega (arith, ap (λ (at : Cursor). at .split) (c .part-start .ensures))
 
 loop-again : tie.Need-loop-again Inv-loop μ-loop
-loop-again c = λ m constants. c .before .before .before .before .before .before .before .loop .inv m constants ∙ parts-done (layerOf _ _ m constants _ _) _ (ended (c .before .before .before .split-step .result) (c .before .before .match .keys1) (rw (c .before .before .before .before .part-of .ensures) at (c .before .before .before .split-step .ensures))) ∙ ap (partsAhead (layerOf _ _ m constants _ _)) (sym (c .part-start .ensures))
+loop-again c = λ m constants. c .before .before .before .before .before .before .before .loop .inv m constants ∙ parts-done
+    (layerOf _ _ m constants _ _) _ (ended (c .before .before .before .split-step .result) (c .before .before .match .keys1)
+    (rw (c .before .before .before .before .part-of .ensures) at (c .before .before .before .split-step .ensures))) ∙ ap
+    (partsAhead (layerOf _ _ m constants _ _)) (sym (c .part-start .ensures))
 
 returns-2 : tie.Need-returns-2 Inv-loop μ-loop
 returns-2 c = record { takes = λ m constants. Takes.ends (c .before .before .loop .inv m constants ∙ parts-out (layerOf _ _ m constants _ _) _ (omega arith)) refl }
 
 pub splits-step-spec : {M : Type 1} → statement M
-splits-step-spec =
-    tie.close
-    (tie.spec
-    Inv-loop
-    μ-loop
-    add-half
-    loop-holds
-    part-of-requires
-    split-step-requires
-    enum-told
-    enum-told-2
-    returns
-    add-part-start
-    part-start-requires
-    loop-less
-    loop-again
-    returns-2)
+splits-step-spec = tie.close (tie.spec
+    Inv-loop μ-loop (λ c. search needs) (λ c. λ m constants. refl) (λ c κs. search needs) (λ c κs. search needs) (λ c. search needs)
+    (λ c. search needs) returns (λ c. search needs) (λ c κs. search needs) loop-less loop-again returns-2)

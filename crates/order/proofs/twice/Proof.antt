@@ -5,14 +5,8 @@ use borrow.Author.Needs.{needs}
 use Rattle.order.proofs.twice.Statement.{statement}
 use Rattle.order.proofs.twice.Tie as tie
 
-returns : tie.Need-returns
-returns c = search needs
-
-operator-of-requires : tie.Need-operator-of-requires
-operator-of-requires c κs = search needs
-
 returns-2 : tie.Need-returns-2
 returns-2 c = twice-listed _ (c .before .before .if1 .left) (c .before .operator-of .ensures)
 
 pub twice-spec : {M : Type 1} → statement M
-twice-spec = tie.close (tie.spec returns operator-of-requires returns-2)
+twice-spec = tie.close (tie.spec (λ c. search needs) (λ c κs. search needs) returns-2)

@@ -11,9 +11,6 @@ returns : tie.Need-returns
 unfolding byte
 returns c = simp (le-ltb _ _ (c .if1 .taken))
 
-shared-slice-read-b : tie.Need-shared-slice-read-b
-shared-slice-read-b c = search needs
-
 cast-b : tie.Need-cast-b
 cast-b c = omega (arith, c .shared-slice-known .given (c .before .before .args .at))
 
@@ -25,13 +22,10 @@ returns-3 : tie.Need-returns-3
 unfolding byte
 returns-3 c = simp (lt-ltb _ _ (c .before .before .before .if1 .left), le-leb _ _ (c .before .if2 .left), lt-leb _ _ (c .if3 .taken))
 
-add-t6 : tie.Need-add-t6
-add-t6 c = search needs
-
 returns-4 : tie.Need-returns-4
 unfolding byte
 returns-4 c = simp (lt-ltb _ _ (c .before .before .before .if1 .left), le-leb _ _ (c .before .if2 .left), le-leb _ _ (c .if3 .left))
 
 pub byte-within-spec : {M : Type 1} → statement M
 byte-within-spec =
-    tie.close (tie.spec returns shared-slice-read-b cast-b returns-2 returns-3 add-t6 returns-4)
+    tie.close (tie.spec returns (λ c. search needs) cast-b returns-2 returns-3 (λ c. search needs) returns-4)

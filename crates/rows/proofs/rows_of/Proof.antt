@@ -1,101 +1,55 @@
 -- `rows_of` meets its contract: each group of codes by its own function.
 -- Assumes nothing.
-use mathlib.Core.Path.{_≡_}
-use Prim.Native.Nat.{ℕ}
 use native.Mathlib.Omega.{arith}
 use borrow.Author.Needs.{needs}
-use Rattle.sequence.proofs.Groups.{in-unary, in-binary, off-unary, off-binary}
+use Rattle.operators.proofs.Groups.{in-unary, in-binary, in-neither}
 use Rattle.rows.proofs.Candidates.{unary-told, binary-told, leaf-told}
 use Rattle.rows.proofs.rows_of.Statement.{statement}
 use Rattle.rows.proofs.rows_of.Tie as tie
 
-returns : tie.Need-returns
-returns c = search needs
-
-returns-2 : tie.Need-returns-2
-returns-2 c = search needs
-
-returns-3 : tie.Need-returns-3
-returns-3 c = search needs
-
-operator-of-requires : tie.Need-operator-of-requires
-operator-of-requires c κs = search needs
-
-enum-told : tie.Need-enum-told
-enum-told c = search needs
-
 rows-of-requires : tie.Need-rows-of-requires
 rows-of-requires c κs = let f = c .before .before .before .operator-of in (search needs, search needs, in-unary _ (f .result) (f .ensures) (c .before .enum-told .given .1))
-
-enum-told-2 : tie.Need-enum-told-2
-enum-told-2 c = search needs
 
 rows-of-requires-2 : tie.Need-rows-of-requires-2
 rows-of-requires-2 c κs = let f = c .before .before .before .operator-of in (search needs, search needs, in-binary _ (f .result) (f .ensures) (c .before .enum-told2 .given .1))
 
-enum-told-3 : tie.Need-enum-told-3
-enum-told-3 c = search needs
-
 rows-of-requires-3 : tie.Need-rows-of-requires-3
 rows-of-requires-3 c κs =
-    let f = c .before .before .before .operator-of in (
-      search needs,
-      search needs,
-      λ u. off-unary _ (f .result) (f .ensures) (λ g. let z : _≡_ {A = ℕ} 0 1 = cc (c .before .enum-told3 .given .1) in omega arith) (u .0) (u .1),
-      λ u. off-binary _ (f .result) (f .ensures) (λ g. let z : _≡_ {A = ℕ} 0 1 = cc (c .before .enum-told3 .given .1) in omega arith) (u .0) (u .1),
-    )
-
-same-length : tie.Need-same-length
-same-length c = search needs
+    let f = c .before .before .before .operator-of in
+    let none = in-neither _ (f .result) (f .ensures) (c .before .enum-told3 .given .1) in
+    (search needs, search needs, λ u. none .0 (u .0) (u .1), λ u. none .1 (u .0) (u .1))
 
 returns-4 : tie.Need-returns-4
 returns-4 c =
     let a = c .before .before .before .before .before .before .before .before .before .before .before .before .before .before .args in
     let f = c .before .before .rows-of in
     let h = c .before .before .before .before .before .before .operator-of in
-    unary-told (a .r) (a .m) (a .masks .now) (a .words .now) (a .matrices .now) (a .code) (a .left .0) (a .right .0) (a .rows .now) (f .last .1 .1 .1 .1 .1 .0) (omega arith) (omega arith) (omega arith)
+    unary-told (a .r) (a .m) (a .masks .now) (a .words .now) (a .matrices .now) (a .code) (a .left .0) (a .right .0) (a .rows .now)
+    (f .last .1 .1 .1 .1 .1 .0) (omega arith) (omega arith) (omega arith)
     (in-unary _ (h .result) (h .ensures) (c .before .before .before .before .enum-told .given .1)) (f .result) (f .ensures)
-
-same-length-2 : tie.Need-same-length-2
-same-length-2 c = search needs
 
 returns-5 : tie.Need-returns-5
 returns-5 c =
     let a = c .before .before .before .before .before .before .before .before .before .before .before .before .before .before .args in
     let f = c .before .before .rows-of2 in
     let h = c .before .before .before .before .before .before .operator-of in
-    binary-told (a .r) (a .m) (a .masks .now) (a .words .now) (a .matrices .now) (a .code) (a .left .0) (a .right .0) (a .rows .now) (f .last .1 .1 .1 .1 .1 .1 .0) (omega arith) (omega arith) (omega arith)
+    binary-told (a .r) (a .m) (a .masks .now) (a .words .now) (a .matrices .now) (a .code) (a .left .0) (a .right .0) (a .rows .now)
+    (f .last .1 .1 .1 .1 .1 .1 .0) (omega arith) (omega arith) (omega arith)
     (in-binary _ (h .result) (h .ensures) (c .before .before .before .before .enum-told2 .given .1)) (f .result) (f .ensures)
-
-same-length-3 : tie.Need-same-length-3
-same-length-3 c = search needs
 
 returns-6 : tie.Need-returns-6
 returns-6 c =
     let a = c .before .before .before .before .before .before .before .before .before .before .before .before .before .before .args in
     let f = c .before .before .rows-of3 in
     let h = c .before .before .before .before .before .before .operator-of in
-    leaf-told (a .r) (a .m) (a .masks .now) (a .words .now) (a .matrices .now) (a .code) (a .left .0) (a .right .0) (a .rows .now) (f .last .1 .1 .1 .1 .1 .1 .0) (omega arith) (omega arith) (omega arith)
-    (λ u. off-unary _ (h .result) (h .ensures) (λ g. let z : _≡_ {A = ℕ} 0 1 = cc (c .before .before .before .before .enum-told3 .given .1) in omega arith) (u .0) (u .1))
-    (λ u. off-binary _ (h .result) (h .ensures) (λ g. let z : _≡_ {A = ℕ} 0 1 = cc (c .before .before .before .before .enum-told3 .given .1) in omega arith) (u .0) (u .1)) (f .result) (f .ensures)
+    let none = in-neither _ (h .result) (h .ensures) (c .before .before .before .before .enum-told3 .given .1) in
+    leaf-told (a .r) (a .m) (a .masks .now) (a .words .now) (a .matrices .now) (a .code) (a .left .0) (a .right .0) (a .rows .now)
+    (f .last .1 .1 .1 .1 .1 .1 .0) (omega arith) (omega arith) (omega arith)
+    (λ u. none .0 (u .0) (u .1))
+    (λ u. none .1 (u .0) (u .1)) (f .result) (f .ensures)
 
 pub rows-of-spec : {M : Type 1} → statement M
-rows-of-spec =
-    tie.close
-    (tie.spec
-    returns
-    returns-2
-    returns-3
-    operator-of-requires
-    enum-told
-    rows-of-requires
-    enum-told-2
-    rows-of-requires-2
-    enum-told-3
-    rows-of-requires-3
-    same-length
-    returns-4
-    same-length-2
-    returns-5
-    same-length-3
+rows-of-spec = tie.close (tie.spec
+    (λ c. search needs) (λ c. search needs) (λ c. search needs) (λ c κs. search needs) (λ c. search needs) rows-of-requires (λ c. search needs)
+    rows-of-requires-2 (λ c. search needs) rows-of-requires-3 (λ c. search needs) returns-4 (λ c. search needs) returns-5 (λ c. search needs)
     returns-6)

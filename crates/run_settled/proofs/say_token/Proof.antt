@@ -3,26 +3,13 @@
 use mathlib.Core.Path.{sym}
 use lib.Seq.{length-take-le}
 use borrow.Author.Needs.{needs}
-use Rattle.sequence.proofs.Table.{token-fits}
+use Rattle.operators.proofs.Table.{token-fits}
 use Rattle.run_settled.proofs.say_token.Statement.{statement}
 use Rattle.run_settled.proofs.say_token.Tie as tie
-
-operator-of-requires : tie.Need-operator-of-requires
-operator-of-requires c κs = search needs
-
-array-share-prefix-token : tie.Need-array-share-prefix-token
-array-share-prefix-token c = token-fits (c .before .operator-of .ensures)
 
 slice-aggregate-say : tie.Need-slice-aggregate-say
 slice-aggregate-say c = sym (length-take-le _ _ (token-fits (c .before .before .operator-of .ensures)))
 
-say-requires : tie.Need-say-requires
-say-requires c κs = search needs
-
-returns : tie.Need-returns
-returns c = search needs
-
 pub say-token-spec : {M : Type 1} → statement M
-say-token-spec =
-    tie.close
-    (tie.spec operator-of-requires array-share-prefix-token slice-aggregate-say say-requires returns)
+say-token-spec = tie.close (tie.spec
+    (λ c κs. search needs) (λ c. token-fits (c .before .operator-of .ensures)) slice-aggregate-say (λ c κs. search needs) (λ c. search needs))

@@ -1,28 +1,23 @@
--- `answer_of` meets its contract.
+-- `answer_of` meets its contract: the end that the state tells, or the refusal.
 -- Assumes nothing.
 use borrow.Author.Needs.{needs}
 use Rattle.search.proofs.answer_of.Statement.{statement}
 use Rattle.search.proofs.answer_of.Tie as tie
 
-enum-known-stand : tie.Need-enum-known-stand
-enum-known-stand c = search needs
-
-enum-known-stand-2 : tie.Need-enum-known-stand-2
-enum-known-stand-2 c = search needs
-
-enum-known-stand-3 : tie.Need-enum-known-stand-3
-enum-known-stand-3 c = search needs
+end-of-requires : tie.Need-end-of-requires
+end-of-requires c κs =
+    let c₁ = c .before in
+    rw (c₁ .resumed .given .1) at (c₁ .before .before .pre)
 
 returns : tie.Need-returns
-returns c = rw (c .before .stand .given .1)
+returns c =
+    let c₂ = c .before .before in
+    rw (c .end-of .ensures, c₂ .resumed .given .1)
 
 returns-2 : tie.Need-returns-2
-returns-2 c = rw (c .before .stand2 .given .1)
-
-returns-3 : tie.Need-returns-3
-returns-3 c = rw (c .before .stand3 .given .1)
+returns-2 c =
+    let c₁ = c .before in
+    rw (c₁ .resumed2 .given .1)
 
 pub answer-of-spec : {M : Type 1} → statement M
-answer-of-spec =
-    tie.close
-    (tie.spec enum-known-stand enum-known-stand-2 enum-known-stand-3 returns returns-2 returns-3)
+answer-of-spec = tie.close (tie.spec (λ c. search needs) end-of-requires (λ c. search needs) returns returns-2)

@@ -20,111 +20,133 @@ wide = record {
   binary = length-replicate {A = ℕ} 6 0;
 }
 
-slice-aggregate-read : tie.Need-slice-aggregate-read
-slice-aggregate-read c = search needs
-
-slice-aggregate-read-2 : tie.Need-slice-aggregate-read-2
-slice-aggregate-read-2 c = search needs
-
-slice-aggregate-read-3 : tie.Need-slice-aggregate-read-3
-slice-aggregate-read-3 c = search needs
-
-slice-aggregate-read-4 : tie.Need-slice-aggregate-read-4
-slice-aggregate-read-4 c = search needs
-
-slice-aggregate-read-5 : tie.Need-slice-aggregate-read-5
-slice-aggregate-read-5 c = search needs
-
-read-requires : tie.Need-read-requires
-read-requires c κs = search needs
-
-enum-known-read : tie.Need-enum-known-read
-enum-known-read c = search needs
-
 slice-aggregate-judged : tie.Need-slice-aggregate-judged
-slice-aggregate-judged c = handed (c .before .before .before .before .before .before .before .before .before .before .before .before .before .before .before .before .before .before .args .file .now) (λ i. omega (arith, c .before .before .before .before .before .before .before .before .before .before .before .before .before .before .before .before .shared-slice-known2 .given i)) _ wide (c .before .before .before .before .before .before .before .before .before .read .result) _ _ _ _ _ (c .before .before .before .before .before .before .before .before .before .read .ensures) (c .before .before .read2 .given .1) .names-long
+slice-aggregate-judged c = handed (c .before .before .before .before .before .before .before .before .before .before .before .before .before .before .before .before
+    .before .before .args .file .now) (λ i. omega (
+      arith,
+      c .before .before .before .before .before .before .before .before .before .before .before .before .before
+          .before .before .before .shared-slice-known2 .given i,
+    )) _ wide (c .before .before .before .before .before .before .before .before .before .read .result) _ _ _ _ _
+    (c .before .before .before .before .before .before .before .before .before .read .ensures) (c .before .before .read2 .given .1) .names-long
 
 array-share-prefix-marks : tie.Need-array-share-prefix-marks
-array-share-prefix-marks c = handed (c .before .before .before .before .before .before .before .before .before .before .before .before .before .before .before .before .before .before .args .file .now) (λ i. omega (arith, c .before .before .before .before .before .before .before .before .before .before .before .before .before .before .before .before .shared-slice-known2 .given i)) _ wide (c .before .before .before .before .before .before .before .before .before .read .result) _ _ _ _ _ (c .before .before .before .before .before .before .before .before .before .read .ensures) (c .before .before .read2 .given .1) .all-marks .there
+array-share-prefix-marks c = handed (c .before .before .before .before .before .before .before .before .before .before .before .before .before .before .before .before
+    .before .before .args .file .now) (λ i. omega (
+      arith,
+      c .before .before .before .before .before .before .before .before .before .before .before .before .before
+          .before .before .before .shared-slice-known2 .given i,
+    )) _ wide (c .before .before .before .before .before .before .before .before .before .read .result) _ _ _ _ _
+    (c .before .before .before .before .before .before .before .before .before .read .ensures) (c .before .before .read2 .given .1) .all-marks .there
 
 slice-aggregate-judged-2 : tie.Need-slice-aggregate-judged-2
-slice-aggregate-judged-2 c = handed (c .before .before .before .before .before .before .before .before .before .before .before .before .before .before .before .before .before .before .before .args .file .now) (λ i. omega (arith, c .before .before .before .before .before .before .before .before .before .before .before .before .before .before .before .before .before .shared-slice-known2 .given i)) _ wide (c .before .before .before .before .before .before .before .before .before .before .read .result) _ _ _ _ _ (c .before .before .before .before .before .before .before .before .before .before .read .ensures) (c .before .before .before .read2 .given .1) .all-marks .long
+slice-aggregate-judged-2 c = handed (c .before .before .before .before .before .before .before .before .before .before .before .before .before .before .before .before
+    .before .before .before .args .file .now) (λ i. omega (
+      arith,
+      c .before .before .before .before .before .before .before .before .before .before .before .before
+          .before .before .before .before .before .shared-slice-known2 .given i,
+    )) _ wide
+    (c .before .before .before .before .before .before .before .before .before .before .read .result) _ _ _ _ _
+    (c .before .before .before .before .before .before .before .before .before .before .read .ensures) (c .before .before .before .read2 .given .1) .all-marks .long
 
 array-share-prefix-lengths : tie.Need-array-share-prefix-lengths
-array-share-prefix-lengths c = handed (c .before .before .before .before .before .before .before .before .before .before .before .before .before .before .before .before .before .before .before .args .file .now) (λ i. omega (arith, c .before .before .before .before .before .before .before .before .before .before .before .before .before .before .before .before .before .shared-slice-known2 .given i)) _ wide (c .before .before .before .before .before .before .before .before .before .before .read .result) _ _ _ _ _ (c .before .before .before .before .before .before .before .before .before .before .read .ensures) (c .before .before .before .read2 .given .1) .all-lengths .there
+array-share-prefix-lengths c = handed (c .before .before .before .before .before .before .before .before .before .before .before .before .before .before .before .before
+    .before .before .before .args .file .now) (λ i. omega (
+      arith,
+      c .before .before .before .before .before .before .before .before .before .before .before .before
+          .before .before .before .before .before .shared-slice-known2 .given i,
+    )) _ wide
+    (c .before .before .before .before .before .before .before .before .before .before .read .result) _ _ _ _ _
+    (c .before .before .before .before .before .before .before .before .before .before .read .ensures) (c .before .before .before .read2 .given .1) .all-lengths .there
 
 slice-aggregate-judged-3 : tie.Need-slice-aggregate-judged-3
-slice-aggregate-judged-3 c = handed (c .before .before .before .before .before .before .before .before .before .before .before .before .before .before .before .before .before .before .before .before .args .file .now) (λ i. omega (arith, c .before .before .before .before .before .before .before .before .before .before .before .before .before .before .before .before .before .before .shared-slice-known2 .given i)) _ wide (c .before .before .before .before .before .before .before .before .before .before .before .read .result) _ _ _ _ _ (c .before .before .before .before .before .before .before .before .before .before .before .read .ensures) (c .before .before .before .before .read2 .given .1) .all-lengths .long
+slice-aggregate-judged-3 c = handed (c .before .before .before .before .before .before .before .before .before .before .before .before .before .before .before .before
+    .before .before .before .before .args .file .now) (λ i. omega (
+      arith,
+      c .before .before .before .before .before .before .before .before .before .before .before
+          .before .before .before .before .before .before .before .shared-slice-known2 .given i,
+    )) _ wide
+    (c .before .before .before .before .before .before .before .before .before .before .before .read .result) _ _ _ _ _
+    (c .before .before .before .before .before .before .before .before .before .before .before .read .ensures)
+    (c .before .before .before .before .read2 .given .1) .all-lengths .long
 
 mul-words : tie.Need-mul-words
-mul-words c = let h = handed (c .before .before .before .before .before .before .before .before .before .before .before .before .before .before .before .before .before .before .before .before .args .file .now) (λ i. omega (arith, c .before .before .before .before .before .before .before .before .before .before .before .before .before .before .before .before .before .before .shared-slice-known2 .given i)) _ wide (c .before .before .before .before .before .before .before .before .before .before .before .read .result) _ _ _ _ _ (c .before .before .before .before .before .before .before .before .before .before .before .read .ensures) (c .before .before .before .before .read2 .given .1) in omega (arith, h .small)
+mul-words c = let h = handed (c .before .before .before .before .before .before .before .before .before .before .before .before .before .before .before .before .before
+    .before .before .before .args .file .now) (λ i. omega (
+      arith,
+      c .before .before .before .before .before .before .before .before .before .before .before .before
+          .before .before .before .before .before .before .shared-slice-known2 .given i,
+    )) _ wide
+    (c .before .before .before .before .before .before .before .before .before .before .before .read .result) _ _ _ _ _
+    (c .before .before .before .before .before .before .before .before .before .before .before .read .ensures) (c .before .before .before .before .read2 .given .1) in omega
+    (arith, h .small)
 
 array-share-prefix-words : tie.Need-array-share-prefix-words
-array-share-prefix-words c = handed (c .before .before .before .before .before .before .before .before .before .before .before .before .before .before .before .before .before .before .before .before .args .file .now) (λ i. omega (arith, c .before .before .before .before .before .before .before .before .before .before .before .before .before .before .before .before .before .before .shared-slice-known2 .given i)) _ wide (c .before .before .before .before .before .before .before .before .before .before .before .read .result) _ _ _ _ _ (c .before .before .before .before .before .before .before .before .before .before .before .read .ensures) (c .before .before .before .before .read2 .given .1) .all-words .there
+array-share-prefix-words c = handed (c .before .before .before .before .before .before .before .before .before .before .before .before .before .before .before .before
+    .before .before .before .before .args .file .now) (λ i. omega (
+      arith,
+      c .before .before .before .before .before .before .before .before .before .before .before
+          .before .before .before .before .before .before .before .shared-slice-known2 .given i,
+    )) _ wide
+    (c .before .before .before .before .before .before .before .before .before .before .before .read .result) _ _ _ _ _
+    (c .before .before .before .before .before .before .before .before .before .before .before .read .ensures)
+    (c .before .before .before .before .read2 .given .1) .all-words .there
 
 slice-aggregate-judged-4 : tie.Need-slice-aggregate-judged-4
-slice-aggregate-judged-4 c = handed (c .before .before .before .before .before .before .before .before .before .before .before .before .before .before .before .before .before .before .before .before .before .args .file .now) (λ i. omega (arith, c .before .before .before .before .before .before .before .before .before .before .before .before .before .before .before .before .before .before .before .shared-slice-known2 .given i)) _ wide (c .before .before .before .before .before .before .before .before .before .before .before .before .read .result) _ _ _ _ _ (c .before .before .before .before .before .before .before .before .before .before .before .before .read .ensures) (c .before .before .before .before .before .read2 .given .1) .all-words .long
-
-judged-requires : tie.Need-judged-requires
-judged-requires c κs = search needs
-
-enum-known-read-2 : tie.Need-enum-known-read-2
-enum-known-read-2 c = search needs
-
-refused-at-requires : tie.Need-refused-at-requires
-refused-at-requires c κs = search needs
-
-enum-told : tie.Need-enum-told
-enum-told c = search needs
-
-refused-requires : tie.Need-refused-requires
-refused-requires c κs = search needs
-
-same-length : tie.Need-same-length
-same-length c = search needs
+slice-aggregate-judged-4 c = handed (c .before .before .before .before .before .before .before .before .before .before .before .before .before .before .before .before
+    .before .before .before .before .before .args .file .now) (λ i. omega (
+      arith,
+      c .before .before .before .before .before .before .before .before .before .before
+          .before .before .before .before .before .before .before .before .before .shared-slice-known2 .given i,
+    )) _ wide
+    (c .before .before .before .before .before .before .before .before .before .before .before .before .read .result) _ _ _ _ _
+    (c .before .before .before .before .before .before .before .before .before .before .before .before .read .ensures)
+    (c .before .before .before .before .before .read2 .given .1) .all-words .long
 
 returns : tie.Need-returns
-returns c = good-said (c .before .before .before .before .before .before .before .before .before .before .before .before .before .before .before .before .before .before .before .before .before .before .before .before .before .args .file .now) (λ i. omega (arith, c .before .before .before .before .before .before .before .before .before .before .before .before .before .before .before .before .before .before .before .before .before .before .before .shared-slice-known2 .given i)) _ wide (c .before .before .before .before .before .before .before .before .before .before .before .before .before .before .before .before .read .result) _ _ _ _ _ (c .before .before .before .before .before .before .before .before .before .before .before .before .before .before .before .before .read .ensures) (c .before .before .before .before .before .before .before .before .before .before .before .before .before .before .before .before .before .before .before .before .before .before .before .before .before .args .typed .now) (handed (c .before .before .before .before .before .before .before .before .before .before .before .before .before .before .before .before .before .before .before .before .before .before .before .before .before .args .file .now) (λ i. omega (arith, c .before .before .before .before .before .before .before .before .before .before .before .before .before .before .before .before .before .before .before .before .before .before .before .shared-slice-known2 .given i)) _ wide (c .before .before .before .before .before .before .before .before .before .before .before .before .before .before .before .before .read .result) _ _ _ _ _ (c .before .before .before .before .before .before .before .before .before .before .before .before .before .before .before .before .read .ensures) (c .before .before .before .before .before .before .before .before .before .read2 .given .1)) (c .before .before .judged .ensures)
-
-same-length-2 : tie.Need-same-length-2
-same-length-2 c = search needs
+returns c = good-said (c .before .before .before .before .before .before .before .before .before .before .before .before .before .before .before .before .before .before
+    .before .before .before .before .before .before .before .args .file .now) (λ i. omega (
+      arith,
+      c .before .before .before .before .before .before .before .before .before .before .before .before .before .before .before .before .before .before .before
+          .before .before .before .before .shared-slice-known2 .given i,
+    )) _ wide (c .before .before .before .before .before .before .before .before .before .before .before
+    .before .before .before .before .before .read .result) _ _ _ _ _ (c .before .before .before .before .before .before .before .before .before .before .before .before
+    .before .before .before .before .read .ensures) (c .before .before .before .before .before .before .before .before .before .before .before .before .before .before
+    .before .before .before .before .before .before .before .before .before .before .before .args .typed .now) (handed
+    (c .before .before .before .before .before .before .before .before .before .before .before .before .before .before .before .before .before .before .before .before
+    .before .before .before .before .before .args .file .now) (λ i. omega (
+      arith,
+      c .before .before .before .before .before .before .before .before .before .before
+          .before .before .before .before .before .before .before .before .before .before .before .before .before .shared-slice-known2 .given i,
+    )) _ wide
+    (c .before .before .before .before .before .before .before .before .before .before .before .before .before .before .before .before .read .result) _ _ _ _ _
+    (c .before .before .before .before .before .before .before .before .before .before .before .before .before .before .before .before .read .ensures)
+    (c .before .before .before .before .before .before .before .before .before .read2 .given .1)) (c .before .before .judged .ensures)
 
 returns-2 : tie.Need-returns-2
-returns-2 c = broken-said (c .before .before .before .before .before .before .before .before .before .before .before .before .before .before .before .before .before .before .before .before .before .args .file .now) (λ i. omega (arith, c .before .before .before .before .before .before .before .before .before .before .before .before .before .before .before .before .before .before .before .shared-slice-known2 .given i)) _ wide (c .before .before .before .before .before .before .before .before .before .before .before .before .read .result) _ _ _ _ _ (c .before .before .before .before .before .before .before .before .before .before .before .before .read .ensures) (c .before .before .before .before .before .before .before .before .before .before .before .before .before .before .before .before .before .before .before .before .before .args .typed .now) (c .before .before .before .before .before .read3 .given .1) (c .before .before .refused-at .ensures)
-
-same-length-3 : tie.Need-same-length-3
-same-length-3 c = search needs
+returns-2 c = broken-said (c .before .before .before .before .before .before .before .before .before .before .before .before .before .before .before .before .before
+    .before .before .before .before .args .file .now) (λ i. omega (
+      arith,
+      c .before .before .before .before .before .before .before .before .before .before .before
+          .before .before .before .before .before .before .before .before .shared-slice-known2 .given i,
+    )) _ wide
+    (c .before .before .before .before .before .before .before .before .before .before .before .before .read .result) _ _ _ _ _
+    (c .before .before .before .before .before .before .before .before .before .before .before .before .read .ensures)
+    (c .before .before .before .before .before .before .before .before .before .before .before .before .before .before .before .before .before .before .before .before
+    .before .args .typed .now) (c .before .before .before .before .before .read3 .given .1) (c .before .before .refused-at .ensures)
 
 returns-3 : tie.Need-returns-3
-returns-3 c = absurd (never-room (c .before .before .before .before .before .before .before .before .before .before .before .before .before .before .before .before .before .before .before .before .args .file .now) (λ i. omega (arith, c .before .before .before .before .before .before .before .before .before .before .before .before .before .before .before .before .before .before .shared-slice-known2 .given i)) _ wide (c .before .before .before .before .before .before .before .before .before .before .before .read .result) _ _ _ _ _ (c .before .before .before .before .before .before .before .before .before .before .before .read .ensures) (c .before .before .before .before .enum-told .given .1))
+returns-3 c = absurd (never-room (c .before .before .before .before .before .before .before .before .before .before .before .before .before .before .before .before
+    .before .before .before .before .args .file .now) (λ i. omega (
+      arith,
+      c .before .before .before .before .before .before .before .before .before .before .before
+          .before .before .before .before .before .before .before .shared-slice-known2 .given i,
+    )) _ wide
+    (c .before .before .before .before .before .before .before .before .before .before .before .read .result) _ _ _ _ _
+    (c .before .before .before .before .before .before .before .before .before .before .before .read .ensures) (c .before .before .before .before .enum-told .given .1))
 
 pub of-typed-spec : {M : Type 1} → statement M
-of-typed-spec =
-    tie.close
-    (tie.spec
-    slice-aggregate-read
-    slice-aggregate-read-2
-    slice-aggregate-read-3
-    slice-aggregate-read-4
-    slice-aggregate-read-5
-    read-requires
-    enum-known-read
-    slice-aggregate-judged
-    array-share-prefix-marks
-    slice-aggregate-judged-2
-    array-share-prefix-lengths
-    slice-aggregate-judged-3
-    mul-words
-    array-share-prefix-words
-    slice-aggregate-judged-4
-    judged-requires
-    enum-known-read-2
-    refused-at-requires
-    enum-told
-    refused-requires
-    same-length
-    returns
-    same-length-2
-    returns-2
-    same-length-3
-    returns-3)
+of-typed-spec = tie.close (tie.spec
+    (λ c. search needs) (λ c. search needs) (λ c. search needs) (λ c. search needs) (λ c. search needs) (λ c κs. search needs) (λ c. search needs)
+    slice-aggregate-judged array-share-prefix-marks slice-aggregate-judged-2 array-share-prefix-lengths slice-aggregate-judged-3 mul-words
+    array-share-prefix-words slice-aggregate-judged-4 (λ c κs. search needs) (λ c. search needs) (λ c κs. search needs) (λ c. search needs)
+    (λ c κs. search needs) (λ c. search needs) returns (λ c. search needs) returns-2 (λ c. search needs) returns-3)

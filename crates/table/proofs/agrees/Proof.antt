@@ -19,19 +19,10 @@ returns-3 : tie.Need-returns-3
 unfolding agreeing
 returns-3 c = rw (le-leb _ _ (c .before .before .if1 .left), le-leb _ _ (c .before .if2 .left), lt-leb _ _ (c .if3 .taken))
 
-all-agree-requires : tie.Need-all-agree-requires
-all-agree-requires c κs = search needs
-
 returns-4 : tie.Need-returns-4
 unfolding agreeing
 returns-4 c = rw (le-leb _ _ (c .before .before .before .if1 .left), le-leb _ _ (c .before .before .if2 .left), le-leb _ _ (c .before .if3 .left)) (c .all-agree .ensures)
 
 pub agrees-spec : {M : Type 1} → statement M
-agrees-spec =
-    tie.close
-    (tie.spec
-    returns
-    returns-2
-    returns-3
-    all-agree-requires
-    returns-4)
+agrees-spec = tie.close (tie.spec
+    returns returns-2 returns-3 (λ c κs. search needs) returns-4)

@@ -9,17 +9,8 @@ use Rattle.rows.proofs.Products.{at-most}
 use Rattle.table.proofs.compare.Statement.{statement}
 use Rattle.table.proofs.compare.Tie as tie
 
-returns : tie.Need-returns
-returns c = refused-one _ _ _ _ (inl (omega arith))
-
-returns-2 : tie.Need-returns-2
-returns-2 c = refused-one _ _ _ _ (inr (omega arith))
-
 returns-3 : tie.Need-returns-3
 returns-3 c = refused-three _ _ _ _ (omega arith) (omega arith) (inr (omega arith))
-
-cast-from : tie.Need-cast-from
-cast-from c = search needs
 
 mul-from : tie.Need-mul-from
 mul-from c = let a = c .before .before .before .before .before .before .args in omega (arith, at-most (a .place .0) 65535 (a .r) mostSessions (omega arith) (omega arith))
@@ -30,40 +21,12 @@ add-if4 c = let a = c .before .before .before .before .before .before .args in o
 returns-4 : tie.Need-returns-4
 returns-4 c = refused-three _ _ _ _ (omega arith) (omega arith) (inl (omega arith))
 
-mul-compare-at : tie.Need-mul-compare-at
-mul-compare-at c = search needs
-
-sub-compare-at : tie.Need-sub-compare-at
-sub-compare-at c = search needs
-
-part-compare-at-start : tie.Need-part-compare-at-start
-part-compare-at-start c = search needs
-
-part-compare-at-end : tie.Need-part-compare-at-end
-part-compare-at-end c = search needs
-
-compare-at-requires : tie.Need-compare-at-requires
-compare-at-requires c κs = search needs
-
 returns-5 : tie.Need-returns-5
 returns-5 c =
     let a = c .before .before .before .before .before .before .before .before .before .args in
     compared (a .r) (a .place .0) (a .matrices .now) (a .words .now) (omega arith) (omega arith) (omega arith) (omega arith) (c .compare-at .result) (c .compare-at .ensures)
 
 pub compare-spec : {M : Type 1} → statement M
-compare-spec =
-    tie.close
-    (tie.spec
-    returns
-    returns-2
-    returns-3
-    cast-from
-    mul-from
-    add-if4
-    returns-4
-    mul-compare-at
-    sub-compare-at
-    part-compare-at-start
-    part-compare-at-end
-    compare-at-requires
-    returns-5)
+compare-spec = tie.close (tie.spec
+    (λ c. refused-one _ _ _ _ (inl (omega arith))) (λ c. refused-one _ _ _ _ (inr (omega arith))) returns-3 (λ c. search needs) mul-from add-if4
+    returns-4 (λ c. search needs) (λ c. search needs) (λ c. search needs) (λ c. search needs) (λ c κs. search needs) returns-5)

@@ -6,11 +6,8 @@ use Rattle.words.proofs.Operators.{wide, equiv-means}
 use Rattle.words.proofs.equiv.Statement.{statement}
 use Rattle.words.proofs.equiv.Tie as tie
 
-places-requires : tie.Need-places-requires
-places-requires c κs = search needs
-
 returns : tie.Need-returns
 returns c = equiv-means (wide (omega arith)) (wide (omega arith)) (c .places .ensures)
 
 pub equiv-spec : {M : Type 1} → statement M
-equiv-spec = tie.close (tie.spec places-requires returns)
+equiv-spec = tie.close (tie.spec (λ c κs. search needs) returns)

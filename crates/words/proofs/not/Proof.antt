@@ -6,11 +6,8 @@ use Rattle.words.proofs.Operators.{wide, not-means}
 use Rattle.words.proofs.not.Statement.{statement}
 use Rattle.words.proofs.not.Tie as tie
 
-places-requires : tie.Need-places-requires
-places-requires c κs = search needs
-
 returns : tie.Need-returns
 returns c = not-means (wide (omega arith)) (c .places .ensures)
 
 pub not-spec : {M : Type 1} → statement M
-not-spec = tie.close (tie.spec places-requires returns)
+not-spec = tie.close (tie.spec (λ c κs. search needs) returns)

@@ -5,8 +5,5 @@ use Rattle.words.proofs.Operators.{wide, or-means}
 use Rattle.words.proofs.or.Statement.{statement}
 use Rattle.words.proofs.or.Tie as tie
 
-returns : tie.Need-returns
-returns c = or-means (wide (omega arith)) (wide (omega arith))
-
 pub or-spec : {M : Type 1} → statement M
-or-spec = tie.close (tie.spec returns)
+or-spec = tie.close (tie.spec (λ c. or-means (wide (omega arith)) (wide (omega arith))))

@@ -5,8 +5,5 @@ use Rattle.words.proofs.Operators.{wide, places-means}
 use Rattle.words.proofs.places.Statement.{statement}
 use Rattle.words.proofs.places.Tie as tie
 
-returns : tie.Need-returns
-returns c = places-means (wide (omega arith))
-
 pub places-spec : {M : Type 1} → statement M
-places-spec = tie.close (tie.spec returns)
+places-spec = tie.close (tie.spec (λ c. places-means (wide (omega arith))))

@@ -5,8 +5,5 @@ use Rattle.words.proofs.Operators.{wide, strong-next-means}
 use Rattle.words.proofs.strong_next.Statement.{statement}
 use Rattle.words.proofs.strong_next.Tie as tie
 
-returns : tie.Need-returns
-returns c = strong-next-means (wide (omega arith))
-
 pub strong-next-spec : {M : Type 1} → statement M
-strong-next-spec = tie.close (tie.spec returns)
+strong-next-spec = tie.close (tie.spec (λ c. strong-next-means (wide (omega arith))))

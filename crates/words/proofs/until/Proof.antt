@@ -14,31 +14,18 @@ Inv-loop x y mask x₀ y₀ d₀ x' y' d = Doubled x (bitAnd y mask) d x' y' × 
 abbrev μ-loop : tie.MeasureT-loop
 μ-loop x y mask x₀ y₀ d₀ x' y' d = width - d
 
-loop-holds : tie.Need-loop-holds Inv-loop μ-loop
-loop-holds c = (doubled-first, omega arith)
-
 returns : tie.Need-returns Inv-loop μ-loop
-returns c = let s = c .before .before .before .args in until-on (s .x) (s .y) (s .mask) (until-stopped (and-means {x = s .y} {y = s .mask} (wide (omega arith)) (wide (omega arith)) .wf) (omega arith) (omega arith) (c .before .before .loop .inv .0))
-
-shr-y : tie.Need-shr-y Inv-loop μ-loop
-shr-y c = omega arith
-
-shr-x : tie.Need-shr-x Inv-loop μ-loop
-shr-x c = omega arith
-
-add-d : tie.Need-add-d Inv-loop μ-loop
-add-d c = omega arith
-
-loop-less : tie.Need-loop-less Inv-loop μ-loop
-loop-less c = omega arith
+returns c = let s = c .before .before .before .args in until-on (s .x) (s .y) (s .mask) (until-stopped
+    (and-means {x = s .y} {y = s .mask} (wide (omega arith)) (wide (omega arith)) .wf) (omega arith) (omega arith) (c .before .before .loop .inv .0))
 
 loop-again : tie.Need-loop-again Inv-loop μ-loop
 loop-again c = (doubled-next _ (c .before .before .loop .inv .0), omega arith)
 
 returns-2 : tie.Need-returns-2 Inv-loop μ-loop
-returns-2 c = let s = c .before .before .args in until-on (s .x) (s .y) (s .mask) (until-whole (and-means {x = s .y} {y = s .mask} (wide (omega arith)) (wide (omega arith)) .wf) (omega arith) (c .before .loop .inv .0))
+returns-2 c = let s = c .before .before .args in until-on (s .x) (s .y) (s .mask)
+    (until-whole (and-means {x = s .y} {y = s .mask} (wide (omega arith)) (wide (omega arith)) .wf) (omega arith) (c .before .loop .inv .0))
 
 pub until-spec : {M : Type 1} → statement M
 until-spec =
     tie.close
-    (tie.spec Inv-loop μ-loop loop-holds returns shr-y shr-x add-d loop-less loop-again returns-2)
+    (tie.spec Inv-loop μ-loop (λ c. (doubled-first, omega arith)) returns (λ c. omega arith) (λ c. omega arith) (λ c. omega arith) (λ c. omega arith) loop-again returns-2)

@@ -6,11 +6,8 @@ use Rattle.words.proofs.Operators.{wide, weak-next-means}
 use Rattle.words.proofs.weak_next.Statement.{statement}
 use Rattle.words.proofs.weak_next.Tie as tie
 
-places-requires : tie.Need-places-requires
-places-requires c κs = search needs
-
 returns : tie.Need-returns
 returns c = weak-next-means (wide (omega arith)) (wide (omega arith)) (c .places .ensures)
 
 pub weak-next-spec : {M : Type 1} → statement M
-weak-next-spec = tie.close (tie.spec places-requires returns)
+weak-next-spec = tie.close (tie.spec (λ c κs. search needs) returns)

@@ -48,7 +48,8 @@ put-digits-same-length : (t : ℕ) → put-digits-lts.Need-same-length (calls t)
 put-digits-same-length t c = search needs
 
 put-digits-returns-2 : (t : ℕ) → put-digits-lts.Need-returns-2 (calls t) (put-digits-at t) put-digits.Post
-put-digits-returns-2 t c = let a = c .before .before .before .before .before .before .before .args in one-digit (a .most) (a .x) (c .before .before .before .before .before .if1 .left) (c .before .before .before .before .if2 .taken) (c .before .before .put-digit .ensures)
+put-digits-returns-2 t c = let a = c .before .before .before .before .before .before .before .args in one-digit (a .most) (a .x)
+    (c .before .before .before .before .before .if1 .left) (c .before .before .before .before .if2 .taken) (c .before .before .put-digit .ensures)
 
 put-digits-sub-put-digits : (t : ℕ) → put-digits-lts.Need-sub-put-digits (calls t) (put-digits-at t) put-digits.Post
 put-digits-sub-put-digits t c = search needs
@@ -57,13 +58,26 @@ put-digits-put-digits-requires : (t : ℕ) → put-digits-lts.Need-put-digits-re
 put-digits-put-digits-requires t c κs = search needs
 
 put-digits-put-digit-requires-2 : (t : ℕ) → put-digits-lts.Need-put-digit-requires-2 (calls t) (put-digits-at t) put-digits.Post
-put-digits-put-digit-requires-2 t c κs = let a = c .before .before .before .before .before .before .before .before .args in let d = c .before .before .before .put-digits in (omega (arith, d .ensures .next, ap length (d .ensures .holds), few-digits (a .most - 1) (a .x / 10), length-sets (a .text .now) (a .at) (digits (a .most - 1) (a .x / 10))), mod-lt (a .x) (omega arith))
+put-digits-put-digit-requires-2 t c κs = let a = c .before .before .before .before .before .before .before .before .args in let d =
+    c .before .before .before .put-digits in (
+      omega (
+        arith,
+        d .ensures .next,
+        ap length (d .ensures .holds),
+        few-digits (a .most - 1) (a .x / 10),
+        length-sets (a .text .now) (a .at) (digits (a .most - 1) (a .x / 10)),
+      ),
+      mod-lt (a .x) (omega arith),
+    )
 
 put-digits-same-length-2 : (t : ℕ) → put-digits-lts.Need-same-length-2 (calls t) (put-digits-at t) put-digits.Post
 put-digits-same-length-2 t c = search needs
 
 put-digits-returns-3 : (t : ℕ) → put-digits-lts.Need-returns-3 (calls t) (put-digits-at t) put-digits.Post
-put-digits-returns-3 t c = let a = c .before .before .before .before .before .before .before .before .before .before .before .args in more-digits (a .most) (a .x) (c .before .before .before .before .before .before .before .before .before .if1 .left) (c .before .before .before .before .before .before .before .before .if2 .left) (c .before .before .before .before .before .before .put-digits .ensures) (c .before .before .put-digit2 .ensures)
+put-digits-returns-3 t c = let a = c .before .before .before .before .before .before .before .before .before .before .before .args in more-digits
+    (a .most) (a .x) (c .before .before .before .before .before .before .before .before .before .if1 .left)
+    (c .before .before .before .before .before .before .before .before .if2 .left)
+    (c .before .before .before .before .before .before .put-digits .ensures) (c .before .before .put-digit2 .ensures)
 
 pub +put-digits-spec : {M : Type 1} → statement M
 +put-digits-spec = close μ-put-digits λ t. put-digits-lts.spec (calls t)

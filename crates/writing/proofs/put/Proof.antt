@@ -14,29 +14,14 @@ Inv-loop text₀ at bytes i₀ p₀ text i p = Written text₀ at bytes text i p
 abbrev μ-loop : tie.MeasureT-loop
 μ-loop text₀ at bytes i₀ p₀ text i p = length bytes - i
 
-loop-holds : tie.Need-loop-holds Inv-loop μ-loop
-loop-holds c = none-written _ _ _
-
 same-length : tie.Need-same-length Inv-loop μ-loop
 same-length c = let l = c .before .before in let a = l .before .args in same-room (a .text .now) (a .at) (a .bytes .now) (l .loop .inv)
 
 returns : tie.Need-returns Inv-loop μ-loop
 returns c = let l = c .before .before in let a = l .before .args in cut-off (a .text .now) (a .at) (a .bytes .now) (l .loop .inv) (c .if1 .taken)
 
-shared-slice-read-text : tie.Need-shared-slice-read-text Inv-loop μ-loop
-shared-slice-read-text c = search needs
-
-slice-write-text : tie.Need-slice-write-text Inv-loop μ-loop
-slice-write-text c = search needs
-
 add-p : tie.Need-add-p Inv-loop μ-loop
 add-p c = let l = c .before .before .before in let a = l .before .args in omega (arith, same-room (a .text .now) (a .at) (a .bytes .now) (l .loop .inv))
-
-add-i : tie.Need-add-i Inv-loop μ-loop
-add-i c = search needs
-
-loop-less : tie.Need-loop-less Inv-loop μ-loop
-loop-less c = search needs
 
 loop-again : tie.Need-loop-again Inv-loop μ-loop
 loop-again c =
@@ -51,19 +36,6 @@ returns-2 : tie.Need-returns-2 Inv-loop μ-loop
 returns-2 c = let l = c .before in let a = l .before .args in all-written (a .text .now) (a .at) (a .bytes .now) (l .loop .inv) (c .loop-test .left)
 
 pub put-spec : {M : Type 1} → statement M
-put-spec =
-    tie.close
-    (tie.spec
-    Inv-loop
-    μ-loop
-    loop-holds
-    same-length
-    returns
-    shared-slice-read-text
-    slice-write-text
-    add-p
-    add-i
-    loop-less
-    loop-again
-    same-length-2
-    returns-2)
+put-spec = tie.close (tie.spec
+    Inv-loop μ-loop (λ c. none-written _ _ _) same-length returns (λ c. search needs) (λ c. search needs) add-p (λ c. search needs)
+    (λ c. search needs) loop-again same-length-2 returns-2)

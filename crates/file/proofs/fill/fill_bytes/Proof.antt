@@ -13,9 +13,6 @@ Inv-loop to₀ file at stride n i₀ p₀ to i p = Strides to₀ file at stride 
 abbrev μ-loop : tie.MeasureT-loop
 μ-loop to₀ file at stride n i₀ p₀ to i p = n - i
 
-loop-holds : tie.Need-loop-holds Inv-loop μ-loop
-loop-holds c = strides-start _ _ _ _ _ (c .pre .2)
-
 shared-slice-read-to : tie.Need-shared-slice-read-to Inv-loop μ-loop
 shared-slice-read-to c = omega (arith, strides-next _ _ _ _ _ (c .before .before .loop .inv) (c .before .loop-test .taken), c .before .before .before .pre .0)
 
@@ -25,33 +22,13 @@ slice-write-to c = omega (arith, c .before .before .loop .inv .long, c .before .
 add-p : tie.Need-add-p Inv-loop μ-loop
 add-p c = omega (arith, strides-next _ _ _ _ _ (c .before .before .loop .inv) (c .before .loop-test .taken))
 
-add-i : tie.Need-add-i Inv-loop μ-loop
-add-i c = search needs
-
-loop-less : tie.Need-loop-less Inv-loop μ-loop
-loop-less c = search needs
-
 loop-again : tie.Need-loop-again Inv-loop μ-loop
 loop-again c = strides-turn _ _ _ _ _ (c .before .before .loop .inv) (c .before .loop-test .taken)
-
-same-length : tie.Need-same-length Inv-loop μ-loop
-same-length c = c .before .loop .inv .long
 
 returns : tie.Need-returns Inv-loop μ-loop
 returns c = strides-end _ _ _ _ _ (c .before .loop .inv) (c .loop-test .left)
 
 pub fill-bytes-spec : {M : Type 1} → statement M
-fill-bytes-spec =
-    tie.close
-    (tie.spec
-    Inv-loop
-    μ-loop
-    loop-holds
-    shared-slice-read-to
-    slice-write-to
-    add-p
-    add-i
-    loop-less
-    loop-again
-    same-length
-    returns)
+fill-bytes-spec = tie.close (tie.spec
+    Inv-loop μ-loop (λ c. strides-start _ _ _ _ _ (c .pre .2)) shared-slice-read-to slice-write-to add-p (λ c. search needs) (λ c. search needs)
+    loop-again (λ c. c .before .loop .inv .long) returns)

@@ -13,12 +13,6 @@ Inv-loop to₀ k file at m i₀ p₀ to i p = Words to₀ k file at m to i p
 abbrev μ-loop : tie.MeasureT-loop
 μ-loop to₀ k file at m i₀ p₀ to i p = m - i
 
-loop-holds : tie.Need-loop-holds Inv-loop μ-loop
-loop-holds c = words-start _ _ _ _ _ (c .before .before .pre .1)
-
-word-at-requires : tie.Need-word-at-requires Inv-loop μ-loop
-word-at-requires c κs = omega (arith, c .before .loop .inv .room)
-
 add-to : tie.Need-add-to Inv-loop μ-loop
 add-to c = omega (arith, c .before .before .loop .inv .upto, c .before .before .before .before .before .pre .0, c .before .before .before .before .before .good)
 
@@ -28,38 +22,14 @@ mul-to c = omega (arith, c .before .before .before .before .before .pre .0, c .b
 slice-write-to : tie.Need-slice-write-to Inv-loop μ-loop
 slice-write-to c = omega (arith, c .before .before .loop .inv .long, c .before .before .before .before .before .pre .0)
 
-add-p : tie.Need-add-p Inv-loop μ-loop
-add-p c = omega (arith, c .before .before .loop .inv .room)
-
-add-i : tie.Need-add-i Inv-loop μ-loop
-add-i c = omega arith
-
-loop-less : tie.Need-loop-less Inv-loop μ-loop
-loop-less c = search needs
-
 loop-again : tie.Need-loop-again Inv-loop μ-loop
-loop-again c = words-turn _ _ _ _ _ (c .before .before .loop .inv) (c .before .loop-test .taken) _ (c .word-at .ensures)
-
-same-length : tie.Need-same-length Inv-loop μ-loop
-same-length c = c .before .loop .inv .long
+loop-again c = words-turn _ _ _ _ _ (c .before .before .loop .inv) (c .before .loop-test .taken) _ (c .word-from .ensures .0 (omega (arith, c .before .before .loop .inv .room)))
 
 returns : tie.Need-returns Inv-loop μ-loop
 returns c = words-end _ _ _ _ _ (c .before .loop .inv) (c .loop-test .left)
 
 pub fill-session-spec : {M : Type 1} → statement M
-fill-session-spec =
-    tie.close
-    (tie.spec
-    Inv-loop
-    μ-loop
-    loop-holds
-    word-at-requires
-    add-to
-    mul-to
-    slice-write-to
-    add-p
-    add-i
-    loop-less
-    loop-again
-    same-length
+fill-session-spec = tie.close (tie.spec
+    Inv-loop μ-loop (λ c. words-start _ _ _ _ _ (c .before .before .pre .1)) (λ c κs. search needs) add-to mul-to slice-write-to
+    (λ c. omega (arith, c .before .before .loop .inv .room)) (λ c. omega arith) (λ c. search needs) loop-again (λ c. c .before .loop .inv .long)
     returns)

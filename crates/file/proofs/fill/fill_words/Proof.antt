@@ -24,47 +24,47 @@ fill-session-requires c κs =
     (omega (arith, blocks-space _ _ _ _ _ s (c .before .loop-test .taken), s .long), omega (arith, blocks-next _ _ _ _ _ s (c .before .loop-test .taken)))
 
 add-p : tie.Need-add-p Inv-loop μ-loop
-add-p c = omega (arith, blocks-next _ _ _ _ _ (c .before .before .before .before .before .loop .inv) (c .before .before .before .before .loop-test .taken), c .before .before .before .before .before .before .before .before .good)
+add-p c =
+    omega (
+      arith,
+      blocks-next _ _ _ _ _ (c .before .before .before .before .before .loop .inv) (c .before .before .before .before .loop-test .taken),
+      c .before .before .before .before .before .before .before .before .good,
+    )
 
 mul-p : tie.Need-mul-p Inv-loop μ-loop
-mul-p c = omega (arith, blocks-next _ _ _ _ _ (c .before .before .before .before .before .loop .inv) (c .before .before .before .before .loop-test .taken), c .before .before .before .before .before .before .before .before .good)
+mul-p c =
+    omega (
+      arith,
+      blocks-next _ _ _ _ _ (c .before .before .before .before .before .loop .inv) (c .before .before .before .before .loop-test .taken),
+      c .before .before .before .before .before .before .before .before .good,
+    )
 
 add-p-2 : tie.Need-add-p-2 Inv-loop μ-loop
-add-p-2 c = omega (arith, blocks-next _ _ _ _ _ (c .before .before .before .before .before .loop .inv) (c .before .before .before .before .loop-test .taken), c .before .before .before .before .before .before .before .before .good)
+add-p-2 c =
+    omega (
+      arith,
+      blocks-next _ _ _ _ _ (c .before .before .before .before .before .loop .inv) (c .before .before .before .before .loop-test .taken),
+      c .before .before .before .before .before .before .before .before .good,
+    )
 
 add-k : tie.Need-add-k Inv-loop μ-loop
-add-k c = omega (arith, blocks-space _ _ _ _ _ (c .before .before .before .before .before .loop .inv) (c .before .before .before .before .loop-test .taken), c .before .before .before .before .before .before .before .before .good)
+add-k c =
+    omega (
+      arith,
+      blocks-space _ _ _ _ _ (c .before .before .before .before .before .loop .inv) (c .before .before .before .before .loop-test .taken),
+      c .before .before .before .before .before .before .before .before .good,
+    )
 
 add-i : tie.Need-add-i Inv-loop μ-loop
 add-i c = omega (arith, c .before .before .before .before .loop-test .taken, c .before .before .before .before .before .before .before .before .fits .n)
 
-loop-less : tie.Need-loop-less Inv-loop μ-loop
-loop-less c = omega arith
-
 loop-again : tie.Need-loop-again Inv-loop μ-loop
 loop-again c = blocks-turn _ _ _ _ _ (c .before .before .before .before .before .loop .inv) (c .before .before .before .before .loop-test .taken) _ (c .before .before .fill-session .ensures)
-
-same-length : tie.Need-same-length Inv-loop μ-loop
-same-length c = c .before .loop .inv .long
 
 returns : tie.Need-returns Inv-loop μ-loop
 returns c = blocks-end _ _ _ _ _ (c .before .loop .inv) (c .loop-test .left)
 
 pub fill-words-spec : {M : Type 1} → statement M
-fill-words-spec =
-    tie.close
-    (tie.spec
-    Inv-loop
-    μ-loop
-    loop-holds
-    add-fill-session
-    fill-session-requires
-    add-p
-    mul-p
-    add-p-2
-    add-k
-    add-i
-    loop-less
-    loop-again
-    same-length
-    returns)
+fill-words-spec = tie.close (tie.spec
+    Inv-loop μ-loop loop-holds add-fill-session fill-session-requires add-p mul-p add-p-2 add-k add-i (λ c. omega arith) loop-again
+    (λ c. c .before .loop .inv .long) returns)

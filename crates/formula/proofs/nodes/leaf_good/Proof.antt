@@ -4,7 +4,7 @@ use native.Mathlib.Omega.{arith}
 use mathlib.Core.Path.{refl}
 use Rattle.formula.specs.Formula.{proposition}
 use Rattle.formula.specs.Rule.Fault.{unknownCode, noProposition, leftUnused, rightUnused, leafSize}
-use Rattle.formula.specs.Inner.Fits.{leaf}
+use Rattle.formula.specs.Faultless.Fits.{leaf}
 use Rattle.formula.proofs.Faults.{is-leaf, unknown, constant-fits}
 use borrow.Author.Needs.{needs}
 use Rattle.formula.proofs.nodes.leaf_good.Statement.{statement}
@@ -22,11 +22,10 @@ returns-3 c = rightUnused (c .before .before .before .before .before .before .pr
 returns-4 : tie.Need-returns-4
 returns-4 c = leafSize (is-leaf _ (omega arith) (omega arith)) (c .if4 .taken)
 
-cast-if6 : tie.Need-cast-if6
-cast-if6 c = search needs
-
 returns-5 : tie.Need-returns-5
-returns-5 c = leaf (proposition (c .before .before .before .before .before .before .before .before .before .before .before .before .args .node .left .0)) (c .before .before .if5 .taken) refl (omega arith) (c .before .before .before .before .before .before .if3 .left) (c .before .before .before .before .if4 .left)
+returns-5 c =
+    leaf (proposition (c .before .before .before .before .before .before .before .before .before .before .before .before .args .node .left .0)) (c .before .before .if5 .taken) refl
+    (omega arith) (c .before .before .before .before .before .before .if3 .left) (c .before .before .before .before .if4 .left)
 
 returns-6 : tie.Need-returns-6
 returns-6 c = noProposition (c .before .before .if5 .taken) (omega arith)
@@ -38,15 +37,5 @@ returns-8 : tie.Need-returns-8
 returns-8 c = constant-fits _ _ _ _ (omega arith) (omega arith) (c .if7 .left) (c .before .before .before .before .before .before .if3 .left) (c .before .before .before .before .if4 .left)
 
 pub leaf-good-spec : {M : Type 1} → statement M
-leaf-good-spec =
-    tie.close
-    (tie.spec
-    returns
-    returns-2
-    returns-3
-    returns-4
-    cast-if6
-    returns-5
-    returns-6
-    returns-7
-    returns-8)
+leaf-good-spec = tie.close (tie.spec
+    returns returns-2 returns-3 returns-4 (λ c. search needs) returns-5 returns-6 returns-7 returns-8)

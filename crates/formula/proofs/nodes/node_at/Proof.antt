@@ -7,45 +7,16 @@ use borrow.Author.Needs.{needs}
 use Rattle.formula.proofs.nodes.node_at.Statement.{statement}
 use Rattle.formula.proofs.nodes.node_at.Tie as tie
 
-count-requires : tie.Need-count-requires
-count-requires c κs = search needs
-
 returns : tie.Need-returns
 returns c = let a = c .before .before .before .before .before .before .args in
     sym (node-off (a .codes .now) (a .lefts .now) (a .rights .now) (a .sizes .now) (a .at) (omega (arith, c .before .count .ensures, c .if1 .taken)))
 
-shared-slice-read-code : tie.Need-shared-slice-read-code
-shared-slice-read-code c = search needs
-
-mul-left : tie.Need-mul-left
-mul-left c = search needs
-
-shared-slice-read-left : tie.Need-shared-slice-read-left
-shared-slice-read-left c = search needs
-
-mul-right : tie.Need-mul-right
-mul-right c = search needs
-
-shared-slice-read-right : tie.Need-shared-slice-read-right
-shared-slice-read-right c = search needs
-
-shared-slice-read-size : tie.Need-shared-slice-read-size
-shared-slice-read-size c = search needs
-
 returns-2 : tie.Need-returns-2
 returns-2 c = let a = c .before .before .before .before .before .before .before .before .before .before .args in
-    sym (node-at (a .codes .now) (a .lefts .now) (a .rights .now) (a .sizes .now) (a .at) (omega (arith, c .before .before .before .before .before .count .ensures, c .before .before .before .before .if1 .left)))
+    sym (node-at (a .codes .now) (a .lefts .now) (a .rights .now) (a .sizes .now) (a .at)
+    (omega (arith, c .before .before .before .before .before .count .ensures, c .before .before .before .before .if1 .left)))
 
 pub node-at-spec : {M : Type 1} → statement M
-node-at-spec =
-    tie.close
-    (tie.spec
-    count-requires
-    returns
-    shared-slice-read-code
-    mul-left
-    shared-slice-read-left
-    mul-right
-    shared-slice-read-right
-    shared-slice-read-size
-    returns-2)
+node-at-spec = tie.close (tie.spec
+    (λ c κs. search needs) returns (λ c. search needs) (λ c. search needs) (λ c. search needs) (λ c. search needs) (λ c. search needs)
+    (λ c. search needs) returns-2)

@@ -3,7 +3,7 @@
 use Prim.Native.Nat.{_≤_, _-_}
 use native.Mathlib.Omega.{arith}
 use Rattle.formula.specs.Kinds.{nodes}
-use Rattle.formula.specs.Inner.{AllFit}
+use Rattle.formula.specs.Faultless.{AllFit}
 use Rattle.formula.proofs.Tests.{fit-more, fault-at}
 use borrow.Author.Needs.{needs}
 use Rattle.formula.proofs.nodes.nodes_good.Statement.{statement}
@@ -15,41 +15,13 @@ Inv-loop m codes lefts rights sizes n i₀ i = (i ≤ n) × AllFit m (nodes code
 abbrev μ-loop : tie.MeasureT-loop
 μ-loop m codes lefts rights sizes n i₀ i = n - i
 
-loop-holds : tie.Need-loop-holds Inv-loop μ-loop
-loop-holds c = (omega arith, λ p h. absurd (omega arith))
-
-node-at-requires : tie.Need-node-at-requires Inv-loop μ-loop
-node-at-requires c κs = search needs
-
-node-good-requires : tie.Need-node-good-requires Inv-loop μ-loop
-node-good-requires c κs = omega arith
-
-add-i : tie.Need-add-i Inv-loop μ-loop
-add-i c = search needs
-
-loop-less : tie.Need-loop-less Inv-loop μ-loop
-loop-less c = search needs
-
 loop-again : tie.Need-loop-again Inv-loop μ-loop
 loop-again c = (omega arith, fit-more _ _ (c .before .before .before .before .loop .inv .1) (c .before .before .node-at .ensures) (c .before .node-good .ensures) (c .if1 .taken))
 
 returns : tie.Need-returns Inv-loop μ-loop
 returns c = (c .before .before .before .before .loop .i, omega arith, fault-at _ _ (c .before .before .node-at .ensures) (c .before .node-good .ensures) (c .if1 .left))
 
-returns-2 : tie.Need-returns-2 Inv-loop μ-loop
-returns-2 c = λ p h. c .before .loop .inv .1 p (omega arith)
-
 pub nodes-good-spec : {M : Type 1} → statement M
-nodes-good-spec =
-    tie.close
-    (tie.spec
-    Inv-loop
-    μ-loop
-    loop-holds
-    node-at-requires
-    node-good-requires
-    add-i
-    loop-less
-    loop-again
-    returns
-    returns-2)
+nodes-good-spec = tie.close (tie.spec
+    Inv-loop μ-loop (λ c. (omega arith, λ p h. absurd (omega arith))) (λ c κs. search needs) (λ c κs. omega arith) (λ c. search needs)
+    (λ c. search needs) loop-again returns (λ c. λ p h. c .before .loop .inv .1 p (omega arith)))

@@ -7,35 +7,29 @@ use borrow.Author.Needs.{needs}
 use Rattle.formula.proofs.nodes.refusal.Statement.{statement}
 use Rattle.formula.proofs.nodes.refusal.Tie as tie
 
-count-requires : tie.Need-count-requires
-count-requires c κs = search needs
-
 returns : tie.Need-returns
-returns c = let a = c .before .before .before .before .before .before .args in too-many _ _ _ (length-nodes (a .codes .now) (a .lefts .now) (a .rights .now) (a .sizes .now) ∙ sym (c .before .count .ensures)) (c .if1 .taken)
-
-nodes-good-requires : tie.Need-nodes-good-requires
-nodes-good-requires c κs = search needs
-
-node-good-requires : tie.Need-node-good-requires
-node-good-requires c κs = search needs
+returns c =
+    let a = c .before .before .before .before .before .before .args in
+    too-many _ _ _ (length-nodes (a .codes .now) (a .lefts .now) (a .rights .now) (a .sizes .now) ∙ sym (c .before .count .ensures)) (c .if1 .taken)
 
 returns-2 : tie.Need-returns-2
-returns-2 c = let a = c .before .before .before .before .before .before .before .before .before .before .args in all-pass _ _ _ (length-nodes (a .codes .now) (a .lefts .now) (a .rights .now) (a .sizes .now) ∙ sym (c .before .before .before .before .before .count .ensures)) (c .before .before .before .before .if1 .left) (c .before .before .before .nodes-good .ensures) (c .before .before .if2 .taken) (c .before .node-good .ensures) (c .if3 .taken)
+returns-2 c =
+    let a = c .before .before .before .before .before .before .before .before .before .before .args in
+    all-pass _ _ _ (length-nodes (a .codes .now) (a .lefts .now) (a .rights .now) (a .sizes .now) ∙ sym (c .before .before .before .before .before .count .ensures))
+    (c .before .before .before .before .if1 .left) (c .before .before .before .nodes-good .ensures) (c .before .before .if2 .taken) (c .before .node-good .ensures) (c .if3 .taken)
 
 returns-3 : tie.Need-returns-3
-returns-3 c = let a = c .before .before .before .before .before .before .before .before .before .before .args in root-fails _ _ _ (length-nodes (a .codes .now) (a .lefts .now) (a .rights .now) (a .sizes .now) ∙ sym (c .before .before .before .before .before .count .ensures)) (c .before .node-good .ensures) (c .if3 .left)
+returns-3 c =
+    let a = c .before .before .before .before .before .before .before .before .before .before .args in
+    root-fails _ _ _ (length-nodes (a .codes .now) (a .lefts .now) (a .rights .now) (a .sizes .now) ∙ sym (c .before .before .before .before .before .count .ensures))
+    (c .before .node-good .ensures) (c .if3 .left)
 
 returns-4 : tie.Need-returns-4
-returns-4 c = let a = c .before .before .before .before .before .before .before .before .args in list-fails _ _ _ (length-nodes (a .codes .now) (a .lefts .now) (a .rights .now) (a .sizes .now) ∙ sym (c .before .before .before .count .ensures)) (c .before .nodes-good .ensures) (c .if2 .left)
+returns-4 c =
+    let a = c .before .before .before .before .before .before .before .before .args in
+    list-fails _ _ _ (length-nodes (a .codes .now) (a .lefts .now) (a .rights .now) (a .sizes .now) ∙ sym (c .before .before .before .count .ensures)) (c .before .nodes-good .ensures)
+    (c .if2 .left)
 
 pub refusal-spec : {M : Type 1} → statement M
-refusal-spec =
-    tie.close
-    (tie.spec
-    count-requires
-    returns
-    nodes-good-requires
-    node-good-requires
-    returns-2
-    returns-3
-    returns-4)
+refusal-spec = tie.close (tie.spec
+    (λ c κs. search needs) returns (λ c κs. search needs) (λ c κs. search needs) returns-2 returns-3 returns-4)

@@ -8,9 +8,6 @@ use borrow.Author.Needs.{needs}
 use Rattle.formula.proofs.nodes.size_at.Statement.{statement}
 use Rattle.formula.proofs.nodes.size_at.Tie as tie
 
-shared-slice-read-result : tie.Need-shared-slice-read-result
-shared-slice-read-result c = search needs
-
 cast-result : tie.Need-cast-result
 cast-result c = omega (arith, c .shared-slice-known .given (c .before .args .at))
 
@@ -20,4 +17,4 @@ returns c = let s = c .before in
     (ap (λ (n : Node). n .size) (sym (node-at (a .codes .now) (a .lefts .now) (a .rights .now) (a .sizes .now) (a .at) (s .pre))), omega (arith, c .shared-slice-known .given (a .at)))
 
 pub size-at-spec : {M : Type 1} → statement M
-size-at-spec = tie.close (tie.spec shared-slice-read-result cast-result returns)
+size-at-spec = tie.close (tie.spec (λ c. search needs) cast-result returns)

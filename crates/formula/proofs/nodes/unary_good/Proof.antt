@@ -3,14 +3,11 @@
 use native.Mathlib.Omega.{arith}
 use mathlib.Core.Path.{sym}
 use Rattle.formula.specs.Rule.Fault.{unaryPlace, rightUnused, unarySize, tooLarge}
-use Rattle.formula.specs.Inner.Fits.{unary}
+use Rattle.formula.specs.Faultless.Fits.{unary}
 use Rattle.formula.proofs.Faults.{not-both}
 use borrow.Author.Needs.{needs}
 use Rattle.formula.proofs.nodes.unary_good.Statement.{statement}
 use Rattle.formula.proofs.nodes.unary_good.Tie as tie
-
-cast-left : tie.Need-cast-left
-cast-left c = search needs
 
 returns : tie.Need-returns
 returns c = unaryPlace (c .before .before .before .before .before .before .pre .1) (c .if1 .taken)
@@ -18,34 +15,15 @@ returns c = unaryPlace (c .before .before .before .before .before .before .pre .
 returns-2 : tie.Need-returns-2
 returns-2 c = rightUnused (not-both _ (c .before .before .before .before .before .before .before .before .pre .1)) (c .if2 .taken)
 
-size-at-requires : tie.Need-size-at-requires
-size-at-requires c κs = search needs
-
-cast-size : tie.Need-cast-size
-cast-size c = search needs
-
-add-if3 : tie.Need-add-if3
-add-if3 c = search needs
-
 returns-3 : tie.Need-returns-3
 returns-3 c = unarySize (c .before .before .before .before .before .before .before .before .before .before .before .pre .1) (λ e. c .if3 .taken (omega (arith, c .before .before .size-at .ensures .0)))
 
-returns-4 : tie.Need-returns-4
-returns-4 c = tooLarge (c .if4 .taken)
-
 returns-5 : tie.Need-returns-5
-returns-5 c = let op = c .before .before .before .before .before .before .before .before .before .before .before .before .pre .1 in unary (op .0) (sym (op .1)) (omega arith) (c .before .before .before .before .if2 .left) (omega (arith, c .before .before .before .size-at .ensures .0)) (c .if4 .left)
+returns-5 c =
+    let op = c .before .before .before .before .before .before .before .before .before .before .before .before .pre .1 in
+    unary (op .0) (sym (op .1)) (omega arith) (c .before .before .before .before .if2 .left) (omega (arith, c .before .before .before .size-at .ensures .0)) (c .if4 .left)
 
 pub unary-good-spec : {M : Type 1} → statement M
-unary-good-spec =
-    tie.close
-    (tie.spec
-    cast-left
-    returns
-    returns-2
-    size-at-requires
-    cast-size
-    add-if3
-    returns-3
-    returns-4
+unary-good-spec = tie.close (tie.spec
+    (λ c. search needs) returns returns-2 (λ c κs. search needs) (λ c. search needs) (λ c. search needs) returns-3 (λ c. tooLarge (c .if4 .taken))
     returns-5)

@@ -26,12 +26,6 @@ Inv-loop file at n count end j₀ p₀ j p = Known file (take n (drop at file)) 
 abbrev μ-loop : tie.MeasureT-loop
 μ-loop file at n count end j₀ p₀ j p = count - j
 
-add-end : tie.Need-add-end Inv-loop μ-loop
-add-end c = search needs
-
-loop-holds : tie.Need-loop-holds Inv-loop μ-loop
-loop-holds c = known-start _ _ _
-
 add-from : tie.Need-add-from Inv-loop μ-loop
 add-from c = omega (arith, known-room _ _ _ (c .before .loop .inv) (c .loop-test .taken))
 
@@ -44,26 +38,8 @@ cast-to c = omega (arith, c .shared-slice-known2 .given (c .before .before .loop
 add-to : tie.Need-add-to Inv-loop μ-loop
 add-to c = omega (arith, known-room _ _ _ (c .before .before .loop .inv) (c .before .loop-test .taken))
 
-sub-same : tie.Need-sub-same Inv-loop μ-loop
-sub-same c = search needs
-
-part-same-start : tie.Need-part-same-start Inv-loop μ-loop
-part-same-start c = search needs
-
-part-same-end : tie.Need-part-same-end Inv-loop μ-loop
-part-same-end c = search needs
-
-sub-same-2 : tie.Need-sub-same-2 Inv-loop μ-loop
-sub-same-2 c = search needs
-
-part-same-start-2 : tie.Need-part-same-start-2 Inv-loop μ-loop
-part-same-start-2 c = search needs
-
 part-same-end-2 : tie.Need-part-same-end-2 Inv-loop μ-loop
 part-same-end-2 c = omega (arith, known-room _ _ _ (c .before .before .before .loop .inv) (c .before .before .loop-test .taken))
-
-same-requires : tie.Need-same-requires Inv-loop μ-loop
-same-requires c κs = search needs
 
 returns : tie.Need-returns Inv-loop μ-loop
 returns c =
@@ -71,12 +47,6 @@ returns c =
     let at-loop = in-loop .before in
     let a = at-loop .before .before .args in
     known-here _ _ _ (at-loop .loop .inv) (in-loop .loop-test .taken) (cut (a .file .now) (a .at) (a .n) (at-loop .loop .p) (sym (c .before .same .ensures) ∙ c .if1 .taken))
-
-add-j : tie.Need-add-j Inv-loop μ-loop
-add-j c = search needs
-
-loop-less : tie.Need-loop-less Inv-loop μ-loop
-loop-less c = search needs
 
 loop-again : tie.Need-loop-again Inv-loop μ-loop
 loop-again c =
@@ -89,26 +59,7 @@ returns-2 : tie.Need-returns-2 Inv-loop μ-loop
 returns-2 c = known-end _ _ _ (c .before .loop .inv) (c .loop-test .left)
 
 pub known-name-spec : {M : Type 1} → statement M
-known-name-spec =
-    tie.close
-    (tie.spec
-    Inv-loop
-    μ-loop
-    add-end
-    loop-holds
-    add-from
-    shared-slice-read-to
-    cast-to
-    add-to
-    sub-same
-    part-same-start
-    part-same-end
-    sub-same-2
-    part-same-start-2
-    part-same-end-2
-    same-requires
-    returns
-    add-j
-    loop-less
-    loop-again
-    returns-2)
+known-name-spec = tie.close (tie.spec
+    Inv-loop μ-loop (λ c. search needs) (λ c. known-start _ _ _) add-from shared-slice-read-to cast-to add-to (λ c. search needs) (λ c. search needs)
+    (λ c. search needs) (λ c. search needs) (λ c. search needs) part-same-end-2 (λ c κs. search needs) returns (λ c. search needs) (λ c. search needs)
+    loop-again returns-2)

@@ -5,17 +5,11 @@ use borrow.Author.Needs.{needs}
 use Rattle.names.proofs.letter.fits_name.Statement.{statement}
 use Rattle.names.proofs.letter.fits_name.Tie as tie
 
-is-letter-requires : tie.Need-is-letter-requires
-is-letter-requires c κs = search needs
-
 returns : tie.Need-returns
 returns c = simp (eq-eqb _ _ (c .before .if1 .taken), c .is-letter .ensures)
-
-is-name-byte-requires : tie.Need-is-name-byte-requires
-is-name-byte-requires c κs = search needs
 
 returns-2 : tie.Need-returns-2
 returns-2 c = simp (ne-eqb _ _ (c .before .if1 .left), c .is-name-byte .ensures)
 
 pub fits-name-spec : {M : Type 1} → statement M
-fits-name-spec = tie.close (tie.spec is-letter-requires returns is-name-byte-requires returns-2)
+fits-name-spec = tie.close (tie.spec (λ c κs. search needs) returns (λ c κs. search needs) returns-2)

@@ -12,17 +12,8 @@ returns : tie.Need-returns
 unfolding byte
 returns c = simp (le-ltb _ _ (c .if1 .taken))
 
-shared-slice-read-b : tie.Need-shared-slice-read-b
-shared-slice-read-b c = search needs
-
-fits-name-requires : tie.Need-fits-name-requires
-fits-name-requires c κs = search needs
-
 cast-t12 : tie.Need-cast-t12
 cast-t12 c = omega (arith, c .before .before .shared-slice-known2 .given (c .before .before .before .before .before .args .at))
-
-add-t13 : tie.Need-add-t13
-add-t13 c = search needs
 
 returns-2 : tie.Need-returns-2
 unfolding byte
@@ -35,4 +26,4 @@ returns-3 c = simp (lt-ltb _ _ (c .before .before .before .if1 .left), sym (c .b
 pub letter-at-spec : {M : Type 1} → statement M
 letter-at-spec =
     tie.close
-    (tie.spec returns shared-slice-read-b fits-name-requires cast-t12 add-t13 returns-2 returns-3)
+    (tie.spec returns (λ c. search needs) (λ c κs. search needs) cast-t12 (λ c. search needs) returns-2 returns-3)

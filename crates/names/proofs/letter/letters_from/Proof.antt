@@ -23,28 +23,10 @@ Inv-loop file at n i₀ p₀ i p = Loop letter file at n i p
 abbrev μ-loop : tie.MeasureT-loop
 μ-loop file at n i₀ p₀ i p = n - i
 
-loop-holds : tie.Need-loop-holds Inv-loop μ-loop
-loop-holds c = start letter _ _ _
-
-letter-at-requires : tie.Need-letter-at-requires Inv-loop μ-loop
-letter-at-requires c κs = search needs
-
-enum-known-s : tie.Need-enum-known-s Inv-loop μ-loop
-enum-known-s c = search needs
-
-enum-known-s-2 : tie.Need-enum-known-s-2 Inv-loop μ-loop
-enum-known-s-2 c = search needs
-
 returns : tie.Need-returns Inv-loop μ-loop
 returns c =
     let l = c .before .before .before .before .before .loop .inv in
     broken letter _ l (c .before .before .before .before .loop-test .taken) (step-broken (λ b. b) _ _ (step l (c .before .before .before .letter-at .ensures)) (c .before .s2 .given .1))
-
-add-i : tie.Need-add-i Inv-loop μ-loop
-add-i c = search needs
-
-loop-less : tie.Need-loop-less Inv-loop μ-loop
-loop-less c = search needs
 
 loop-again : tie.Need-loop-again Inv-loop μ-loop
 loop-again c =
@@ -55,17 +37,6 @@ returns-2 : tie.Need-returns-2 Inv-loop μ-loop
 returns-2 c = done letter _ (c .before .loop .inv) (c .loop-test .left)
 
 pub letters-from-spec : {M : Type 1} → statement M
-letters-from-spec =
-    tie.close
-    (tie.spec
-    Inv-loop
-    μ-loop
-    loop-holds
-    letter-at-requires
-    enum-known-s
-    enum-known-s-2
-    returns
-    add-i
-    loop-less
-    loop-again
-    returns-2)
+letters-from-spec = tie.close (tie.spec
+    Inv-loop μ-loop (λ c. start letter _ _ _) (λ c κs. search needs) (λ c. search needs) (λ c. search needs) returns (λ c. search needs)
+    (λ c. search needs) loop-again returns-2)

@@ -19,18 +19,6 @@ abbrev μ-loop : tie.MeasureT-loop
 returns : tie.Need-returns Inv-loop μ-loop
 returns c = let a = c .before .before .before .args in nothing-there (a .section .now) (a .word .now) (c .if1 .taken)
 
-shared-slice-read-count : tie.Need-shared-slice-read-count Inv-loop μ-loop
-shared-slice-read-count c = search needs
-
-cast-count : tie.Need-cast-count Inv-loop μ-loop
-cast-count c = omega (arith, c .shared-slice-known3 .given 0)
-
-loop-holds : tie.Need-loop-holds Inv-loop μ-loop
-loop-holds c = missed-start _ _ _
-
-letters-requires : tie.Need-letters-requires Inv-loop μ-loop
-letters-requires c κs = search needs
-
 sub-same : tie.Need-sub-same Inv-loop μ-loop
 sub-same c =
     let at-loop = c .before .before in
@@ -49,9 +37,6 @@ part-same-end c =
     let o = span-order (at-loop .before .before .before .before .before .args .section .now) (at-loop .loop .j) (c .letters .ensures) in
     omega (arith, o .0, o .1)
 
-same-requires : tie.Need-same-requires Inv-loop μ-loop
-same-requires c κs = search needs
-
 returns-2 : tie.Need-returns-2 Inv-loop μ-loop
 returns-2 c =
     let at-letters = c .before .before .before in
@@ -62,9 +47,6 @@ returns-2 c =
 
 add-j : tie.Need-add-j Inv-loop μ-loop
 add-j c = omega (arith, c .before .before .before .before .before .before .shared-slice-known3 .given 0)
-
-loop-less : tie.Need-loop-less Inv-loop μ-loop
-loop-less c = search needs
 
 loop-again : tie.Need-loop-again Inv-loop μ-loop
 loop-again c =
@@ -81,22 +63,6 @@ returns-3 c =
     missed-end (a .section .now) (a .word .now) _ (at-loop .loop .inv) (c .loop-test .left)
 
 pub find-spec : {M : Type 1} → statement M
-find-spec =
-    tie.close
-    (tie.spec
-    Inv-loop
-    μ-loop
-    returns
-    shared-slice-read-count
-    cast-count
-    loop-holds
-    letters-requires
-    sub-same
-    part-same-start
-    part-same-end
-    same-requires
-    returns-2
-    add-j
-    loop-less
-    loop-again
-    returns-3)
+find-spec = tie.close (tie.spec
+    Inv-loop μ-loop returns (λ c. search needs) (λ c. omega (arith, c .shared-slice-known3 .given 0)) (λ c. missed-start _ _ _) (λ c κs. search needs)
+    sub-same part-same-start part-same-end (λ c κs. search needs) returns-2 add-j (λ c. search needs) loop-again returns-3)

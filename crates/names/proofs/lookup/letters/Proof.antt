@@ -6,15 +6,6 @@ use borrow.Author.Needs.{needs}
 use Rattle.names.proofs.lookup.letters.Statement.{statement}
 use Rattle.names.proofs.lookup.letters.Tie as tie
 
-start-requires : tie.Need-start-requires
-start-requires c κs = search needs
-
-next-requires : tie.Need-next-requires
-next-requires c κs = search needs
-
-add-t8 : tie.Need-add-t8
-add-t8 c = search needs
-
 returns : tie.Need-returns
 returns c =
     let a = c .before .before .before .before .args in
@@ -28,4 +19,4 @@ returns-2 c =
     record { from = omega (arith, s .ensures); to = start-turn (a .section .now) (a .p) (s .ensures) (c .before .next .ensures) }
 
 pub letters-spec : {M : Type 1} → statement M
-letters-spec = tie.close (tie.spec start-requires next-requires add-t8 returns returns-2)
+letters-spec = tie.close (tie.spec (λ c κs. search needs) (λ c κs. search needs) (λ c. search needs) returns returns-2)

@@ -22,15 +22,6 @@ returns c = let a = c .before .before .args in empty-start (a .section .now) (a 
 loop-holds : tie.Need-loop-holds Inv-loop μ-loop
 loop-holds c = (omega arith, first-start (c .before .before .args .section .now) (c .if1 .left))
 
-next-requires : tie.Need-next-requires Inv-loop μ-loop
-next-requires c κs = search needs
-
-add-i : tie.Need-add-i Inv-loop μ-loop
-add-i c = search needs
-
-loop-less : tie.Need-loop-less Inv-loop μ-loop
-loop-less c = search needs
-
 loop-again : tie.Need-loop-again Inv-loop μ-loop
 loop-again c =
     let at-loop = c .before .before in
@@ -43,15 +34,5 @@ returns-2 c =
     at-loop .loop .inv .1 ∙ ap (λ (k : ℕ). min (length s) (walkEnd s k 1)) (omega arith)
 
 pub start-spec : {M : Type 1} → statement M
-start-spec =
-    tie.close
-    (tie.spec
-    Inv-loop
-    μ-loop
-    returns
-    loop-holds
-    next-requires
-    add-i
-    loop-less
-    loop-again
-    returns-2)
+start-spec = tie.close (tie.spec
+    Inv-loop μ-loop returns loop-holds (λ c κs. search needs) (λ c. search needs) (λ c. search needs) loop-again returns-2)

@@ -18,26 +18,8 @@ use Rattle.names.proofs.reserved.taken_name.Tie as tie
 cut : (file : List ℕ) (at n : ℕ) {b : Bool} → isIn sameBytes (take (at + n - at) (drop at file)) reserved ≡ b → isIn sameBytes (take n (drop at file)) reserved ≡ b
 cut file at n e = let k : at + n - at ≡ n = omega arith in rw k at e
 
-add-end : tie.Need-add-end
-add-end c = search needs
-
-sub-is-reserved : tie.Need-sub-is-reserved
-sub-is-reserved c = search needs
-
-part-is-reserved-start : tie.Need-part-is-reserved-start
-part-is-reserved-start c = search needs
-
-part-is-reserved-end : tie.Need-part-is-reserved-end
-part-is-reserved-end c = search needs
-
-is-reserved-requires : tie.Need-is-reserved-requires
-is-reserved-requires c κs = search needs
-
 returns : tie.Need-returns
 returns c = let a = c .before .before .before .before .args in sym (or-stop _ (cut (a .file .now) (a .at) (a .n) (sym (c .before .is-reserved .ensures) ∙ c .if1 .taken)))
-
-known-name-requires : tie.Need-known-name-requires
-known-name-requires c κs = search needs
 
 returns-2 : tie.Need-returns-2
 returns-2 c =
@@ -45,14 +27,5 @@ returns-2 c =
     c .known-name .ensures ∙ sym (or-on _ (cut (a .file .now) (a .at) (a .n) (sym (c .before .before .is-reserved .ensures) ∙ c .before .if1 .left)))
 
 pub taken-name-spec : {M : Type 1} → statement M
-taken-name-spec =
-    tie.close
-    (tie.spec
-    add-end
-    sub-is-reserved
-    part-is-reserved-start
-    part-is-reserved-end
-    is-reserved-requires
-    returns
-    known-name-requires
-    returns-2)
+taken-name-spec = tie.close (tie.spec
+    (λ c. search needs) (λ c. search needs) (λ c. search needs) (λ c. search needs) (λ c κs. search needs) returns (λ c κs. search needs) returns-2)

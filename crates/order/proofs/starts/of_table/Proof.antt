@@ -14,41 +14,17 @@ Inv-loop sizes kept starts₀ t₀ starts t = (1 ≤ t) × (t ≤ 33) × Summed 
 abbrev μ-loop : tie.MeasureT-loop
 μ-loop sizes kept starts₀ t₀ starts t = 33 - t
 
-fewer-requires : tie.Need-fewer-requires Inv-loop μ-loop
-fewer-requires c κs = search needs
-
-counts-requires : tie.Need-counts-requires Inv-loop μ-loop
-counts-requires c κs = omega (arith, c .fewer .ensures)
-
 loop-holds : tie.Need-loop-holds Inv-loop μ-loop
 loop-holds c = (omega arith, omega arith, rw (c .before .fewer .ensures) at (summed-none _ _ (c .counts .ensures)))
 
-sub-starts : tie.Need-sub-starts Inv-loop μ-loop
-sub-starts c = omega arith
-
-mul-starts : tie.Need-mul-starts Inv-loop μ-loop
-mul-starts c = omega arith
-
-array-read-starts : tie.Need-array-read-starts Inv-loop μ-loop
-array-read-starts c = omega arith
-
-mul-starts-2 : tie.Need-mul-starts-2 Inv-loop μ-loop
-mul-starts-2 c = omega arith
-
-array-read-starts-2 : tie.Need-array-read-starts-2 Inv-loop μ-loop
-array-read-starts-2 c = omega arith
-
 add-starts : tie.Need-add-starts Inv-loop μ-loop
-add-starts c = omega (arith, summed-few (c .before .loop .inv .2) (omega arith) (omega arith), length-take (min (c .before .before .before .before .before .args .kept) (length (c .before .before .before .before .before .args .sizes .now))) (c .before .before .before .before .before .args .sizes .now))
-
-array-write-starts : tie.Need-array-write-starts Inv-loop μ-loop
-array-write-starts c = omega arith
-
-add-t : tie.Need-add-t Inv-loop μ-loop
-add-t c = omega arith
-
-loop-less : tie.Need-loop-less Inv-loop μ-loop
-loop-less c = omega arith
+add-starts c = omega (
+  arith,
+  summed-few (c .before .loop .inv .2) (omega arith) (omega arith),
+  length-take
+      (min (c .before .before .before .before .before .args .kept) (length (c .before .before .before .before .before .args .sizes .now)))
+      (c .before .before .before .before .before .args .sizes .now),
+)
 
 loop-again : tie.Need-loop-again Inv-loop μ-loop
 loop-again c = (omega arith, omega arith, summed-more (c .before .loop .inv .2) (omega arith) (omega arith))
@@ -57,22 +33,6 @@ returns : tie.Need-returns Inv-loop μ-loop
 returns c = summed-all _ _ (c .before .loop .inv .2) (omega arith)
 
 pub of-table-spec : {M : Type 1} → statement M
-of-table-spec =
-    tie.close
-    (tie.spec
-    Inv-loop
-    μ-loop
-    fewer-requires
-    counts-requires
-    loop-holds
-    sub-starts
-    mul-starts
-    array-read-starts
-    mul-starts-2
-    array-read-starts-2
-    add-starts
-    array-write-starts
-    add-t
-    loop-less
-    loop-again
-    returns)
+of-table-spec = tie.close (tie.spec
+    Inv-loop μ-loop (λ c κs. search needs) (λ c κs. omega (arith, c .fewer .ensures)) loop-holds (λ c. omega arith) (λ c. omega arith)
+    (λ c. omega arith) (λ c. omega arith) (λ c. omega arith) add-starts (λ c. omega arith) (λ c. omega arith) (λ c. omega arith) loop-again returns)

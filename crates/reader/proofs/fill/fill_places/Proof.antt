@@ -17,35 +17,11 @@ Inv-loop scratch n unit to₀ i₀ to i = (i ≤ n) × (to ≡ sets to₀ 0 (map
 abbrev μ-loop : tie.MeasureT-loop
 μ-loop scratch n unit to₀ i₀ to i = n - i
 
-loop-holds : tie.Need-loop-holds Inv-loop μ-loop
-loop-holds c = (omega arith, refl)
-
-mul-to : tie.Need-mul-to Inv-loop μ-loop
-mul-to c = search needs
-
-shared-slice-read-to : tie.Need-shared-slice-read-to Inv-loop μ-loop
-shared-slice-read-to c = search needs
-
-div-to : tie.Need-div-to Inv-loop μ-loop
-div-to c = search needs
-
-cast-to : tie.Need-cast-to Inv-loop μ-loop
-cast-to c = search needs
-
-mul-to-2 : tie.Need-mul-to-2 Inv-loop μ-loop
-mul-to-2 c = search needs
-
 slice-write-to : tie.Need-slice-write-to Inv-loop μ-loop
 slice-write-to c =
     let s = c .before .before .before in
     let l = c .before .before .loop in
     omega (arith, c .before .loop-test .taken, s .pre .2, filled-length (λ e. e / s .args .unit % 65536) (s .args .scratch .now) (s .args .to .now) (l .i) (l .inv .1))
-
-add-i : tie.Need-add-i Inv-loop μ-loop
-add-i c = search needs
-
-loop-less : tie.Need-loop-less Inv-loop μ-loop
-loop-less c = search needs
 
 loop-again : tie.Need-loop-again Inv-loop μ-loop
 loop-again c =
@@ -67,20 +43,6 @@ returns c =
     filled-all (λ e. e / s .args .unit % 65536) (s .args .scratch .now) _ z (l .inv .1)
 
 pub fill-places-spec : {M : Type 1} → statement M
-fill-places-spec =
-    tie.close
-    (tie.spec
-    Inv-loop
-    μ-loop
-    loop-holds
-    mul-to
-    shared-slice-read-to
-    div-to
-    cast-to
-    mul-to-2
-    slice-write-to
-    add-i
-    loop-less
-    loop-again
-    same-length
-    returns)
+fill-places-spec = tie.close (tie.spec
+    Inv-loop μ-loop (λ c. (omega arith, refl)) (λ c. search needs) (λ c. search needs) (λ c. search needs) (λ c. search needs) (λ c. search needs)
+    slice-write-to (λ c. search needs) (λ c. search needs) loop-again same-length returns)

@@ -7,47 +7,28 @@ use borrow.Author.Needs.{needs}
 use Rattle.report.proofs.sessions.summary_at.Statement.{statement}
 use Rattle.report.proofs.sessions.summary_at.Tie as tie
 
-sequence-of-requires : tie.Need-sequence-of-requires
-sequence-of-requires c κs = search needs
-
-enum-known-sequenced : tie.Need-enum-known-sequenced
-enum-known-sequenced c = search needs
-
-summary-of-requires : tie.Need-summary-of-requires
-summary-of-requires c κs = search needs
-
-enum-told : tie.Need-enum-told
-enum-told c = search needs
-
-nothing-requires : tie.Need-nothing-requires
-nothing-requires c κs = search needs
-
-enum-told-2 : tie.Need-enum-told-2
-enum-told-2 c = search needs
-
-nothing-requires-2 : tie.Need-nothing-requires-2
-nothing-requires-2 c κs = search needs
-
 returns : tie.Need-returns
-returns c = let a = c .before .before .before .before .before .before .before .before .before .before .before .before .args in node-says (recording (a .r) (a .m) (a .marks .now) (a .lengths .now) (a .words .now)) (nodes (a .codes .now) (a .lefts .now) (a .rights .now) (a .sizes .now)) (a .on .0) (nodeOf (a .node)) (c .before .before .before .before .sequence-of .result) (c .before .before .sequenced .given .1) (c .before .before .before .before .sequence-of .ensures) (c .summary-of .result) (c .summary-of .ensures)
+returns c =
+    let a = c .before .before .before .before .before .before .before .before .before .before .before .before .args in
+    node-says (recording (a .r) (a .m) (a .marks .now) (a .lengths .now) (a .words .now)) (nodes (a .codes .now) (a .lefts .now) (a .rights .now) (a .sizes .now)) (a .on .0)
+    (nodeOf (a .node)) (c .before .before .before .before .sequence-of .result) (c .before .before .sequenced .given .1) (c .before .before .before .before .sequence-of .ensures)
+    (c .summary-of .result) (c .summary-of .ensures)
 
 returns-2 : tie.Need-returns-2
-returns-2 c = let a = c .before .before .before .before .before .before .before .before .before .before .before .args in never-past (recording (a .r) (a .m) (a .marks .now) (a .lengths .now) (a .words .now)) (nodes (a .codes .now) (a .lefts .now) (a .rights .now) (a .sizes .now)) (a .on .0) (nodeOf (a .node)) (c .before .before .before .sequence-of .result) (c .before .enum-told .given .1) (c .before .before .before .sequence-of .ensures) (c .before .before .before .before .before .before .before .before .before .before .before .pre .1)
+returns-2 c =
+    let a = c .before .before .before .before .before .before .before .before .before .before .before .args in
+    never-past (recording (a .r) (a .m) (a .marks .now) (a .lengths .now) (a .words .now)) (nodes (a .codes .now) (a .lefts .now) (a .rights .now) (a .sizes .now)) (a .on .0)
+    (nodeOf (a .node)) (c .before .before .before .sequence-of .result) (c .before .enum-told .given .1) (c .before .before .before .sequence-of .ensures)
+    (c .before .before .before .before .before .before .before .before .before .before .before .pre .1)
 
 returns-3 : tie.Need-returns-3
-returns-3 c = let a = c .before .before .before .before .before .before .before .before .before .before .before .args in never-refused (recording (a .r) (a .m) (a .marks .now) (a .lengths .now) (a .words .now)) (nodes (a .codes .now) (a .lefts .now) (a .rights .now) (a .sizes .now)) (a .on .0) (nodeOf (a .node)) (c .before .before .before .sequence-of .result) (c .before .enum-told2 .given .1) (c .before .before .before .sequence-of .ensures) (c .before .before .before .before .before .before .before .before .before .before .before .pre .0)
+returns-3 c =
+    let a = c .before .before .before .before .before .before .before .before .before .before .before .args in
+    never-refused (recording (a .r) (a .m) (a .marks .now) (a .lengths .now) (a .words .now)) (nodes (a .codes .now) (a .lefts .now) (a .rights .now) (a .sizes .now)) (a .on .0)
+    (nodeOf (a .node)) (c .before .before .before .sequence-of .result) (c .before .enum-told2 .given .1) (c .before .before .before .sequence-of .ensures)
+    (c .before .before .before .before .before .before .before .before .before .before .before .pre .0)
 
 pub summary-at-spec : {M : Type 1} → statement M
-summary-at-spec =
-    tie.close
-    (tie.spec
-    sequence-of-requires
-    enum-known-sequenced
-    summary-of-requires
-    enum-told
-    nothing-requires
-    enum-told-2
-    nothing-requires-2
-    returns
-    returns-2
-    returns-3)
+summary-at-spec = tie.close (tie.spec
+    (λ c κs. search needs) (λ c. search needs) (λ c κs. search needs) (λ c. search needs) (λ c κs. search needs) (λ c. search needs)
+    (λ c κs. search needs) returns returns-2 returns-3)

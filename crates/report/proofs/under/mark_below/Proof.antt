@@ -10,25 +10,19 @@ use borrow.Author.Needs.{needs}
 use Rattle.report.proofs.under.mark_below.Statement.{statement}
 use Rattle.report.proofs.under.mark_below.Tie as tie
 
-slice-read-if1 : tie.Need-slice-read-if1
-slice-read-if1 c = search needs
-
 returns : tie.Need-returns
-returns c = let a = c .before .before .before .before .before .before .before .args in below-unmarked (a .marks .now) (nodeAt (nodes (a .codes .now) (a .lefts .now) (a .rights .now) (a .sizes .now)) (a .q)) (a .q) (c .if1 .taken)
-
-node-at-requires : tie.Need-node-at-requires
-node-at-requires c κs = search needs
-
-mark-children-requires : tie.Need-mark-children-requires
-mark-children-requires c κs = search needs
-
-same-length : tie.Need-same-length
-same-length c = search needs
+returns c =
+    let a = c .before .before .before .before .before .before .before .args in
+    below-unmarked (a .marks .now) (nodeAt (nodes (a .codes .now) (a .lefts .now) (a .rights .now) (a .sizes .now)) (a .q)) (a .q) (c .if1 .taken)
 
 returns-2 : tie.Need-returns-2
-returns-2 c = let a = c .before .before .before .before .before .before .before .before .before .before .before .before .args in subst (λ (n : Node). MarksBelow (a .marks .now) (a .q) n (c .before .before .mark-children .last .0)) (c .before .before .before .before .node-at .ensures) (below-marked (a .marks .now) _ (a .q) (c .before .before .before .before .before .if1 .left) (c .before .before .mark-children .ensures))
+returns-2 c =
+    let a = c .before .before .before .before .before .before .before .before .before .before .before .before .args in
+    subst (λ (n : Node). MarksBelow (a .marks .now) (a .q) n (c .before .before .mark-children .last .0))
+    (c .before .before .before .before .node-at .ensures)
+    (below-marked (a .marks .now) _ (a .q) (c .before .before .before .before .before .if1 .left) (c .before .before .mark-children .ensures))
 
 pub mark-below-spec : {M : Type 1} → statement M
 mark-below-spec =
     tie.close
-    (tie.spec slice-read-if1 returns node-at-requires mark-children-requires same-length returns-2)
+    (tie.spec (λ c. search needs) returns (λ c κs. search needs) (λ c κs. search needs) (λ c. search needs) returns-2)

@@ -3,45 +3,25 @@
 use mathlib.Core.Path.{_≡_}
 use Prim.Native.Nat.{ℕ}
 use native.Mathlib.Omega.{arith}
-use Rattle.sequence.proofs.Groups.{in-unary, in-binary, off-unary, off-binary}
+use Rattle.operators.proofs.Groups.{in-unary, in-binary, off-unary, off-binary}
 use Rattle.formula.specs.Kinds.{nodeOf}
 use Rattle.report.proofs.Marking.{marks-left, marks-both, marks-none}
 use borrow.Author.Needs.{needs}
 use Rattle.report.proofs.under.mark_children.Statement.{statement}
 use Rattle.report.proofs.under.mark_children.Tie as tie
 
-operator-of-requires : tie.Need-operator-of-requires
-operator-of-requires c κs = search needs
-
-enum-told : tie.Need-enum-told
-enum-told c = search needs
-
-mark-requires : tie.Need-mark-requires
-mark-requires c κs = search needs
-
-enum-told-2 : tie.Need-enum-told-2
-enum-told-2 c = search needs
-
-mark-requires-2 : tie.Need-mark-requires-2
-mark-requires-2 c κs = search needs
-
-mark-requires-3 : tie.Need-mark-requires-3
-mark-requires-3 c κs = search needs
-
-enum-told-3 : tie.Need-enum-told-3
-enum-told-3 c = search needs
-
-same-length : tie.Need-same-length
-same-length c = search needs
-
 returns : tie.Need-returns
-returns c = let a = c .before .before .before .before .before .before .before .before .args in let f = c .before .before .before .before .before .before .operator-of in marks-left (a .marks .now) (nodeOf (a .node)) (in-unary _ (f .result) (f .ensures) (c .before .before .before .before .enum-told .given .1)) (c .before .before .mark .ensures)
-
-same-length-2 : tie.Need-same-length-2
-same-length-2 c = search needs
+returns c =
+    let a = c .before .before .before .before .before .before .before .before .args in
+    let f = c .before .before .before .before .before .before .operator-of in
+    marks-left (a .marks .now) (nodeOf (a .node)) (in-unary _ (f .result) (f .ensures) (c .before .before .before .before .enum-told .given .1)) (c .before .before .mark .ensures)
 
 returns-2 : tie.Need-returns-2
-returns-2 c = let a = c .before .before .before .before .before .before .before .before .before .before .before .before .args in let f = c .before .before .before .before .before .before .before .before .before .before .operator-of in marks-both (a .marks .now) (nodeOf (a .node)) (in-binary _ (f .result) (f .ensures) (c .before .before .before .before .before .before .before .before .enum-told2 .given .1)) (c .before .before .before .before .before .before .mark2 .ensures) (c .before .before .mark3 .ensures)
+returns-2 c =
+    let a = c .before .before .before .before .before .before .before .before .before .before .before .before .args in
+    let f = c .before .before .before .before .before .before .before .before .before .before .operator-of in
+    marks-both (a .marks .now) (nodeOf (a .node)) (in-binary _ (f .result) (f .ensures) (c .before .before .before .before .before .before .before .before .enum-told2 .given .1))
+    (c .before .before .before .before .before .before .mark2 .ensures) (c .before .before .mark3 .ensures)
 
 returns-3 : tie.Need-returns-3
 returns-3 c = let a = c .before .before .before .before .args in
@@ -51,18 +31,6 @@ returns-3 c = let a = c .before .before .before .before .args in
     (λ u. off-binary _ (f .result) (f .ensures) (λ g. let z : _≡_ {A = ℕ} 0 1 = cc (c .enum-told3 .given .1) in omega arith) (u .0) (u .1))
 
 pub mark-children-spec : {M : Type 1} → statement M
-mark-children-spec =
-    tie.close
-    (tie.spec
-    operator-of-requires
-    enum-told
-    mark-requires
-    enum-told-2
-    mark-requires-2
-    mark-requires-3
-    enum-told-3
-    same-length
-    returns
-    same-length-2
-    returns-2
-    returns-3)
+mark-children-spec = tie.close (tie.spec
+    (λ c κs. search needs) (λ c. search needs) (λ c κs. search needs) (λ c. search needs) (λ c κs. search needs) (λ c κs. search needs)
+    (λ c. search needs) (λ c. search needs) returns (λ c. search needs) returns-2 returns-3)

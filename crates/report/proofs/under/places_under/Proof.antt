@@ -13,37 +13,37 @@ use Rattle.report.proofs.under.places_under.Statement.{statement}
 use Rattle.report.proofs.under.places_under.Tie as tie
 
 abbrev Inv-loop : tie.InvT-loop
-Inv-loop codes lefts rights sizes marks₀ q₀ marks q = (q ≤ length (nodes codes lefts rights sizes)) × (length marks ≡ mostRoom) × Passed (nodes codes lefts rights sizes) (Top (nodes codes lefts rights sizes) marks₀) q marks
+Inv-loop codes lefts rights sizes marks₀ q₀ marks q =
+    (q ≤ length (nodes codes lefts rights sizes)) × (length marks ≡ mostRoom) × Passed (nodes codes lefts rights sizes) (Top (nodes codes lefts rights sizes) marks₀) q marks
 
 abbrev μ-loop : tie.MeasureT-loop
 μ-loop codes lefts rights sizes marks₀ q₀ marks q = q
 
-slice-aggregate-mark-children : tie.Need-slice-aggregate-mark-children Inv-loop μ-loop
-slice-aggregate-mark-children c = search needs
-
-mark-children-requires : tie.Need-mark-children-requires Inv-loop μ-loop
-mark-children-requires c κs = search needs
-
-count-requires : tie.Need-count-requires Inv-loop μ-loop
-count-requires c κs = search needs
-
 loop-holds : tie.Need-loop-holds Inv-loop μ-loop
 loop-holds c =
     let a = c .before .before .before .before .before .before .before .before .args in
-    let e = c .count .ensures ∙ sym (length-nodes (a .codes .now) (a .lefts .now) (a .rights .now) (a .sizes .now)) in
-    (omega (arith, e), start-room (nodes (a .codes .now) (a .lefts .now) (a .rights .now) (a .sizes .now)) (nodeOf (a .root)) (c .before .before .before .before .before .before .before .before .pre) mostRoom _ (few-places (nodes (a .codes .now) (a .lefts .now) (a .rights .now) (a .sizes .now)) (nodeOf (a .root)) (c .before .before .before .before .before .before .before .before .pre)) (c .before .before .mark-children .ensures), starts (nodes (a .codes .now) (a .lefts .now) (a .rights .now) (a .sizes .now)) (nodeOf (a .root)) (c .before .before .before .before .before .before .before .before .pre) mostRoom _ (few-places (nodes (a .codes .now) (a .lefts .now) (a .rights .now) (a .sizes .now)) (nodeOf (a .root)) (c .before .before .before .before .before .before .before .before .pre)) (c .before .before .mark-children .ensures) e)
-
-sub-q : tie.Need-sub-q Inv-loop μ-loop
-sub-q c = omega arith
-
-slice-aggregate-mark-below : tie.Need-slice-aggregate-mark-below Inv-loop μ-loop
-slice-aggregate-mark-below c = omega (arith, c .before .before .loop .inv .1)
+    let e = c .count .ensures ∙ sym (length-nodes (a .codes .now) (a .lefts .now) (a .rights .now) (a .sizes .now)) in (
+      omega (arith, e),
+      start-room (nodes (a .codes .now) (a .lefts .now) (a .rights .now) (a .sizes .now)) (nodeOf (a .root))
+          (c .before .before .before .before .before .before .before .before .pre) mostRoom _
+          (few-places (nodes (a .codes .now) (a .lefts .now) (a .rights .now) (a .sizes .now)) (nodeOf (a .root)) (c .before .before .before .before .before .before .before .before .pre))
+          (c .before .before .mark-children .ensures),
+      starts (nodes (a .codes .now) (a .lefts .now) (a .rights .now) (a .sizes .now)) (nodeOf (a .root))
+          (c .before .before .before .before .before .before .before .before .pre) mostRoom _
+          (few-places (nodes (a .codes .now) (a .lefts .now) (a .rights .now) (a .sizes .now)) (nodeOf (a .root)) (c .before .before .before .before .before .before .before .before .pre))
+          (c .before .before .mark-children .ensures) e,
+    )
 
 mark-below-requires : tie.Need-mark-below-requires Inv-loop μ-loop
-mark-below-requires c κs = let a = c .before .before .before .before .before .before .before .before .before .before .before .args in omega (arith, few-places (nodes (a .codes .now) (a .lefts .now) (a .rights .now) (a .sizes .now)) (nodeOf (a .root)) (c .before .before .before .before .before .before .before .before .before .before .before .pre), c .before .before .loop .inv .0, c .before .before .loop .inv .1)
-
-loop-less : tie.Need-loop-less Inv-loop μ-loop
-loop-less c = omega arith
+mark-below-requires c κs =
+    let a = c .before .before .before .before .before .before .before .before .before .before .before .args in
+    omega (
+      arith,
+      few-places (nodes (a .codes .now) (a .lefts .now) (a .rights .now) (a .sizes .now)) (nodeOf (a .root))
+          (c .before .before .before .before .before .before .before .before .before .before .before .pre),
+      c .before .before .loop .inv .0,
+      c .before .before .loop .inv .1,
+    )
 
 loop-again : tie.Need-loop-again Inv-loop μ-loop
 loop-again c =
@@ -51,28 +51,25 @@ loop-again c =
     let l = c .before .before .before .before .loop in (
       omega (arith, l .inv .0),
       c .before .mark-below .ensures .same ∙ l .inv .1,
-      goes-on (nodes (a .codes .now) (a .lefts .now) (a .rights .now) (a .sizes .now)) (nodeOf (a .root)) (c .before .before .before .before .before .before .before .before .before .before .before .before .before .pre) mostRoom _ (few-places (nodes (a .codes .now) (a .lefts .now) (a .rights .now) (a .sizes .now)) (nodeOf (a .root)) (c .before .before .before .before .before .before .before .before .before .before .before .before .before .pre)) (c .before .before .before .before .before .before .before .mark-children .ensures) (l .q) _ (omega (arith, c .before .before .before .loop-test .taken)) (l .inv .0) (l .inv .1) (l .inv .2) (c .before .mark-below .ensures),
+      goes-on (nodes (a .codes .now) (a .lefts .now) (a .rights .now) (a .sizes .now)) (nodeOf (a .root))
+          (c .before .before .before .before .before .before .before .before .before .before .before .before .before .pre) mostRoom _
+          (few-places (nodes (a .codes .now) (a .lefts .now) (a .rights .now) (a .sizes .now)) (nodeOf (a .root))
+          (c .before .before .before .before .before .before .before .before .before .before .before .before .before .pre))
+          (c .before .before .before .before .before .before .before .mark-children .ensures) (l .q) _ (omega (arith, c .before .before .before .loop-test .taken)) (l .inv .0) (l .inv .1)
+          (l .inv .2) (c .before .mark-below .ensures),
     )
 
 returns : tie.Need-returns Inv-loop μ-loop
 returns c =
     let a = c .before .before .before .before .before .before .before .before .before .before .args in
     let l = c .before .loop in
-    ends (nodes (a .codes .now) (a .lefts .now) (a .rights .now) (a .sizes .now)) (nodeOf (a .root)) (c .before .before .before .before .before .before .before .before .before .before .pre) mostRoom _ (few-places (nodes (a .codes .now) (a .lefts .now) (a .rights .now) (a .sizes .now)) (nodeOf (a .root)) (c .before .before .before .before .before .before .before .before .before .before .pre)) (c .before .before .before .before .mark-children .ensures) (omega (arith, c .loop-test .left)) (l .inv .1) (l .inv .2)
+    ends (nodes (a .codes .now) (a .lefts .now) (a .rights .now) (a .sizes .now)) (nodeOf (a .root))
+    (c .before .before .before .before .before .before .before .before .before .before .pre) mostRoom _
+    (few-places (nodes (a .codes .now) (a .lefts .now) (a .rights .now) (a .sizes .now)) (nodeOf (a .root))
+    (c .before .before .before .before .before .before .before .before .before .before .pre)) (c .before .before .before .before .mark-children .ensures)
+    (omega (arith, c .loop-test .left)) (l .inv .1) (l .inv .2)
 
 pub places-under-spec : {M : Type 1} → statement M
-places-under-spec =
-    tie.close
-    (tie.spec
-    Inv-loop
-    μ-loop
-    slice-aggregate-mark-children
-    mark-children-requires
-    count-requires
-    loop-holds
-    sub-q
-    slice-aggregate-mark-below
-    mark-below-requires
-    loop-less
-    loop-again
-    returns)
+places-under-spec = tie.close (tie.spec
+    Inv-loop μ-loop (λ c. search needs) (λ c κs. search needs) (λ c κs. search needs) loop-holds (λ c. omega arith)
+    (λ c. omega (arith, c .before .before .loop .inv .1)) mark-below-requires (λ c. omega arith) loop-again returns)

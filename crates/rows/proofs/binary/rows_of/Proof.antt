@@ -10,20 +10,11 @@ use Rattle.rows.proofs.Products.{at-most}
 use Rattle.rows.proofs.binary.rows_of.Statement.{statement}
 use Rattle.rows.proofs.binary.rows_of.Tie as tie
 
-cast-one : tie.Need-cast-one
-cast-one c = search needs
-
 mul-one : tie.Need-mul-one
 mul-one c = let a = c .before .before .before .before .args in omega (arith, at-most (a .left .0) 65535 (a .r) mostSessions (omega arith) (omega arith))
 
 add-if1 : tie.Need-add-if1
 add-if1 c = let a = c .before .before .before .before .args in omega (arith, at-most (a .left .0) 65535 (a .r) mostSessions (omega arith) (omega arith))
-
-returns : tie.Need-returns
-returns c = (λ h. omega (arith, h .0), refl)
-
-cast-other : tie.Need-cast-other
-cast-other c = search needs
 
 mul-other : tie.Need-mul-other
 mul-other c = let a = c .before .before .before .before .before .before .args in omega (arith, at-most (a .right .0) 65535 (a .r) mostSessions (omega arith) (omega arith))
@@ -31,65 +22,24 @@ mul-other c = let a = c .before .before .before .before .before .before .args in
 add-if2 : tie.Need-add-if2
 add-if2 c = let a = c .before .before .before .before .before .before .args in omega (arith, at-most (a .right .0) 65535 (a .r) mostSessions (omega arith) (omega arith))
 
-returns-2 : tie.Need-returns-2
-returns-2 c = (λ h. omega (arith, h .1), refl)
-
-mul-by-code : tie.Need-mul-by-code
-mul-by-code c = search needs
-
-sub-by-code : tie.Need-sub-by-code
-sub-by-code c = omega arith
-
-part-by-code-start : tie.Need-part-by-code-start
-part-by-code-start c = omega arith
-
-part-by-code-end : tie.Need-part-by-code-end
-part-by-code-end c = search needs
-
-mul-by-code-2 : tie.Need-mul-by-code-2
-mul-by-code-2 c = search needs
-
-sub-by-code-2 : tie.Need-sub-by-code-2
-sub-by-code-2 c = omega arith
-
-part-by-code-start-2 : tie.Need-part-by-code-start-2
-part-by-code-start-2 c = omega arith
-
-part-by-code-end-2 : tie.Need-part-by-code-end-2
-part-by-code-end-2 c = search needs
-
-by-code-requires : tie.Need-by-code-requires
-by-code-requires c κs =
-    let a = c .before .before .before .before .before .before .before .before .before .before .args in
-    let p = c .before .before .before .before .before .before .before .before .before .before .pre in
-    (p .0, record { sessions-in = p .0 .sessions-in; there = part-long (a .matrices .now) (a .left .0 * a .r) (a .r) (omega arith) }, record { sessions-in = p .0 .sessions-in; there = part-long (a .matrices .now) (a .right .0 * a .r) (a .r) (omega arith) }, p .1, p .2)
-
-same-length : tie.Need-same-length
-same-length c = c .before .before .by-code .ensures .long
-
 returns-3 : tie.Need-returns-3
-returns-3 c = ((c .before .before .before .before .before .before .before .before .if1 .left, c .before .before .before .before .before .before .if2 .left), c .before .before .by-code .ensures)
+returns-3 c =
+    let a = c .before .before .before .before .before .before .before .before .before .before .before .before .before .args in
+    let p = c .before .before .before .before .before .before .before .before .before .before .before .before .before .pre in
+    let l = c .before .before .before .before .before .before .before .before .if1 .left in
+    let k = c .before .before .before .before .before .before .if2 .left in (
+      (l, k),
+      c .before .before .by-code .ensures .did record {
+        masks-there = p .0 .there;
+        x-there = part-long (a .matrices .now) (a .left .0 * a .r) (a .r) l;
+        y-there = part-long (a .matrices .now) (a .right .0 * a .r) (a .r) k;
+        rows-there = p .1 .there;
+        operator = p .2;
+      },
+    )
 
 pub rows-of-spec : {M : Type 1} → statement M
-rows-of-spec =
-    tie.close
-    (tie.spec
-    cast-one
-    mul-one
-    add-if1
-    returns
-    cast-other
-    mul-other
-    add-if2
-    returns-2
-    mul-by-code
-    sub-by-code
-    part-by-code-start
-    part-by-code-end
-    mul-by-code-2
-    sub-by-code-2
-    part-by-code-start-2
-    part-by-code-end-2
-    by-code-requires
-    same-length
-    returns-3)
+rows-of-spec = tie.close (tie.spec
+    (λ c. search needs) mul-one add-if1 (λ c. (λ h. omega (arith, h .0), refl)) (λ c. search needs) mul-other add-if2
+    (λ c. (λ h. omega (arith, h .1), refl)) (λ c. search needs) (λ c. omega arith) (λ c. omega arith) (λ c. search needs) (λ c. search needs)
+    (λ c. omega arith) (λ c. omega arith) (λ c. search needs) (λ c κs. search needs) (λ c. search needs) returns-3)

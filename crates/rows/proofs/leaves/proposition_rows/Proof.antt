@@ -8,8 +8,8 @@ use lib.ListN.{getD}
 use borrow.Author.Needs.{needs}
 use Rattle.rows.proofs.Products.{next-row, word-in, at-most}
 use Rattle.rules.specs.Limits.{mostSessions, mostPropositions}
-use Rattle.rows.specs.Rows.{Filled}
-use Rattle.rows.proofs.Filling.{filled-none, filled-more, filled-all}
+use Rattle.loops.specs.Loops.{Filled}
+use Rattle.loops.proofs.Filling.{filled-none, filled-more, filled-all}
 use Rattle.rows.proofs.leaves.proposition_rows.Statement.{statement}
 use Rattle.rows.proofs.leaves.proposition_rows.Tie as tie
 
@@ -18,9 +18,6 @@ Inv-loop r m words rows₀ j₀ at₀ rows j at = (j ≤ r) × Filled j rows₀ 
 
 abbrev μ-loop : tie.MeasureT-loop
 μ-loop r m words rows₀ j₀ at₀ rows j at = r - j
-
-cast-at : tie.Need-cast-at Inv-loop μ-loop
-cast-at c = search needs
 
 loop-holds : tie.Need-loop-holds Inv-loop μ-loop
 loop-holds c = (omega arith, filled-none _, omega (arith, zero-mul (c .before .args .m)))
@@ -35,22 +32,10 @@ shared-slice-read-rows c =
     let a = c .before .before .before .before .args in
     omega (arith, word-in (c .before .before .loop .j) (a .r) (a .m) (a .p .0) (omega arith) (omega arith))
 
-mul-rows-2 : tie.Need-mul-rows-2 Inv-loop μ-loop
-mul-rows-2 c = omega arith
-
-slice-write-rows : tie.Need-slice-write-rows Inv-loop μ-loop
-slice-write-rows c = omega arith
-
 add-at : tie.Need-add-at Inv-loop μ-loop
 add-at c =
     let a = c .before .before .before .before .args in
     omega (arith, word-in (c .before .before .loop .j) (a .r) (a .m) (a .p .0) (omega arith) (omega arith), at-most (a .m) mostPropositions (a .r) mostSessions (omega arith) (omega arith))
-
-add-j : tie.Need-add-j Inv-loop μ-loop
-add-j c = omega arith
-
-loop-less : tie.Need-loop-less Inv-loop μ-loop
-loop-less c = omega arith
 
 loop-again : tie.Need-loop-again Inv-loop μ-loop
 loop-again c =
@@ -61,27 +46,10 @@ loop-again c =
       omega (arith, v .inv .2, next-row (v .j) (a .m)),
     )
 
-same-length : tie.Need-same-length Inv-loop μ-loop
-same-length c = c .before .loop .inv .1 .long
-
 returns : tie.Need-returns Inv-loop μ-loop
 returns c = filled-all (c .before .loop .inv .0) (c .loop-test .left) (c .before .loop .inv .1)
 
 pub proposition-rows-spec : {M : Type 1} → statement M
-proposition-rows-spec =
-    tie.close
-    (tie.spec
-    Inv-loop
-    μ-loop
-    cast-at
-    loop-holds
-    mul-rows
-    shared-slice-read-rows
-    mul-rows-2
-    slice-write-rows
-    add-at
-    add-j
-    loop-less
-    loop-again
-    same-length
-    returns)
+proposition-rows-spec = tie.close (tie.spec
+    Inv-loop μ-loop (λ c. search needs) loop-holds mul-rows shared-slice-read-rows (λ c. omega arith) (λ c. omega arith) add-at (λ c. omega arith)
+    (λ c. omega arith) loop-again (λ c. c .before .loop .inv .1 .long) returns)

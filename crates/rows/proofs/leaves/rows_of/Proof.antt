@@ -12,35 +12,45 @@ use Rattle.rows.proofs.leaves.rows_of.Tie as tie
 returns : tie.Need-returns
 returns c = (λ q. omega (arith, proposition-reads (c .before .before .before .before .before .pre .2) (c .before .before .before .before .before .pre .3) (c .before .if1 .taken) q .0), refl)
 
-cast-if3 : tie.Need-cast-if3
-cast-if3 c = search needs
-
 returns-2 : tie.Need-returns-2
-returns-2 c = (λ q. omega (arith, proposition-reads (c .before .before .before .before .before .before .before .pre .2) (c .before .before .before .before .before .before .before .pre .3) (c .before .before .before .if1 .taken) q .1), refl)
+returns-2 c = (
+  λ q. omega (
+    arith,
+    proposition-reads (c .before .before .before .before .before .before .before .pre .2)
+        (c .before .before .before .before .before .before .before .pre .3) (c .before .before .before .if1 .taken) q .1,
+  ),
+  refl,
+)
 
 mul-if4 : tie.Need-mul-if4
 mul-if4 c = let a = c .before .before .before .before .before .before .before .args in omega (arith, at-most (a .m) mostPropositions (a .r) mostSessions (omega arith) (omega arith))
 
 returns-3 : tie.Need-returns-3
-returns-3 c = (λ q. omega (arith, proposition-reads (c .before .before .before .before .before .before .before .before .pre .2) (c .before .before .before .before .before .before .before .before .pre .3) (c .before .before .before .before .if1 .taken) q .2), refl)
-
-from-left-requires : tie.Need-from-left-requires
-from-left-requires c κs = search needs
+returns-3 c = (
+  λ q. omega (
+    arith,
+    proposition-reads (c .before .before .before .before .before .before .before .before .pre .2)
+        (c .before .before .before .before .before .before .before .before .pre .3) (c .before .before .before .before .if1 .taken) q .2,
+  ),
+  refl,
+)
 
 proposition-rows-requires : tie.Need-proposition-rows-requires
-proposition-rows-requires c κs = (c .before .before .before .before .before .if2 .left, omega (arith, c .before .from-left .ensures), c .before .before .if4 .left, c .before .before .before .before .before .before .before .before .before .before .pre .1)
-
-same-length : tie.Need-same-length
-same-length c = c .before .before .proposition-rows .ensures .long
+proposition-rows-requires c κs = (
+  c .before .before .before .before .before .if2 .left,
+  omega (arith, c .before .from-left .ensures),
+  c .before .before .if4 .left,
+  c .before .before .before .before .before .before .before .before .before .before .pre .1,
+)
 
 returns-4 : tie.Need-returns-4
-returns-4 c = proposition-told (c .before .before .before .before .before .before .before .before .before .if1 .taken) (c .before .before .before .before .before .before .before .before .if2 .left) (c .before .before .before .before .before .before .if3 .left) (c .before .before .before .before .before .if4 .left) (c .before .before .before .before .from-left .ensures) (c .before .before .proposition-rows .ensures)
+returns-4 c = proposition-told (c .before .before .before .before .before .before .before .before .before .if1 .taken)
+    (c .before .before .before .before .before .before .before .before .if2 .left) (c .before .before .before .before .before .before .if3 .left)
+    (c .before .before .before .before .before .if4 .left) (c .before .before .before .before .from-left .ensures)
+    (c .before .before .proposition-rows .ensures)
 
 false-rows-requires : tie.Need-false-rows-requires
 false-rows-requires c κs = c .before .before .before .before .before .before .pre .1
-
-same-length-2 : tie.Need-same-length-2
-same-length-2 c = c .before .before .false-rows .ensures .long
 
 returns-5 : tie.Need-returns-5
 returns-5 c = false-told (c .before .before .before .before .if5 .taken) (c .before .before .false-rows .ensures)
@@ -48,32 +58,18 @@ returns-5 c = false-told (c .before .before .before .before .if5 .taken) (c .bef
 true-rows-requires : tie.Need-true-rows-requires
 true-rows-requires c κs = (c .before .before .before .before .before .before .before .pre .0, c .before .before .before .before .before .before .before .pre .1)
 
-same-length-3 : tie.Need-same-length-3
-same-length-3 c = c .before .before .true-rows .ensures .long
-
 returns-6 : tie.Need-returns-6
 returns-6 c = true-told (c .before .before .before .before .if6 .taken) (c .before .before .true-rows .ensures)
 
 returns-7 : tie.Need-returns-7
-returns-7 c = (no-leaf (c .before .before .before .before .before .before .pre .2) (c .before .before .before .before .before .before .pre .3) (c .before .before .if1 .left) (c .before .if5 .left) (c .if6 .left), refl)
+returns-7 c = (
+  no-leaf (c .before .before .before .before .before .before .pre .2) (c .before .before .before .before .before .before .pre .3)
+      (c .before .before .if1 .left) (c .before .if5 .left) (c .if6 .left),
+  refl,
+)
 
 pub rows-of-spec : {M : Type 1} → statement M
-rows-of-spec =
-    tie.close
-    (tie.spec
-    returns
-    cast-if3
-    returns-2
-    mul-if4
-    returns-3
-    from-left-requires
-    proposition-rows-requires
-    same-length
-    returns-4
-    false-rows-requires
-    same-length-2
-    returns-5
-    true-rows-requires
-    same-length-3
-    returns-6
-    returns-7)
+rows-of-spec = tie.close (tie.spec
+    returns (λ c. search needs) returns-2 mul-if4 returns-3 (λ c κs. search needs) proposition-rows-requires
+    (λ c. c .before .before .proposition-rows .ensures .long) returns-4 false-rows-requires (λ c. c .before .before .false-rows .ensures .long)
+    returns-5 true-rows-requires (λ c. c .before .before .true-rows .ensures .long) returns-6 returns-7)

@@ -6,8 +6,8 @@ use lib.ListN.{getD}
 use borrow.Author.Needs.{needs}
 use Rattle.words.specs.Masked.{Placed}
 use Rattle.words.specs.Word.{width, At, Means}
-use Rattle.rows.specs.Rows.{Filled}
-use Rattle.rows.proofs.Filling.{filled-none, filled-more, filled-all}
+use Rattle.loops.specs.Loops.{Filled}
+use Rattle.loops.proofs.Filling.{filled-none, filled-more, filled-all}
 use Rattle.rows.proofs.leaves.true_rows.Statement.{statement}
 use Rattle.rows.proofs.leaves.true_rows.Tie as tie
 
@@ -17,53 +17,13 @@ Inv-loop r masks rows₀ j₀ rows j = (j ≤ r) × Filled j rows₀ (λ t w. Me
 abbrev μ-loop : tie.MeasureT-loop
 μ-loop r masks rows₀ j₀ rows j = r - j
 
-loop-holds : tie.Need-loop-holds Inv-loop μ-loop
-loop-holds c = (omega arith, filled-none _)
-
-mul-places : tie.Need-mul-places Inv-loop μ-loop
-mul-places c = omega arith
-
-shared-slice-read-places : tie.Need-shared-slice-read-places Inv-loop μ-loop
-shared-slice-read-places c = omega arith
-
-places-requires : tie.Need-places-requires Inv-loop μ-loop
-places-requires c κs = search needs
-
-mul-rows : tie.Need-mul-rows Inv-loop μ-loop
-mul-rows c = omega arith
-
-slice-write-rows : tie.Need-slice-write-rows Inv-loop μ-loop
-slice-write-rows c = omega arith
-
-add-j : tie.Need-add-j Inv-loop μ-loop
-add-j c = omega arith
-
-loop-less : tie.Need-loop-less Inv-loop μ-loop
-loop-less c = omega arith
-
 loop-again : tie.Need-loop-again Inv-loop μ-loop
 loop-again c = (omega arith, filled-more (omega arith) (c .before .before .before .loop .inv .1) (c .places .ensures))
-
-same-length : tie.Need-same-length Inv-loop μ-loop
-same-length c = c .before .loop .inv .1 .long
 
 returns : tie.Need-returns Inv-loop μ-loop
 returns c = filled-all (c .before .loop .inv .0) (c .loop-test .left) (c .before .loop .inv .1)
 
 pub true-rows-spec : {M : Type 1} → statement M
-true-rows-spec =
-    tie.close
-    (tie.spec
-    Inv-loop
-    μ-loop
-    loop-holds
-    mul-places
-    shared-slice-read-places
-    places-requires
-    mul-rows
-    slice-write-rows
-    add-j
-    loop-less
-    loop-again
-    same-length
-    returns)
+true-rows-spec = tie.close (tie.spec
+    Inv-loop μ-loop (λ c. (omega arith, filled-none _)) (λ c. omega arith) (λ c. omega arith) (λ c κs. search needs) (λ c. omega arith)
+    (λ c. omega arith) (λ c. omega arith) (λ c. omega arith) loop-again (λ c. c .before .loop .inv .1 .long) returns)

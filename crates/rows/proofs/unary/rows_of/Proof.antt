@@ -10,54 +10,27 @@ use Rattle.rows.proofs.Products.{at-most}
 use Rattle.rows.proofs.unary.rows_of.Statement.{statement}
 use Rattle.rows.proofs.unary.rows_of.Tie as tie
 
-cast-from : tie.Need-cast-from
-cast-from c = search needs
-
 mul-from : tie.Need-mul-from
 mul-from c = let a = c .before .before .before .before .args in omega (arith, at-most (a .left .0) 65535 (a .r) mostSessions (omega arith) (omega arith))
 
 add-if1 : tie.Need-add-if1
 add-if1 c = let a = c .before .before .before .before .args in omega (arith, at-most (a .left .0) 65535 (a .r) mostSessions (omega arith) (omega arith))
 
-returns : tie.Need-returns
-returns c = (λ h. omega arith, refl)
-
-mul-by-code : tie.Need-mul-by-code
-mul-by-code c = search needs
-
-sub-by-code : tie.Need-sub-by-code
-sub-by-code c = omega arith
-
-part-by-code-start : tie.Need-part-by-code-start
-part-by-code-start c = omega arith
-
-part-by-code-end : tie.Need-part-by-code-end
-part-by-code-end c = search needs
-
-by-code-requires : tie.Need-by-code-requires
-by-code-requires c κs =
-    let a = c .before .before .before .before .before .before .before .args in
-    let p = c .before .before .before .before .before .before .before .pre in
-    (p .0, record { sessions-in = p .0 .sessions-in; there = part-long (a .matrices .now) (a .left .0 * a .r) (a .r) (omega arith) }, p .1, p .2)
-
-same-length : tie.Need-same-length
-same-length c = c .before .before .by-code .ensures .long
-
 returns-2 : tie.Need-returns-2
-returns-2 c = (c .before .before .before .before .before .if1 .left, c .before .before .by-code .ensures)
+returns-2 c =
+    let a = c .before .before .before .before .before .before .before .before .before .before .args in
+    let p = c .before .before .before .before .before .before .before .before .before .before .pre in
+    let l = c .before .before .before .before .before .if1 .left in (
+      l,
+      c .before .before .by-code .ensures .did record {
+        masks-there = p .0 .there;
+        x-there = part-long (a .matrices .now) (a .left .0 * a .r) (a .r) l;
+        rows-there = p .1 .there;
+        operator = p .2;
+      },
+    )
 
 pub rows-of-spec : {M : Type 1} → statement M
-rows-of-spec =
-    tie.close
-    (tie.spec
-    cast-from
-    mul-from
-    add-if1
-    returns
-    mul-by-code
-    sub-by-code
-    part-by-code-start
-    part-by-code-end
-    by-code-requires
-    same-length
-    returns-2)
+rows-of-spec = tie.close (tie.spec
+    (λ c. search needs) mul-from add-if1 (λ c. (λ h. omega arith, refl)) (λ c. search needs) (λ c. omega arith) (λ c. omega arith) (λ c. search needs)
+    (λ c κs. search needs) (λ c. search needs) returns-2)

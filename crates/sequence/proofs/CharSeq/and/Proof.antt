@@ -5,11 +5,5 @@ use borrow.Author.Needs.{needs}
 use Rattle.sequence.proofs.CharSeq.and.Statement.{statement}
 use Rattle.sequence.proofs.CharSeq.and.Tie as tie
 
-and-requires : tie.Need-and-requires
-and-requires c κs = search needs
-
-returns : tie.Need-returns
-returns c = (refl, c .and .ensures)
-
 pub and-spec : {M : Type 1} → statement M
-and-spec = tie.close (tie.spec and-requires returns)
+and-spec = tie.close (tie.spec (λ c κs. search needs) (λ c. (refl, c .and .ensures)))

@@ -9,27 +9,6 @@ use Rattle.sequence.proofs.Groups.{not-binary}
 use Rattle.sequence.proofs.CharSeq.binary.Statement.{statement}
 use Rattle.sequence.proofs.CharSeq.binary.Tie as tie
 
-or-requires : tie.Need-or-requires
-or-requires c κs = search needs
-
-and-requires : tie.Need-and-requires
-and-requires c κs = search needs
-
-until-requires : tie.Need-until-requires
-until-requires c κs = search needs
-
-release-requires : tie.Need-release-requires
-release-requires c κs = search needs
-
-implies-requires : tie.Need-implies-requires
-implies-requires c κs = search needs
-
-equiv-requires : tie.Need-equiv-requires
-equiv-requires c κs = search needs
-
-nowhere-requires : tie.Need-nowhere-requires
-nowhere-requires c κs = search needs
-
 returns : tie.Need-returns
 returns c = operator or (sym (c .before .match .keys1)) (c .or .ensures)
 
@@ -52,20 +31,6 @@ returns-7 : tie.Need-returns-7
 returns-7 c = nothing (not-binary _ (λ h. omega arith)) (c .nowhere .ensures)
 
 pub binary-spec : {M : Type 1} → statement M
-binary-spec =
-    tie.close
-    (tie.spec
-    or-requires
-    and-requires
-    until-requires
-    release-requires
-    implies-requires
-    equiv-requires
-    nowhere-requires
-    returns
-    returns-2
-    returns-3
-    returns-4
-    returns-5
-    returns-6
-    returns-7)
+binary-spec = tie.close (tie.spec
+    (λ c κs. search needs) (λ c κs. search needs) (λ c κs. search needs) (λ c κs. search needs) (λ c κs. search needs) (λ c κs. search needs)
+    (λ c κs. search needs) returns returns-2 returns-3 returns-4 returns-5 returns-6 returns-7)

@@ -6,14 +6,8 @@ use Rattle.sequence.proofs.Masked.{binary-on}
 use Rattle.sequence.proofs.CharSeq.equiv.Statement.{statement}
 use Rattle.sequence.proofs.CharSeq.equiv.Tie as tie
 
-mask-requires : tie.Need-mask-requires
-mask-requires c κs = search needs
-
-equiv-requires : tie.Need-equiv-requires
-equiv-requires c κs = search needs
-
 returns : tie.Need-returns
 returns c = binary-on equiv (c .before .before .args .self) (c .before .before .args .right) (c .before .mask .ensures) (c .equiv .ensures)
 
 pub equiv-spec : {M : Type 1} → statement M
-equiv-spec = tie.close (tie.spec mask-requires equiv-requires returns)
+equiv-spec = tie.close (tie.spec (λ c κs. search needs) (λ c κs. search needs) returns)

@@ -6,14 +6,8 @@ use Rattle.sequence.proofs.Masked.{unary-on}
 use Rattle.sequence.proofs.CharSeq.finally.Statement.{statement}
 use Rattle.sequence.proofs.CharSeq.finally.Tie as tie
 
-mask-requires : tie.Need-mask-requires
-mask-requires c κs = search needs
-
-finally-requires : tie.Need-finally-requires
-finally-requires c κs = search needs
-
 returns : tie.Need-returns
 returns c = unary-on finally (c .before .before .args .self) (c .before .mask .ensures) (c .finally .ensures)
 
 pub finally-spec : {M : Type 1} → statement M
-finally-spec = tie.close (tie.spec mask-requires finally-requires returns)
+finally-spec = tie.close (tie.spec (λ c κs. search needs) (λ c κs. search needs) returns)

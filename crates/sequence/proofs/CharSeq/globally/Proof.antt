@@ -6,14 +6,8 @@ use Rattle.sequence.proofs.Masked.{unary-on}
 use Rattle.sequence.proofs.CharSeq.globally.Statement.{statement}
 use Rattle.sequence.proofs.CharSeq.globally.Tie as tie
 
-mask-requires : tie.Need-mask-requires
-mask-requires c κs = search needs
-
-globally-requires : tie.Need-globally-requires
-globally-requires c κs = search needs
-
 returns : tie.Need-returns
 returns c = unary-on globally (c .before .before .args .self) (c .before .mask .ensures) (c .globally .ensures)
 
 pub globally-spec : {M : Type 1} → statement M
-globally-spec = tie.close (tie.spec mask-requires globally-requires returns)
+globally-spec = tie.close (tie.spec (λ c κs. search needs) (λ c κs. search needs) returns)

@@ -6,14 +6,8 @@ use Rattle.sequence.proofs.Masked.{binary-on}
 use Rattle.sequence.proofs.CharSeq.implies.Statement.{statement}
 use Rattle.sequence.proofs.CharSeq.implies.Tie as tie
 
-mask-requires : tie.Need-mask-requires
-mask-requires c κs = search needs
-
-implies-requires : tie.Need-implies-requires
-implies-requires c κs = search needs
-
 returns : tie.Need-returns
 returns c = binary-on implies (c .before .before .args .self) (c .before .before .args .right) (c .before .mask .ensures) (c .implies .ensures)
 
 pub implies-spec : {M : Type 1} → statement M
-implies-spec = tie.close (tie.spec mask-requires implies-requires returns)
+implies-spec = tie.close (tie.spec (λ c κs. search needs) (λ c κs. search needs) returns)

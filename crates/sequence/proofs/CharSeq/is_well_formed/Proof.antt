@@ -7,12 +7,6 @@ use Rattle.words.specs.Word.{Wf}
 use Rattle.sequence.proofs.CharSeq.is_well_formed.Statement.{statement}
 use Rattle.sequence.proofs.CharSeq.is_well_formed.Tie as tie
 
-places-requires : tie.Need-places-requires
-places-requires c κs = search needs
-
-is-clear-requires : tie.Need-is-clear-requires
-is-clear-requires c κs = search needs
-
 returns : tie.Need-returns
 returns c =
     let s = c .before .before .args .self in
@@ -21,4 +15,4 @@ returns c =
     (λ t. subst (λ (n : ℕ). Wf n (s .values)) e (f .0 t), λ w. f .1 (subst (λ (n : ℕ). Wf n (s .values)) (sym e) w))
 
 pub is-well-formed-spec : {M : Type 1} → statement M
-is-well-formed-spec = tie.close (tie.spec places-requires is-clear-requires returns)
+is-well-formed-spec = tie.close (tie.spec (λ c κs. search needs) (λ c κs. search needs) returns)

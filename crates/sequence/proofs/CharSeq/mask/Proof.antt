@@ -9,9 +9,6 @@ use Rattle.sequence.proofs.Masked.{one-shl, ones-mask}
 use Rattle.sequence.proofs.CharSeq.mask.Statement.{statement}
 use Rattle.sequence.proofs.CharSeq.mask.Tie as tie
 
-shl-result : tie.Need-shl-result
-shl-result c = search needs
-
 sub-result : tie.Need-sub-result
 sub-result c = let n = c .before .args .length in omega (arith, one-shl n (omega arith), pow-pos n)
 
@@ -24,4 +21,4 @@ returns-2 : tie.Need-returns-2
 returns-2 c = let n = c .before .args .length in ones-mask width n (omega arith) (omega arith) (λ i w h. w)
 
 pub mask-spec : {M : Type 1} → statement M
-mask-spec = tie.close (tie.spec shl-result sub-result returns returns-2)
+mask-spec = tie.close (tie.spec (λ c. search needs) sub-result returns returns-2)

@@ -6,14 +6,8 @@ use Rattle.rules.specs.Refusals.{Decided}
 use Rattle.sequence.proofs.CharSeq.new.Statement.{statement}
 use Rattle.sequence.proofs.CharSeq.new.Tie as tie
 
-refusal-requires : tie.Need-refusal-requires
-refusal-requires c κs = search needs
-
-returns : tie.Need-returns
-returns c = search needs
-
 returns-2 : tie.Need-returns-2
 returns-2 c = (subst (Decided _) (c .if1 .left) (c .before .refusal .ensures), (refl, refl))
 
 pub new-spec : {M : Type 1} → statement M
-new-spec = tie.close (tie.spec refusal-requires returns returns-2)
+new-spec = tie.close (tie.spec (λ c κs. search needs) (λ c. search needs) returns-2)

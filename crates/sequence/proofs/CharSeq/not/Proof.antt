@@ -6,14 +6,8 @@ use Rattle.sequence.proofs.Masked.{unary-on}
 use Rattle.sequence.proofs.CharSeq.not.Statement.{statement}
 use Rattle.sequence.proofs.CharSeq.not.Tie as tie
 
-mask-requires : tie.Need-mask-requires
-mask-requires c κs = search needs
-
-not-requires : tie.Need-not-requires
-not-requires c κs = search needs
-
 returns : tie.Need-returns
 returns c = unary-on not (c .before .before .args .self) (c .before .mask .ensures) (c .not .ensures)
 
 pub not-spec : {M : Type 1} → statement M
-not-spec = tie.close (tie.spec mask-requires not-requires returns)
+not-spec = tie.close (tie.spec (λ c κs. search needs) (λ c κs. search needs) returns)

@@ -4,8 +4,5 @@ use mathlib.Core.Path.{refl}
 use Rattle.sequence.proofs.CharSeq.nowhere.Statement.{statement}
 use Rattle.sequence.proofs.CharSeq.nowhere.Tie as tie
 
-returns : tie.Need-returns
-returns c = refl
-
 pub nowhere-spec : {M : Type 1} → statement M
-nowhere-spec = tie.close (tie.spec returns)
+nowhere-spec = tie.close (tie.spec (λ c. refl))

@@ -5,11 +5,5 @@ use borrow.Author.Needs.{needs}
 use Rattle.sequence.proofs.CharSeq.or.Statement.{statement}
 use Rattle.sequence.proofs.CharSeq.or.Tie as tie
 
-or-requires : tie.Need-or-requires
-or-requires c κs = search needs
-
-returns : tie.Need-returns
-returns c = (refl, c .or .ensures)
-
 pub or-spec : {M : Type 1} → statement M
-or-spec = tie.close (tie.spec or-requires returns)
+or-spec = tie.close (tie.spec (λ c κs. search needs) (λ c. (refl, c .or .ensures)))

@@ -16,17 +16,20 @@ returns : tie.Need-returns
 unfolding Decided
 returns c = (inl (omega arith, refl), lit< tt)
 
-is-clear-requires : tie.Need-is-clear-requires
-is-clear-requires c κs = search needs
-
 returns-2 : tie.Need-returns-2
 returns-2 c = (recorded-passes (c .before .is-clear .ensures .0 (c .if2 .taken)), (refl, refl))
 
 returns-3 : tie.Need-returns-3
 unfolding Decided
 returns-3 c =
-    let s = c .before .before .before .args in
-    (inr (λ h. omega arith, ⊎-elim (λ t. inl (t, refl)) (λ w. absurd (true≢false (sym (c .before .is-clear .ensures .1 w) ∙ c .if2 .left))) (wf-or-above {n = s .length} {x = s .values} (omega arith) (omega arith))), lit< tt)
+    let s = c .before .before .before .args in (
+      inr (
+        λ h. omega arith,
+        ⊎-elim (λ t. inl (t, refl)) (λ w. absurd (true≢false (sym (c .before .is-clear .ensures .1 w) ∙ c .if2 .left)))
+            (wf-or-above {n = s .length} {x = s .values} (omega arith) (omega arith)),
+      ),
+      lit< tt,
+    )
 
 pub recorded-spec : {M : Type 1} → statement M
-recorded-spec = tie.close (tie.spec returns is-clear-requires returns-2 returns-3)
+recorded-spec = tie.close (tie.spec returns (λ c κs. search needs) returns-2 returns-3)

@@ -15,9 +15,6 @@ returns : tie.Need-returns
 unfolding Decided
 returns c = inl (omega arith, refl)
 
-is-well-formed-requires : tie.Need-is-well-formed-requires
-is-well-formed-requires c κs = search needs
-
 returns-2 : tie.Need-returns-2
 unfolding Decided
 returns-2 c =
@@ -28,7 +25,11 @@ returns-3 : tie.Need-returns-3
 unfolding Decided
 returns-3 c =
     let s = c .before .before .before .before .args .self in
-    inr (λ h. omega arith, ⊎-elim (λ t. inl (t, refl)) (λ w. absurd (true≢false (sym (c .before .is-well-formed .ensures .1 w) ∙ c .if2 .left))) (wf-or-above {n = places (s .length)} {x = s .values} (omega arith) (omega arith)))
+    inr (
+      λ h. omega arith,
+      ⊎-elim (λ t. inl (t, refl)) (λ w. absurd (true≢false (sym (c .before .is-well-formed .ensures .1 w) ∙ c .if2 .left)))
+          (wf-or-above {n = places (s .length)} {x = s .values} (omega arith) (omega arith)),
+    )
 
 pub refusal-spec : {M : Type 1} → statement M
-refusal-spec = tie.close (tie.spec returns is-well-formed-requires returns-2 returns-3)
+refusal-spec = tie.close (tie.spec returns (λ c κs. search needs) returns-2 returns-3)

@@ -6,14 +6,8 @@ use Rattle.sequence.proofs.Masked.{binary-on}
 use Rattle.sequence.proofs.CharSeq.release.Statement.{statement}
 use Rattle.sequence.proofs.CharSeq.release.Tie as tie
 
-mask-requires : tie.Need-mask-requires
-mask-requires c κs = search needs
-
-release-requires : tie.Need-release-requires
-release-requires c κs = search needs
-
 returns : tie.Need-returns
 returns c = binary-on release (c .before .before .args .self) (c .before .before .args .right) (c .before .mask .ensures) (c .release .ensures)
 
 pub release-spec : {M : Type 1} → statement M
-release-spec = tie.close (tie.spec mask-requires release-requires returns)
+release-spec = tie.close (tie.spec (λ c κs. search needs) (λ c κs. search needs) returns)

@@ -9,24 +9,6 @@ use Rattle.sequence.proofs.Groups.{not-unary}
 use Rattle.sequence.proofs.CharSeq.unary.Statement.{statement}
 use Rattle.sequence.proofs.CharSeq.unary.Tie as tie
 
-not-requires : tie.Need-not-requires
-not-requires c κs = search needs
-
-weak-next-requires : tie.Need-weak-next-requires
-weak-next-requires c κs = search needs
-
-strong-next-requires : tie.Need-strong-next-requires
-strong-next-requires c κs = search needs
-
-finally-requires : tie.Need-finally-requires
-finally-requires c κs = search needs
-
-globally-requires : tie.Need-globally-requires
-globally-requires c κs = search needs
-
-nowhere-requires : tie.Need-nowhere-requires
-nowhere-requires c κs = search needs
-
 returns : tie.Need-returns
 returns c = operator not (sym (c .before .match .keys1)) (c .not .ensures)
 
@@ -46,18 +28,6 @@ returns-6 : tie.Need-returns-6
 returns-6 c = nothing (not-unary _ (omega arith)) (c .nowhere .ensures)
 
 pub unary-spec : {M : Type 1} → statement M
-unary-spec =
-    tie.close
-    (tie.spec
-    not-requires
-    weak-next-requires
-    strong-next-requires
-    finally-requires
-    globally-requires
-    nowhere-requires
-    returns
-    returns-2
-    returns-3
-    returns-4
-    returns-5
-    returns-6)
+unary-spec = tie.close (tie.spec
+    (λ c κs. search needs) (λ c κs. search needs) (λ c κs. search needs) (λ c κs. search needs) (λ c κs. search needs) (λ c κs. search needs) returns
+    returns-2 returns-3 returns-4 returns-5 returns-6)

@@ -6,14 +6,8 @@ use Rattle.sequence.proofs.Masked.{binary-on}
 use Rattle.sequence.proofs.CharSeq.until.Statement.{statement}
 use Rattle.sequence.proofs.CharSeq.until.Tie as tie
 
-mask-requires : tie.Need-mask-requires
-mask-requires c κs = search needs
-
-until-requires : tie.Need-until-requires
-until-requires c κs = search needs
-
 returns : tie.Need-returns
 returns c = binary-on until (c .before .before .args .self) (c .before .before .args .right) (c .before .mask .ensures) (c .until .ensures)
 
 pub until-spec : {M : Type 1} → statement M
-until-spec = tie.close (tie.spec mask-requires until-requires returns)
+until-spec = tie.close (tie.spec (λ c κs. search needs) (λ c κs. search needs) returns)

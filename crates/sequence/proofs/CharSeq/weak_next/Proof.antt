@@ -6,14 +6,8 @@ use Rattle.sequence.proofs.Masked.{unary-on}
 use Rattle.sequence.proofs.CharSeq.weak_next.Statement.{statement}
 use Rattle.sequence.proofs.CharSeq.weak_next.Tie as tie
 
-mask-requires : tie.Need-mask-requires
-mask-requires c κs = search needs
-
-weak-next-requires : tie.Need-weak-next-requires
-weak-next-requires c κs = search needs
-
 returns : tie.Need-returns
 returns c = unary-on weakNext (c .before .before .args .self) (c .before .mask .ensures) (c .weak-next .ensures)
 
 pub weak-next-spec : {M : Type 1} → statement M
-weak-next-spec = tie.close (tie.spec mask-requires weak-next-requires returns)
+weak-next-spec = tie.close (tie.spec (λ c κs. search needs) (λ c κs. search needs) returns)

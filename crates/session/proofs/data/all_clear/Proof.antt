@@ -50,9 +50,6 @@ add-i c =
     let at-start = in-loop .before .before .before .before in
     omega (arith, in-loop .loop-test .taken, at-start .pre .0, at-start .good)
 
-loop-less : tie.Need-loop-less Inv-loop μ-loop
-loop-less c = search needs
-
 loop-again : tie.Need-loop-again Inv-loop μ-loop
 loop-again c =
     let at-session-clear = c .before in
@@ -61,8 +58,12 @@ loop-again c =
     let at-start = at-loop .before .before .before in
     let a = at-start .args in
     let i = at-loop .loop .i in
-    let here = subst (λ (x : ℕ). Clear (a .words .now) x (a .m) (getD (a .lengths .now) i 0) true) (at-loop .loop .inv .1) (subst (Clear (a .words .now) (at-loop .loop .at) (a .m) (getD (a .lengths .now) i 0)) (c .if1 .taken) (at-session-clear .session-clear .ensures)) in
-    (omega (arith, in-loop .loop-test .taken), omega (arith, at-loop .loop .inv .1, ap (λ (x : ℕ). x * a .m) (add-one i), suc-mul i (a .m)), below-more (λ k. Clear (a .words .now) (k * a .m) (a .m) (getD (a .lengths .now) k 0) true) i (at-loop .loop .inv .2) here)
+    let here = subst (λ (x : ℕ). Clear (a .words .now) x (a .m) (getD (a .lengths .now) i 0) true) (at-loop .loop .inv .1) (subst
+    (Clear (a .words .now) (at-loop .loop .at) (a .m) (getD (a .lengths .now) i 0)) (c .if1 .taken) (at-session-clear .session-clear .ensures)) in (
+      omega (arith, in-loop .loop-test .taken),
+      omega (arith, at-loop .loop .inv .1, ap (λ (x : ℕ). x * a .m) (add-one i), suc-mul i (a .m)),
+      below-more (λ k. Clear (a .words .now) (k * a .m) (a .m) (getD (a .lengths .now) k 0) true) i (at-loop .loop .inv .2) here,
+    )
 
 returns : tie.Need-returns Inv-loop μ-loop
 returns c =
@@ -71,25 +72,14 @@ returns c =
     let at-loop = in-loop .before in
     let at-start = at-loop .before .before .before in
     let a = at-start .args in
-    let i = at-loop .loop .i in
-    (i, in-loop .loop-test .taken, subst (λ (x : ℕ). Clear (a .words .now) x (a .m) (getD (a .lengths .now) i 0) false) (at-loop .loop .inv .1) (subst (Clear (a .words .now) (at-loop .loop .at) (a .m) (getD (a .lengths .now) i 0)) (c .if1 .left) (at-session-clear .session-clear .ensures)))
-
-returns-2 : tie.Need-returns-2 Inv-loop μ-loop
-returns-2 c = λ k h. c .before .loop .inv .2 k (omega arith)
+    let i = at-loop .loop .i in (
+      i,
+      in-loop .loop-test .taken,
+      subst (λ (x : ℕ). Clear (a .words .now) x (a .m) (getD (a .lengths .now) i 0) false) (at-loop .loop .inv .1) (subst
+          (Clear (a .words .now) (at-loop .loop .at) (a .m) (getD (a .lengths .now) i 0)) (c .if1 .left) (at-session-clear .session-clear .ensures)),
+    )
 
 pub all-clear-spec : {M : Type 1} → statement M
-all-clear-spec =
-    tie.close
-    (tie.spec
-    Inv-loop
-    μ-loop
-    loop-holds
-    shared-slice-read-session-clear
-    cast-session-clear
-    session-clear-requires
-    add-at
-    add-i
-    loop-less
-    loop-again
-    returns
-    returns-2)
+all-clear-spec = tie.close (tie.spec
+    Inv-loop μ-loop loop-holds shared-slice-read-session-clear cast-session-clear session-clear-requires add-at add-i (λ c. search needs) loop-again
+    returns (λ c. λ k h. c .before .loop .inv .2 k (omega arith)))

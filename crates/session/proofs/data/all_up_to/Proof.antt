@@ -14,37 +14,13 @@ Inv-loop list n most i₀ i = (i ≤ n) × ((k : ℕ) → k < i → getD list k 
 abbrev μ-loop : tie.MeasureT-loop
 μ-loop list n most i₀ i = n - i
 
-loop-holds : tie.Need-loop-holds Inv-loop μ-loop
-loop-holds c = (omega arith, λ k h. absurd (omega arith))
-
-shared-slice-read-if1 : tie.Need-shared-slice-read-if1 Inv-loop μ-loop
-shared-slice-read-if1 c = search needs
-
 returns : tie.Need-returns Inv-loop μ-loop
 returns c = (c .before .before .before .loop .i, c .before .before .loop-test .taken, c .if1 .taken)
-
-add-i : tie.Need-add-i Inv-loop μ-loop
-add-i c = search needs
-
-loop-less : tie.Need-loop-less Inv-loop μ-loop
-loop-less c = search needs
 
 loop-again : tie.Need-loop-again Inv-loop μ-loop
 loop-again c = (omega arith, below-more _ _ (c .before .before .before .loop .inv .1) (c .if1 .left))
 
-returns-2 : tie.Need-returns-2 Inv-loop μ-loop
-returns-2 c = λ i h. c .before .loop .inv .1 i (omega arith)
-
 pub all-up-to-spec : {M : Type 1} → statement M
-all-up-to-spec =
-    tie.close
-    (tie.spec
-    Inv-loop
-    μ-loop
-    loop-holds
-    shared-slice-read-if1
-    returns
-    add-i
-    loop-less
-    loop-again
-    returns-2)
+all-up-to-spec = tie.close (tie.spec
+    Inv-loop μ-loop (λ c. (omega arith, λ k h. absurd (omega arith))) (λ c. search needs) returns (λ c. search needs) (λ c. search needs) loop-again
+    (λ c. λ i h. c .before .loop .inv .1 i (omega arith)))

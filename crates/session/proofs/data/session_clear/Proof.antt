@@ -18,9 +18,6 @@ Inv-loop words from m n p₀ p = (p ≤ m) × ((k : ℕ) → k < p → Wf n (get
 abbrev μ-loop : tie.MeasureT-loop
 μ-loop words from m n p₀ p = m - p
 
-loop-holds : tie.Need-loop-holds Inv-loop μ-loop
-loop-holds c = (omega arith, λ k h. absurd (omega arith))
-
 add-word : tie.Need-add-word Inv-loop μ-loop
 add-word c = omega (arith, c .before .before .before .pre .1, c .before .before .before .good)
 
@@ -29,15 +26,6 @@ mul-word c = omega (arith, c .before .before .before .pre .1, c .before .before 
 
 shared-slice-read-word : tie.Need-shared-slice-read-word Inv-loop μ-loop
 shared-slice-read-word c = omega (arith, c .before .before .before .before .pre .1)
-
-recorded-requires : tie.Need-recorded-requires Inv-loop μ-loop
-recorded-requires c κs = search needs
-
-enum-told : tie.Need-enum-told Inv-loop μ-loop
-enum-told c = search needs
-
-enum-told-2 : tie.Need-enum-told-2 Inv-loop μ-loop
-enum-told-2 c = search needs
 
 returns : tie.Need-returns Inv-loop μ-loop
 returns c =
@@ -51,12 +39,6 @@ returns c =
     ⊎-elim (λ t. (p, in-loop .loop-test .taken, t .0, t .1, t .2)) (λ w. absurd (recorded-refused (at-recorded .recorded .ensures) (c .enum-told2 .given .1) w))
     (wf-or-above {n = a .n} {x = getD (a .words .now) (a .from + p) 0} (at-start .pre .0) (omega (arith, at-known .shared-slice-known2 .given (a .from + p))))
 
-add-p : tie.Need-add-p Inv-loop μ-loop
-add-p c = search needs
-
-loop-less : tie.Need-loop-less Inv-loop μ-loop
-loop-less c = search needs
-
 loop-again : tie.Need-loop-again Inv-loop μ-loop
 loop-again c =
     let at-recorded = c .before .before in
@@ -64,24 +46,8 @@ loop-again c =
     let a = at-loop .before .before .args in
     (omega arith, below-more (λ k. Wf (a .n) (getD (a .words .now) (a .from + k) 0)) _ (at-loop .loop .inv .1) (recorded-passed (at-recorded .recorded .ensures) (c .enum-told .given .1)))
 
-returns-2 : tie.Need-returns-2 Inv-loop μ-loop
-returns-2 c = λ k h. c .before .loop .inv .1 k (omega arith)
-
 pub session-clear-spec : {M : Type 1} → statement M
-session-clear-spec =
-    tie.close
-    (tie.spec
-    Inv-loop
-    μ-loop
-    loop-holds
-    add-word
-    mul-word
-    shared-slice-read-word
-    recorded-requires
-    enum-told
-    enum-told-2
-    returns
-    add-p
-    loop-less
-    loop-again
-    returns-2)
+session-clear-spec = tie.close (tie.spec
+    Inv-loop μ-loop (λ c. (omega arith, λ k h. absurd (omega arith))) add-word mul-word shared-slice-read-word (λ c κs. search needs)
+    (λ c. search needs) (λ c. search needs) returns (λ c. search needs) (λ c. search needs) loop-again
+    (λ c. λ k h. c .before .loop .inv .1 k (omega arith)))

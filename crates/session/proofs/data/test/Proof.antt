@@ -17,16 +17,34 @@ numbers : (c : tie.Else4) → outsideNumbers (c .before .before .before .before 
 numbers c = inside _ _ (c .before .before .before .if1 .left) (c .before .before .if2 .left) (c .before .if3 .left) (c .if4 .left)
 
 -- past the next three, the slices are long enough
-rooms : (c : tie.Else7) → tooShort (c .before .before .before .before .before .before .before .before .before .before .args .r) (c .before .before .before .before .before .before .before .before .before .before .args .m) (c .before .before .before .before .before .before .before .before .before .before .args .marks .now) (c .before .before .before .before .before .before .before .before .before .before .args .lengths .now) (c .before .before .before .before .before .before .before .before .before .before .args .words .now) .given → ⊥
-rooms c = let a = c .before .before .before .before .before .before .before .before .before .before .args in roomy (a .r) (a .m) (a .marks .now) (a .lengths .now) (a .words .now) (c .before .before .if5 .left) (c .before .if6 .left) (c .if7 .left)
+rooms : (c : tie.Else7) → tooShort (c .before .before .before .before .before .before .before .before .before .before .args .r)
+    (c .before .before .before .before .before .before .before .before .before .before .args .m)
+    (c .before .before .before .before .before .before .before .before .before .before .args .marks .now)
+    (c .before .before .before .before .before .before .before .before .before .before .args .lengths .now)
+    (c .before .before .before .before .before .before .before .before .before .before .args .words .now) .given → ⊥
+rooms c = let a = c .before .before .before .before .before .before .before .before .before .before .args in roomy (a .r) (a .m) (a .marks .now)
+    (a .lengths .now) (a .words .now) (c .before .before .if5 .left) (c .before .if6 .left) (c .if7 .left)
 
 -- past the test of lengths, none is above 64
-short : (c : tie.Then8) → AllUpTo (c .before .before .before .before .before .before .before .before .before .before .before .before .args .lengths .now) (c .before .before .before .before .before .before .before .before .before .before .before .before .args .r) 64 true
-short c = subst (AllUpTo (c .before .before .before .before .before .before .before .before .before .before .before .before .args .lengths .now) (c .before .before .before .before .before .before .before .before .before .before .before .before .args .r) 64) (c .if8 .taken) (c .before .all-up-to .ensures)
+short : (c : tie.Then8) → AllUpTo
+    (c .before .before .before .before .before .before .before .before .before .before .before .before .args .lengths .now)
+    (c .before .before .before .before .before .before .before .before .before .before .before .before .args .r) 64 true
+short c = subst (AllUpTo (c .before .before .before .before .before .before .before .before .before .before .before .before .args .lengths .now)
+    (c .before .before .before .before .before .before .before .before .before .before .before .before .args .r) 64) (c .if8 .taken)
+    (c .before .all-up-to .ensures)
 
 -- past the test of words, all are well formed
-clear : (c : tie.Then9) → AllClear (c .before .before .before .before .before .before .before .before .before .before .before .before .before .before .args .lengths .now) (c .before .before .before .before .before .before .before .before .before .before .before .before .before .before .args .words .now) (c .before .before .before .before .before .before .before .before .before .before .before .before .before .before .args .r) (c .before .before .before .before .before .before .before .before .before .before .before .before .before .before .args .m) true
-clear c = subst (AllClear (c .before .before .before .before .before .before .before .before .before .before .before .before .before .before .args .lengths .now) (c .before .before .before .before .before .before .before .before .before .before .before .before .before .before .args .words .now) (c .before .before .before .before .before .before .before .before .before .before .before .before .before .before .args .r) (c .before .before .before .before .before .before .before .before .before .before .before .before .before .before .args .m)) (c .if9 .taken) (c .before .all-clear .ensures)
+clear : (c : tie.Then9) → AllClear
+    (c .before .before .before .before .before .before .before .before .before .before .before .before .before .before .args .lengths .now)
+    (c .before .before .before .before .before .before .before .before .before .before .before .before .before .before .args .words .now)
+    (c .before .before .before .before .before .before .before .before .before .before .before .before .before .before .args .r)
+    (c .before .before .before .before .before .before .before .before .before .before .before .before .before .before .args .m) true
+clear c = subst (AllClear
+    (c .before .before .before .before .before .before .before .before .before .before .before .before .before .before .args .lengths .now)
+    (c .before .before .before .before .before .before .before .before .before .before .before .before .before .before .args .words .now)
+    (c .before .before .before .before .before .before .before .before .before .before .before .before .before .before .args .r)
+    (c .before .before .before .before .before .before .before .before .before .before .before .before .before .before .args .m)) (c .if9 .taken)
+    (c .before .all-clear .ensures)
 
 returns : tie.Need-returns
 returns c = let a = c .before .before .before .before .args in is-1 (a .r) (a .m) (a .marks .now) (a .lengths .now) (a .words .now) (inl (inl (c .if1 .taken)))
@@ -64,14 +82,8 @@ returns-7 c =
     let a = at-start .args in
     is-3 (a .r) (a .m) (a .marks .now) (a .lengths .now) (a .words .now) (numbers past-numbers) (inr (inr (c .if7 .taken)))
 
-all-up-to-requires : tie.Need-all-up-to-requires
-all-up-to-requires c κs = search needs
-
 all-clear-requires : tie.Need-all-clear-requires
 all-clear-requires c κs = (c .before .before .before .if6 .left, c .before .before .if7 .left, short c)
-
-all-up-to-requires-2 : tie.Need-all-up-to-requires-2
-all-up-to-requires-2 c κs = search needs
 
 returns-8 : tie.Need-returns-8
 returns-8 c =
@@ -82,7 +94,8 @@ returns-8 c =
     let past-numbers = past-rooms .before .before .before in
     let at-start = past-numbers .before .before .before .before .before .before .before in
     let a = at-start .args in
-    is-0 (a .r) (a .m) (a .marks .now) (a .lengths .now) (a .words .now) (numbers past-numbers) (rooms past-rooms) (short past-lengths) (clear past-words) (subst (AllUpTo (a .marks .now) (a .r) 1) (c .if10 .taken) (at-all-up-to2 .all-up-to2 .ensures))
+    is-0 (a .r) (a .m) (a .marks .now) (a .lengths .now) (a .words .now) (numbers past-numbers) (rooms past-rooms) (short past-lengths)
+    (clear past-words) (subst (AllUpTo (a .marks .now) (a .r) 1) (c .if10 .taken) (at-all-up-to2 .all-up-to2 .ensures))
 
 returns-9 : tie.Need-returns-9
 returns-9 c =
@@ -93,7 +106,8 @@ returns-9 c =
     let past-numbers = past-rooms .before .before .before in
     let at-start = past-numbers .before .before .before .before .before .before .before in
     let a = at-start .args in
-    is-6 (a .r) (a .m) (a .marks .now) (a .lengths .now) (a .words .now) (numbers past-numbers) (rooms past-rooms) (short past-lengths) (clear past-words) (subst (AllUpTo (a .marks .now) (a .r) 1) (c .if10 .left) (at-all-up-to2 .all-up-to2 .ensures))
+    is-6 (a .r) (a .m) (a .marks .now) (a .lengths .now) (a .words .now) (numbers past-numbers) (rooms past-rooms) (short past-lengths)
+    (clear past-words) (subst (AllUpTo (a .marks .now) (a .r) 1) (c .if10 .left) (at-all-up-to2 .all-up-to2 .ensures))
 
 returns-10 : tie.Need-returns-10
 returns-10 c =
@@ -103,7 +117,8 @@ returns-10 c =
     let past-numbers = past-rooms .before .before .before in
     let at-start = past-numbers .before .before .before .before .before .before .before in
     let a = at-start .args in
-    is-5 (a .r) (a .m) (a .marks .now) (a .lengths .now) (a .words .now) (numbers past-numbers) (rooms past-rooms) (short past-lengths) (subst (AllClear (a .lengths .now) (a .words .now) (a .r) (a .m)) (c .if9 .left) (at-all-clear .all-clear .ensures))
+    is-5 (a .r) (a .m) (a .marks .now) (a .lengths .now) (a .words .now) (numbers past-numbers) (rooms past-rooms) (short past-lengths)
+    (subst (AllClear (a .lengths .now) (a .words .now) (a .r) (a .m)) (c .if9 .left) (at-all-clear .all-clear .ensures))
 
 returns-11 : tie.Need-returns-11
 returns-11 c =
@@ -112,24 +127,10 @@ returns-11 c =
     let past-numbers = past-rooms .before .before .before in
     let at-start = past-numbers .before .before .before .before .before .before .before in
     let a = at-start .args in
-    is-4 (a .r) (a .m) (a .marks .now) (a .lengths .now) (a .words .now) (numbers past-numbers) (rooms past-rooms) (subst (AllUpTo (a .lengths .now) (a .r) 64) (c .if8 .left) (at-all-up-to .all-up-to .ensures))
+    is-4 (a .r) (a .m) (a .marks .now) (a .lengths .now) (a .words .now) (numbers past-numbers) (rooms past-rooms)
+    (subst (AllUpTo (a .lengths .now) (a .r) 64) (c .if8 .left) (at-all-up-to .all-up-to .ensures))
 
 pub test-spec : {M : Type 1} → statement M
-test-spec =
-    tie.close
-    (tie.spec
-    returns
-    returns-2
-    returns-3
-    returns-4
-    returns-5
-    returns-6
-    mul-if7
-    returns-7
-    all-up-to-requires
-    all-clear-requires
-    all-up-to-requires-2
-    returns-8
-    returns-9
-    returns-10
-    returns-11)
+test-spec = tie.close (tie.spec
+    returns returns-2 returns-3 returns-4 returns-5 returns-6 mul-if7 returns-7 (λ c κs. search needs) all-clear-requires (λ c κs. search needs)
+    returns-8 returns-9 returns-10 returns-11)

@@ -14,32 +14,8 @@ Inv-loop r place x rows j₀ j = (j ≤ r) × ((t : ℕ) → t < j → getD rows
 abbrev μ-loop : tie.MeasureT-loop
 μ-loop r place x rows j₀ j = r - j
 
-loop-holds : tie.Need-loop-holds Inv-loop μ-loop
-loop-holds c = (omega arith, λ t h. absurd (omega arith))
-
-mul-if1 : tie.Need-mul-if1 Inv-loop μ-loop
-mul-if1 c = omega arith
-
-shared-slice-read-if1 : tie.Need-shared-slice-read-if1 Inv-loop μ-loop
-shared-slice-read-if1 c = omega arith
-
-mul-if1-2 : tie.Need-mul-if1-2 Inv-loop μ-loop
-mul-if1-2 c = omega arith
-
-shared-slice-read-if1-2 : tie.Need-shared-slice-read-if1-2 Inv-loop μ-loop
-shared-slice-read-if1-2 c = omega arith
-
-cast-session : tie.Need-cast-session Inv-loop μ-loop
-cast-session c = omega arith
-
 returns : tie.Need-returns Inv-loop μ-loop
 returns c = (omega arith, c .before .before .before .before .loop .inv .1, c .if1 .taken)
-
-add-j : tie.Need-add-j Inv-loop μ-loop
-add-j c = omega arith
-
-loop-less : tie.Need-loop-less Inv-loop μ-loop
-loop-less c = omega arith
 
 loop-again : tie.Need-loop-again Inv-loop μ-loop
 loop-again c = (omega arith, below-more _ _ (c .before .before .before .before .loop .inv .1) (c .if1 .left))
@@ -48,19 +24,6 @@ returns-2 : tie.Need-returns-2 Inv-loop μ-loop
 returns-2 c = (refl, λ t h. c .before .loop .inv .1 t (omega arith))
 
 pub compare-at-spec : {M : Type 1} → statement M
-compare-at-spec =
-    tie.close
-    (tie.spec
-    Inv-loop
-    μ-loop
-    loop-holds
-    mul-if1
-    shared-slice-read-if1
-    mul-if1-2
-    shared-slice-read-if1-2
-    cast-session
-    returns
-    add-j
-    loop-less
-    loop-again
-    returns-2)
+compare-at-spec = tie.close (tie.spec
+    Inv-loop μ-loop (λ c. (omega arith, λ t h. absurd (omega arith))) (λ c. omega arith) (λ c. omega arith) (λ c. omega arith) (λ c. omega arith)
+    (λ c. omega arith) returns (λ c. omega arith) (λ c. omega arith) loop-again returns-2)

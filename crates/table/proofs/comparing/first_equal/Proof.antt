@@ -23,9 +23,6 @@ abbrev μ-loop : tie.MeasureT-loop
 loop-holds : tie.Need-loop-holds Inv-loop μ-loop
 loop-holds c = (omega arith, omega (arith, zero-mul (c .before .before .args .r)), λ q h e. absurd (omega arith))
 
-cast-t10 : tie.Need-cast-t10 Inv-loop μ-loop
-cast-t10 c = omega arith
-
 mul-compare-at : tie.Need-mul-compare-at Inv-loop μ-loop
 mul-compare-at c =
     let a = c .before .before .before .before .args in
@@ -37,9 +34,6 @@ sub-compare-at c = let a = c .before .before .before .before .args in omega (ari
 part-compare-at-start : tie.Need-part-compare-at-start Inv-loop μ-loop
 part-compare-at-start c = let a = c .before .before .before .before .args in omega (arith, place-end (c .before .loop .p) (a .kept) (a .r) (c .loop-test .taken))
 
-part-compare-at-end : tie.Need-part-compare-at-end Inv-loop μ-loop
-part-compare-at-end c = search needs
-
 compare-at-requires : tie.Need-compare-at-requires Inv-loop μ-loop
 compare-at-requires c κs =
     let a = c .before .before .before .before .before .args in
@@ -50,9 +44,6 @@ compare-at-requires c κs =
       },
       search needs,
     )
-
-enum-known-compared : tie.Need-enum-known-compared Inv-loop μ-loop
-enum-known-compared c = search needs
 
 returns : tie.Need-returns Inv-loop μ-loop
 returns c =
@@ -71,12 +62,6 @@ add-from c =
     let a = c .before .before .before .before .before .before .before .args in
     omega (arith, at-most (c .before .before .before .before .loop .p) mostRoom (a .r) mostSessions (omega arith) (omega arith))
 
-add-p : tie.Need-add-p Inv-loop μ-loop
-add-p c = omega arith
-
-loop-less : tie.Need-loop-less Inv-loop μ-loop
-loop-less c = omega arith
-
 loop-again : tie.Need-loop-again Inv-loop μ-loop
 loop-again c =
     let c₇ = c .before .before .before .before .before .before .before in
@@ -90,26 +75,7 @@ loop-again c =
           (rw (v .inv .1) at (c .before .compare-at .ensures))),
     )
 
-returns-2 : tie.Need-returns-2 Inv-loop μ-loop
-returns-2 c = λ a q h. c .before .loop .inv .2 q (omega arith)
-
 pub first-equal-spec : {M : Type 1} → statement M
-first-equal-spec =
-    tie.close
-    (tie.spec
-    Inv-loop
-    μ-loop
-    loop-holds
-    cast-t10
-    mul-compare-at
-    sub-compare-at
-    part-compare-at-start
-    part-compare-at-end
-    compare-at-requires
-    enum-known-compared
-    returns
-    add-from
-    add-p
-    loop-less
-    loop-again
-    returns-2)
+first-equal-spec = tie.close (tie.spec
+    Inv-loop μ-loop loop-holds (λ c. omega arith) mul-compare-at sub-compare-at part-compare-at-start (λ c. search needs) compare-at-requires
+    (λ c. search needs) returns add-from (λ c. omega arith) (λ c. omega arith) loop-again (λ c. λ a q h. c .before .loop .inv .2 q (omega arith)))

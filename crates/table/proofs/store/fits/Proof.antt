@@ -7,35 +7,11 @@ use Rattle.rows.proofs.Products.{at-most}
 use Rattle.table.proofs.store.fits.Statement.{statement}
 use Rattle.table.proofs.store.fits.Tie as tie
 
-returns : tie.Need-returns
-returns c = λ f. omega arith
-
-returns-2 : tie.Need-returns-2
-returns-2 c = λ f. omega arith
-
-cast-at : tie.Need-cast-at
-cast-at c = search needs
-
-returns-3 : tie.Need-returns-3
-returns-3 c = λ f. omega arith
-
-returns-4 : tie.Need-returns-4
-returns-4 c = λ f. omega arith
-
-returns-5 : tie.Need-returns-5
-returns-5 c = λ f. omega arith
-
-returns-6 : tie.Need-returns-6
-returns-6 c = λ f. omega arith
-
 mul-if7 : tie.Need-mul-if7
 mul-if7 c = let a = c .before .before .before .before .before .before .before .args in omega (arith, at-most (a .place .0) 65535 (a .r) mostSessions (omega arith) (omega arith))
 
 add-if7 : tie.Need-add-if7
 add-if7 c = let a = c .before .before .before .before .before .before .before .args in omega (arith, at-most (a .place .0) 65535 (a .r) mostSessions (omega arith) (omega arith))
-
-returns-7 : tie.Need-returns-7
-returns-7 c = λ f. omega arith
 
 returns-8 : tie.Need-returns-8
 returns-8 c =
@@ -50,17 +26,6 @@ returns-8 c =
     }
 
 pub fits-spec : {M : Type 1} → statement M
-fits-spec =
-    tie.close
-    (tie.spec
-    returns
-    returns-2
-    cast-at
-    returns-3
-    returns-4
-    returns-5
-    returns-6
-    mul-if7
-    add-if7
-    returns-7
-    returns-8)
+fits-spec = tie.close (tie.spec
+    (λ c. λ f. omega arith) (λ c. λ f. omega arith) (λ c. search needs) (λ c. λ f. omega arith) (λ c. λ f. omega arith) (λ c. λ f. omega arith)
+    (λ c. λ f. omega arith) mul-if7 add-if7 (λ c. λ f. omega arith) returns-8)

@@ -18,27 +18,6 @@ abbrev μ-loop : tie.MeasureT-loop
 loop-holds : tie.Need-loop-holds Inv-loop μ-loop
 loop-holds c = (omega arith, refl, paste-zero (c .args .matrices .now) (c .args .from) (c .args .rows .now))
 
-mul-matrices : tie.Need-mul-matrices Inv-loop μ-loop
-mul-matrices c = omega arith
-
-shared-slice-read-matrices : tie.Need-shared-slice-read-matrices Inv-loop μ-loop
-shared-slice-read-matrices c = omega arith
-
-add-matrices : tie.Need-add-matrices Inv-loop μ-loop
-add-matrices c = omega arith
-
-mul-matrices-2 : tie.Need-mul-matrices-2 Inv-loop μ-loop
-mul-matrices-2 c = omega arith
-
-slice-write-matrices : tie.Need-slice-write-matrices Inv-loop μ-loop
-slice-write-matrices c = omega arith
-
-add-j : tie.Need-add-j Inv-loop μ-loop
-add-j c = omega arith
-
-loop-less : tie.Need-loop-less Inv-loop μ-loop
-loop-less c = omega arith
-
 loop-again : tie.Need-loop-again Inv-loop μ-loop
 loop-again c =
     let v = c .before .before .loop in
@@ -48,26 +27,10 @@ loop-again c =
       rw (add-one, v .inv .2) (paste-suc (a .matrices .now) (a .from) (a .rows .now) (v .j) 0 (omega arith) (omega arith)),
     )
 
-same-length : tie.Need-same-length Inv-loop μ-loop
-same-length c = c .before .loop .inv .1
-
 returns : tie.Need-returns Inv-loop μ-loop
 returns c = let e : c .before .loop .j ≡ c .before .before .args .r = omega arith in rw e at (c .before .loop .inv .2)
 
 pub put-spec : {M : Type 1} → statement M
-put-spec =
-    tie.close
-    (tie.spec
-    Inv-loop
-    μ-loop
-    loop-holds
-    mul-matrices
-    shared-slice-read-matrices
-    add-matrices
-    mul-matrices-2
-    slice-write-matrices
-    add-j
-    loop-less
-    loop-again
-    same-length
-    returns)
+put-spec = tie.close (tie.spec
+    Inv-loop μ-loop loop-holds (λ c. omega arith) (λ c. omega arith) (λ c. omega arith) (λ c. omega arith) (λ c. omega arith) (λ c. omega arith)
+    (λ c. omega arith) loop-again (λ c. c .before .loop .inv .1) returns)

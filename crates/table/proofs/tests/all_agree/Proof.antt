@@ -18,27 +18,6 @@ Inv-loop r marks rows j₀ j = (j ≤ r) × (every (count 0 r) (agreesAt marks r
 abbrev μ-loop : tie.MeasureT-loop
 μ-loop r marks rows j₀ j = r - j
 
-loop-holds : tie.Need-loop-holds Inv-loop μ-loop
-loop-holds c = (omega arith, every-start _ _)
-
-mul-agrees-at : tie.Need-mul-agrees-at Inv-loop μ-loop
-mul-agrees-at c = omega arith
-
-shared-slice-read-agrees-at : tie.Need-shared-slice-read-agrees-at Inv-loop μ-loop
-shared-slice-read-agrees-at c = omega arith
-
-shared-slice-read-agrees-at-2 : tie.Need-shared-slice-read-agrees-at-2 Inv-loop μ-loop
-shared-slice-read-agrees-at-2 c = omega arith
-
-agrees-at-requires : tie.Need-agrees-at-requires Inv-loop μ-loop
-agrees-at-requires c κs = search needs
-
-add-j : tie.Need-add-j Inv-loop μ-loop
-add-j c = omega arith
-
-loop-less : tie.Need-loop-less Inv-loop μ-loop
-loop-less c = omega arith
-
 loop-again : tie.Need-loop-again Inv-loop μ-loop
 loop-again c =
     let a = c .before .before .before .before .before .before .before .before .args in
@@ -59,18 +38,6 @@ returns-2 : tie.Need-returns-2 Inv-loop μ-loop
 returns-2 c = sym (c .before .loop .inv .1 ∙ every-end _ _ _ (c .loop-test .left))
 
 pub all-agree-spec : {M : Type 1} → statement M
-all-agree-spec =
-    tie.close
-    (tie.spec
-    Inv-loop
-    μ-loop
-    loop-holds
-    mul-agrees-at
-    shared-slice-read-agrees-at
-    shared-slice-read-agrees-at-2
-    agrees-at-requires
-    add-j
-    loop-less
-    loop-again
-    returns
-    returns-2)
+all-agree-spec = tie.close (tie.spec
+    Inv-loop μ-loop (λ c. (omega arith, every-start _ _)) (λ c. omega arith) (λ c. omega arith) (λ c. omega arith) (λ c κs. search needs)
+    (λ c. omega arith) (λ c. omega arith) loop-again returns returns-2)

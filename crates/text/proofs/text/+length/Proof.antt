@@ -4,7 +4,7 @@ use mathlib.Core.Path.{_≡_}
 use mathlib.Core.Logic.{inl, inr}
 use native.Mathlib.Omega.{arith}
 use lib.ListN.{length}
-use Rattle.sequence.proofs.Groups.{in-unary, in-binary, off-unary, off-binary}
+use Rattle.operators.proofs.Groups.{in-unary, in-binary, off-unary, off-binary}
 use Rattle.formula.specs.Kinds.{nodeOf, nodes}
 use Rattle.names.specs.Names.{namesIn}
 use Rattle.formula.proofs.Faults.{left-under, right-under}
@@ -19,7 +19,7 @@ use Rattle.text.proofs.text.length.Kinds as length-kinds
 use Rattle.text.proofs.text.+length.Lts-length as length-lts
 use Rattle.formula.proofs.nodes.node_at.Reads as node-at-reads
 use Rattle.text.proofs.text.leaf_length.Reads as leaf-length-reads
-use Rattle.sequence.proofs.operators.operator_of.Reads as operator-of-reads
+use Rattle.operators.proofs.operator_of.Reads as operator-of-reads
 use Rattle.text.proofs.text.+length.{statement}
 use Rattle.text.proofs.text.+length.Tie.{close}
 
@@ -79,7 +79,10 @@ length-add-result-2 t c = let s = c .before .before .before .before .before .bef
     let f = c .before .before .before .before .before .operator-of in
     let u = in-unary _ (f .result) (f .ensures) (c .before .before .before .enum-told .given .1) in
     let t = unary-token (f .result) (f .ensures) u in
-    let x = long-bound (a .names .now) (nodes (a .codes .now) (a .lefts .now) (a .rights .now) (a .sizes .now)) (printable-at (a .names .now) (nodes (a .codes .now) (a .lefts .now) (a .rights .now) (a .sizes .now)) (s .pre .1) (a .node .left .0) (left-under (length (namesIn (a .names .now))) (nodes (a .codes .now) (a .lefts .now) (a .rights .now) (a .sizes .now)) (a .below) (nodeOf (a .node)) (s .pre .1 .fits) (inl u)) (c .before .node-at .ensures)) (c .length .ensures) in
+    let x = long-bound (a .names .now) (nodes (a .codes .now) (a .lefts .now) (a .rights .now) (a .sizes .now))
+    (printable-at (a .names .now) (nodes (a .codes .now) (a .lefts .now) (a .rights .now) (a .sizes .now)) (s .pre .1) (a .node .left .0)
+    (left-under (length (namesIn (a .names .now))) (nodes (a .codes .now) (a .lefts .now) (a .rights .now) (a .sizes .now)) (a .below) (nodeOf (a .node)) (s .pre .1 .fits) (inl u))
+    (c .before .node-at .ensures)) (c .length .ensures) in
     omega (arith, t .long, unary-short (u .0))
 
 length-enum-told-2 : (t : ℕ) → length-lts.Need-enum-told-2 (calls t) (length-at t) length.Post
@@ -119,8 +122,14 @@ length-add-result-3 t c = let s = c .before .before .before .before .before .bef
     let f = c .before .before .before .before .before .before .before .before .operator-of in
     let u = in-binary _ (f .result) (f .ensures) (c .before .before .before .before .before .before .enum-told2 .given .1) in
     let t = binary-token (f .result) (f .ensures) u in
-    let x = long-bound (a .names .now) (nodes (a .codes .now) (a .lefts .now) (a .rights .now) (a .sizes .now)) (printable-at (a .names .now) (nodes (a .codes .now) (a .lefts .now) (a .rights .now) (a .sizes .now)) (s .pre .1) (a .node .left .0) (left-under (length (namesIn (a .names .now))) (nodes (a .codes .now) (a .lefts .now) (a .rights .now) (a .sizes .now)) (a .below) (nodeOf (a .node)) (s .pre .1 .fits) (inr u)) (c .before .before .before .before .node-at2 .ensures)) (c .before .before .before .length2 .ensures) in
-    let y = long-bound (a .names .now) (nodes (a .codes .now) (a .lefts .now) (a .rights .now) (a .sizes .now)) (printable-at (a .names .now) (nodes (a .codes .now) (a .lefts .now) (a .rights .now) (a .sizes .now)) (s .pre .1) (a .node .right .0) (right-under (length (namesIn (a .names .now))) (nodes (a .codes .now) (a .lefts .now) (a .rights .now) (a .sizes .now)) (a .below) (nodeOf (a .node)) (s .pre .1 .fits) u) (c .before .node-at3 .ensures)) (c .length3 .ensures) in
+    let x = long-bound (a .names .now) (nodes (a .codes .now) (a .lefts .now) (a .rights .now) (a .sizes .now))
+    (printable-at (a .names .now) (nodes (a .codes .now) (a .lefts .now) (a .rights .now) (a .sizes .now)) (s .pre .1) (a .node .left .0)
+    (left-under (length (namesIn (a .names .now))) (nodes (a .codes .now) (a .lefts .now) (a .rights .now) (a .sizes .now)) (a .below) (nodeOf (a .node)) (s .pre .1 .fits) (inr u))
+    (c .before .before .before .before .node-at2 .ensures)) (c .before .before .before .length2 .ensures) in
+    let y = long-bound (a .names .now) (nodes (a .codes .now) (a .lefts .now) (a .rights .now) (a .sizes .now))
+    (printable-at (a .names .now) (nodes (a .codes .now) (a .lefts .now) (a .rights .now) (a .sizes .now)) (s .pre .1) (a .node .right .0)
+    (right-under (length (namesIn (a .names .now))) (nodes (a .codes .now) (a .lefts .now) (a .rights .now) (a .sizes .now)) (a .below) (nodeOf (a .node)) (s .pre .1 .fits) u)
+    (c .before .node-at3 .ensures)) (c .length3 .ensures) in
     omega (arith, t .long, binary-short (u .0))
 
 length-add-result-4 : (t : ℕ) → length-lts.Need-add-result-4 (calls t) (length-at t) length.Post
@@ -129,8 +138,14 @@ length-add-result-4 t c = let s = c .before .before .before .before .before .bef
     let f = c .before .before .before .before .before .before .before .before .operator-of in
     let u = in-binary _ (f .result) (f .ensures) (c .before .before .before .before .before .before .enum-told2 .given .1) in
     let t = binary-token (f .result) (f .ensures) u in
-    let x = long-bound (a .names .now) (nodes (a .codes .now) (a .lefts .now) (a .rights .now) (a .sizes .now)) (printable-at (a .names .now) (nodes (a .codes .now) (a .lefts .now) (a .rights .now) (a .sizes .now)) (s .pre .1) (a .node .left .0) (left-under (length (namesIn (a .names .now))) (nodes (a .codes .now) (a .lefts .now) (a .rights .now) (a .sizes .now)) (a .below) (nodeOf (a .node)) (s .pre .1 .fits) (inr u)) (c .before .before .before .before .node-at2 .ensures)) (c .before .before .before .length2 .ensures) in
-    let y = long-bound (a .names .now) (nodes (a .codes .now) (a .lefts .now) (a .rights .now) (a .sizes .now)) (printable-at (a .names .now) (nodes (a .codes .now) (a .lefts .now) (a .rights .now) (a .sizes .now)) (s .pre .1) (a .node .right .0) (right-under (length (namesIn (a .names .now))) (nodes (a .codes .now) (a .lefts .now) (a .rights .now) (a .sizes .now)) (a .below) (nodeOf (a .node)) (s .pre .1 .fits) u) (c .before .node-at3 .ensures)) (c .length3 .ensures) in
+    let x = long-bound (a .names .now) (nodes (a .codes .now) (a .lefts .now) (a .rights .now) (a .sizes .now))
+    (printable-at (a .names .now) (nodes (a .codes .now) (a .lefts .now) (a .rights .now) (a .sizes .now)) (s .pre .1) (a .node .left .0)
+    (left-under (length (namesIn (a .names .now))) (nodes (a .codes .now) (a .lefts .now) (a .rights .now) (a .sizes .now)) (a .below) (nodeOf (a .node)) (s .pre .1 .fits) (inr u))
+    (c .before .before .before .before .node-at2 .ensures)) (c .before .before .before .length2 .ensures) in
+    let y = long-bound (a .names .now) (nodes (a .codes .now) (a .lefts .now) (a .rights .now) (a .sizes .now))
+    (printable-at (a .names .now) (nodes (a .codes .now) (a .lefts .now) (a .rights .now) (a .sizes .now)) (s .pre .1) (a .node .right .0)
+    (right-under (length (namesIn (a .names .now))) (nodes (a .codes .now) (a .lefts .now) (a .rights .now) (a .sizes .now)) (a .below) (nodeOf (a .node)) (s .pre .1 .fits) u)
+    (c .before .node-at3 .ensures)) (c .length3 .ensures) in
     omega (arith, t .long, binary-short (u .0))
 
 length-add-result-5 : (t : ℕ) → length-lts.Need-add-result-5 (calls t) (length-at t) length.Post
@@ -139,30 +154,41 @@ length-add-result-5 t c = let s = c .before .before .before .before .before .bef
     let f = c .before .before .before .before .before .before .before .before .operator-of in
     let u = in-binary _ (f .result) (f .ensures) (c .before .before .before .before .before .before .enum-told2 .given .1) in
     let t = binary-token (f .result) (f .ensures) u in
-    let x = long-bound (a .names .now) (nodes (a .codes .now) (a .lefts .now) (a .rights .now) (a .sizes .now)) (printable-at (a .names .now) (nodes (a .codes .now) (a .lefts .now) (a .rights .now) (a .sizes .now)) (s .pre .1) (a .node .left .0) (left-under (length (namesIn (a .names .now))) (nodes (a .codes .now) (a .lefts .now) (a .rights .now) (a .sizes .now)) (a .below) (nodeOf (a .node)) (s .pre .1 .fits) (inr u)) (c .before .before .before .before .node-at2 .ensures)) (c .before .before .before .length2 .ensures) in
-    let y = long-bound (a .names .now) (nodes (a .codes .now) (a .lefts .now) (a .rights .now) (a .sizes .now)) (printable-at (a .names .now) (nodes (a .codes .now) (a .lefts .now) (a .rights .now) (a .sizes .now)) (s .pre .1) (a .node .right .0) (right-under (length (namesIn (a .names .now))) (nodes (a .codes .now) (a .lefts .now) (a .rights .now) (a .sizes .now)) (a .below) (nodeOf (a .node)) (s .pre .1 .fits) u) (c .before .node-at3 .ensures)) (c .length3 .ensures) in
+    let x = long-bound (a .names .now) (nodes (a .codes .now) (a .lefts .now) (a .rights .now) (a .sizes .now))
+    (printable-at (a .names .now) (nodes (a .codes .now) (a .lefts .now) (a .rights .now) (a .sizes .now)) (s .pre .1) (a .node .left .0)
+    (left-under (length (namesIn (a .names .now))) (nodes (a .codes .now) (a .lefts .now) (a .rights .now) (a .sizes .now)) (a .below) (nodeOf (a .node)) (s .pre .1 .fits) (inr u))
+    (c .before .before .before .before .node-at2 .ensures)) (c .before .before .before .length2 .ensures) in
+    let y = long-bound (a .names .now) (nodes (a .codes .now) (a .lefts .now) (a .rights .now) (a .sizes .now))
+    (printable-at (a .names .now) (nodes (a .codes .now) (a .lefts .now) (a .rights .now) (a .sizes .now)) (s .pre .1) (a .node .right .0)
+    (right-under (length (namesIn (a .names .now))) (nodes (a .codes .now) (a .lefts .now) (a .rights .now) (a .sizes .now)) (a .below) (nodeOf (a .node)) (s .pre .1 .fits) u)
+    (c .before .node-at3 .ensures)) (c .length3 .ensures) in
     omega (arith, t .long, binary-short (u .0))
 
 length-enum-told-3 : (t : ℕ) → length-lts.Need-enum-told-3 (calls t) (length-at t) length.Post
 length-enum-told-3 t c = search needs
 
 length-leaf-length-requires : (t : ℕ) → length-lts.Need-leaf-length-requires (calls t) (length-at t) length.Post
-length-leaf-length-requires t c κs = let f = c .before .before .operator-of in
-    (c .before .before .before .before .before .before .before .before .pre .1, λ u. off-unary _ (f .result) (f .ensures) (λ g. let z : _≡_ {A = ℕ} 0 1 = cc (c .enum-told3 .given .1) in omega arith) (u .0) (u .1), λ u. off-binary _ (f .result) (f .ensures) (λ g. let z : _≡_ {A = ℕ} 0 1 = cc (c .enum-told3 .given .1) in omega arith) (u .0) (u .1))
+length-leaf-length-requires t c κs = let f = c .before .before .operator-of in (
+  c .before .before .before .before .before .before .before .before .pre .1,
+  λ u. off-unary _ (f .result) (f .ensures) (λ g. let z : _≡_ {A = ℕ} 0 1 = cc (c .enum-told3 .given .1) in omega arith) (u .0) (u .1),
+  λ u. off-binary _ (f .result) (f .ensures) (λ g. let z : _≡_ {A = ℕ} 0 1 = cc (c .enum-told3 .given .1) in omega arith) (u .0) (u .1),
+)
 
 length-returns : (t : ℕ) → length-lts.Need-returns (calls t) (length-at t) length.Post
 length-returns t c = let s = c .before .before .before .before .before .before .before .before .before .before .before in
     let a = s .args in
     let f = c .before .before .before .before .before .operator-of in
     let u = in-unary _ (f .result) (f .ensures) (c .before .before .before .enum-told .given .1) in
-    long-unary (a .names .now) (nodes (a .codes .now) (a .lefts .now) (a .rights .now) (a .sizes .now)) (nodeOf (a .node)) (s .pre .1) (f .result) (f .ensures) u (c .before .node-at .ensures) (c .length .ensures)
+    long-unary (a .names .now) (nodes (a .codes .now) (a .lefts .now) (a .rights .now) (a .sizes .now)) (nodeOf (a .node)) (s .pre .1) (f .result) (f .ensures) u
+    (c .before .node-at .ensures) (c .length .ensures)
 
 length-returns-2 : (t : ℕ) → length-lts.Need-returns-2 (calls t) (length-at t) length.Post
 length-returns-2 t c = let s = c .before .before .before .before .before .before .before .before .before .before .before .before .before .before in
     let a = s .args in
     let f = c .before .before .before .before .before .before .before .before .operator-of in
     let u = in-binary _ (f .result) (f .ensures) (c .before .before .before .before .before .before .enum-told2 .given .1) in
-    long-binary (a .names .now) (nodes (a .codes .now) (a .lefts .now) (a .rights .now) (a .sizes .now)) (nodeOf (a .node)) (s .pre .1) (f .result) (f .ensures) u (c .before .before .before .before .node-at2 .ensures) (c .before .node-at3 .ensures) (c .before .before .before .length2 .ensures) (c .length3 .ensures)
+    long-binary (a .names .now) (nodes (a .codes .now) (a .lefts .now) (a .rights .now) (a .sizes .now)) (nodeOf (a .node)) (s .pre .1) (f .result) (f .ensures) u
+    (c .before .before .before .before .node-at2 .ensures) (c .before .node-at3 .ensures) (c .before .before .before .length2 .ensures) (c .length3 .ensures)
 
 length-returns-3 : (t : ℕ) → length-lts.Need-returns-3 (calls t) (length-at t) length.Post
 length-returns-3 t c = c .leaf-length .ensures

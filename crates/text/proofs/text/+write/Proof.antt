@@ -4,11 +4,11 @@ use mathlib.Core.Path.{_≡_}
 use mathlib.Core.Logic.{inl, inr}
 use native.Mathlib.Omega.{arith}
 use lib.ListN.{length}
-use Rattle.sequence.proofs.Groups.{in-unary, in-binary, off-unary, off-binary}
+use Rattle.operators.proofs.Groups.{in-unary, in-binary, off-unary, off-binary}
 use Rattle.formula.specs.Kinds.{nodeOf, nodes}
 use Rattle.names.specs.Names.{namesIn}
 use Rattle.formula.proofs.Faults.{left-under, right-under}
-use Rattle.sequence.proofs.Table.{token-fits}
+use Rattle.operators.proofs.Table.{token-fits}
 use Rattle.text.proofs.Printing.{printable-at, unary-written, binary-written}
 use borrow.Author.Needs.{needs}
 use Prim.Native.Nat.{ℕ, _<_}
@@ -22,7 +22,7 @@ use Rattle.writing.proofs.put.Reads as put-reads
 use Rattle.text.proofs.text.put_before.Reads as put-before-reads
 use Rattle.text.proofs.text.put_between.Reads as put-between-reads
 use Rattle.text.proofs.text.put_leaf.Reads as put-leaf-reads
-use Rattle.sequence.proofs.operators.operator_of.Reads as operator-of-reads
+use Rattle.operators.proofs.operator_of.Reads as operator-of-reads
 use Rattle.text.proofs.text.+write.{statement}
 use Rattle.text.proofs.text.+write.Tie.{close}
 
@@ -78,8 +78,11 @@ write-write-requires t c κs = let s = c .before .before .before .before .before
     let a = s .args in
     let f = c .before .before .before .before .before .before .before .before .before .operator-of in
     let u = in-unary _ (f .result) (f .ensures) (c .before .before .before .before .before .before .before .enum-told .given .1) in
-    let h = left-under (length (namesIn (a .names .now))) (nodes (a .codes .now) (a .lefts .now) (a .rights .now) (a .sizes .now)) (a .below) (nodeOf (a .node)) (s .pre .1 .fits) (inl u) in
-    (omega arith, printable-at (a .names .now) (nodes (a .codes .now) (a .lefts .now) (a .rights .now) (a .sizes .now)) (s .pre .1) (a .node .left .0) h (c .before .before .before .before .before .node-at .ensures))
+    let h = left-under (length (namesIn (a .names .now))) (nodes (a .codes .now) (a .lefts .now) (a .rights .now) (a .sizes .now)) (a .below) (nodeOf (a .node)) (s .pre .1 .fits) (inl u) in (
+      omega arith,
+      printable-at (a .names .now) (nodes (a .codes .now) (a .lefts .now) (a .rights .now) (a .sizes .now)) (s .pre .1) (a .node .left .0) h
+          (c .before .before .before .before .before .node-at .ensures),
+    )
 
 write-slice-aggregate-put : (t : ℕ) → write-lts.Need-slice-aggregate-put (calls t) (write-at t) write.Post
 write-slice-aggregate-put t c = search needs
@@ -113,23 +116,34 @@ write-write-requires-2 t c κs = let s = c .before .before .before .before .befo
     let a = s .args in
     let f = c .before .before .before .before .before .before .before .before .before .before .before .before .operator-of in
     let u = in-binary _ (f .result) (f .ensures) (c .before .before .before .before .before .before .before .before .before .before .enum-told2 .given .1) in
-    let h = left-under (length (namesIn (a .names .now))) (nodes (a .codes .now) (a .lefts .now) (a .rights .now) (a .sizes .now)) (a .below) (nodeOf (a .node)) (s .pre .1 .fits) (inr u) in
-    (omega arith, printable-at (a .names .now) (nodes (a .codes .now) (a .lefts .now) (a .rights .now) (a .sizes .now)) (s .pre .1) (a .node .left .0) h (c .before .before .before .before .before .before .before .before .node-at2 .ensures))
+    let h = left-under (length (namesIn (a .names .now))) (nodes (a .codes .now) (a .lefts .now) (a .rights .now) (a .sizes .now)) (a .below) (nodeOf (a .node)) (s .pre .1 .fits) (inr u) in (
+      omega arith,
+      printable-at (a .names .now) (nodes (a .codes .now) (a .lefts .now) (a .rights .now) (a .sizes .now)) (s .pre .1) (a .node .left .0) h
+          (c .before .before .before .before .before .before .before .before .node-at2 .ensures),
+    )
 
 write-put-between-requires : (t : ℕ) → write-lts.Need-put-between-requires (calls t) (write-at t) write.Post
-write-put-between-requires t c κs = let s = c .before .before .before .before .before .before .before .before .before .before .before .before .before .before .before .before .before .before .before .before .before .before .before in
+write-put-between-requires t c κs =
+    let s = c .before .before .before .before .before .before .before .before .before .before .before .before .before .before .before .before .before .before .before .before .before .before .before in
     let a = s .args in
     let f = c .before .before .before .before .before .before .before .before .before .before .before .before .before .before .before .before .operator-of in
     let u = in-binary _ (f .result) (f .ensures) (c .before .before .before .before .before .before .before .before .before .before .before .before .before .before .enum-told2 .given .1) in
     token-fits (f .ensures)
 
 write-write-requires-3 : (t : ℕ) → write-lts.Need-write-requires-3 (calls t) (write-at t) write.Post
-write-write-requires-3 t c κs = let s = c .before .before .before .before .before .before .before .before .before .before .before .before .before .before .before .before .before .before .before .before .before .before .before .before .before .before .before in
+write-write-requires-3 t c κs =
+    let s =
+    c .before .before .before .before .before .before .before .before .before .before .before .before .before .before .before .before .before .before .before .before .before .before
+    .before .before .before .before .before in
     let a = s .args in
     let f = c .before .before .before .before .before .before .before .before .before .before .before .before .before .before .before .before .before .before .before .before .operator-of in
-    let u = in-binary _ (f .result) (f .ensures) (c .before .before .before .before .before .before .before .before .before .before .before .before .before .before .before .before .before .before .enum-told2 .given .1) in
-    let h = right-under (length (namesIn (a .names .now))) (nodes (a .codes .now) (a .lefts .now) (a .rights .now) (a .sizes .now)) (a .below) (nodeOf (a .node)) (s .pre .1 .fits) u in
-    (omega arith, printable-at (a .names .now) (nodes (a .codes .now) (a .lefts .now) (a .rights .now) (a .sizes .now)) (s .pre .1) (a .node .right .0) h (c .before .before .before .before .before .before .before .before .before .before .before .before .before .before .node-at3 .ensures))
+    let u = in-binary _ (f .result) (f .ensures)
+    (c .before .before .before .before .before .before .before .before .before .before .before .before .before .before .before .before .before .before .enum-told2 .given .1) in
+    let h = right-under (length (namesIn (a .names .now))) (nodes (a .codes .now) (a .lefts .now) (a .rights .now) (a .sizes .now)) (a .below) (nodeOf (a .node)) (s .pre .1 .fits) u in (
+      omega arith,
+      printable-at (a .names .now) (nodes (a .codes .now) (a .lefts .now) (a .rights .now) (a .sizes .now)) (s .pre .1) (a .node .right .0) h
+          (c .before .before .before .before .before .before .before .before .before .before .before .before .before .before .node-at3 .ensures),
+    )
 
 write-slice-aggregate-put-3 : (t : ℕ) → write-lts.Need-slice-aggregate-put-3 (calls t) (write-at t) write.Post
 write-slice-aggregate-put-3 t c = search needs
@@ -141,28 +155,52 @@ write-enum-told-3 : (t : ℕ) → write-lts.Need-enum-told-3 (calls t) (write-at
 write-enum-told-3 t c = search needs
 
 write-put-leaf-requires : (t : ℕ) → write-lts.Need-put-leaf-requires (calls t) (write-at t) write.Post
-write-put-leaf-requires t c κs = let f = c .before .before .before .operator-of in
-    (c .before .before .before .before .before .before .before .before .before .before .pre .1, λ u. off-unary _ (f .result) (f .ensures) (λ g. let z : _≡_ {A = ℕ} 0 1 = cc (c .before .enum-told3 .given .1) in omega arith) (u .0) (u .1), λ u. off-binary _ (f .result) (f .ensures) (λ g. let z : _≡_ {A = ℕ} 0 1 = cc (c .before .enum-told3 .given .1) in omega arith) (u .0) (u .1))
+write-put-leaf-requires t c κs = let f = c .before .before .before .operator-of in (
+  c .before .before .before .before .before .before .before .before .before .before .pre .1,
+  λ u. off-unary _ (f .result) (f .ensures) (λ g. let z : _≡_ {A = ℕ} 0 1 = cc (c .before .enum-told3 .given .1) in omega arith) (u .0) (u .1),
+  λ u. off-binary _ (f .result) (f .ensures) (λ g. let z : _≡_ {A = ℕ} 0 1 = cc (c .before .enum-told3 .given .1) in omega arith) (u .0) (u .1),
+)
 
 write-same-length : (t : ℕ) → write-lts.Need-same-length (calls t) (write-at t) write.Post
 write-same-length t c = search needs
 
 write-returns : (t : ℕ) → write-lts.Need-returns (calls t) (write-at t) write.Post
-write-returns t c = let s = c .before .before .before .before .before .before .before .before .before .before .before .before .before .before .before .before .before .before .before .before .before .before .before .before in
+write-returns t c =
+    let s =
+    c .before .before .before .before .before .before .before .before .before .before .before .before .before .before .before .before .before .before .before .before .before .before
+    .before .before in
     let a = s .args in
     let f = c .before .before .before .before .before .before .before .before .before .before .before .before .before .before .before .before .before .operator-of in
     let u = in-unary _ (f .result) (f .ensures) (c .before .before .before .before .before .before .before .before .before .before .before .before .before .before .before .enum-told .given .1) in
-    unary-written (a .names .now) (nodes (a .codes .now) (a .lefts .now) (a .rights .now) (a .sizes .now)) (nodeOf (a .node)) (s .pre .1) (f .result) (f .ensures) u (c .before .before .before .before .before .before .before .before .before .before .before .before .before .node-at .ensures) (c .before .before .before .before .before .before .before .before .before .before .before .put-before .ensures) (c .before .before .before .before .before .before .before .write .ensures) (c .before .before .put .ensures)
+    unary-written (a .names .now) (nodes (a .codes .now) (a .lefts .now) (a .rights .now) (a .sizes .now)) (nodeOf (a .node)) (s .pre .1) (f .result) (f .ensures) u
+    (c .before .before .before .before .before .before .before .before .before .before .before .before .before .node-at .ensures)
+    (c .before .before .before .before .before .before .before .before .before .before .before .put-before .ensures)
+    (c .before .before .before .before .before .before .before .write .ensures) (c .before .before .put .ensures)
 
 write-same-length-2 : (t : ℕ) → write-lts.Need-same-length-2 (calls t) (write-at t) write.Post
 write-same-length-2 t c = search needs
 
 write-returns-2 : (t : ℕ) → write-lts.Need-returns-2 (calls t) (write-at t) write.Post
-write-returns-2 t c = let s = c .before .before .before .before .before .before .before .before .before .before .before .before .before .before .before .before .before .before .before .before .before .before .before .before .before .before .before .before .before .before .before .before .before .before .before in
+write-returns-2 t c =
+    let s =
+    c .before .before .before .before .before .before .before .before .before .before .before .before .before .before .before .before .before .before .before .before .before .before
+    .before .before .before .before .before .before .before .before .before .before .before .before .before in
     let a = s .args in
-    let f = c .before .before .before .before .before .before .before .before .before .before .before .before .before .before .before .before .before .before .before .before .before .before .before .before .before .before .before .before .operator-of in
-    let u = in-binary _ (f .result) (f .ensures) (c .before .before .before .before .before .before .before .before .before .before .before .before .before .before .before .before .before .before .before .before .before .before .before .before .before .before .enum-told2 .given .1) in
-    binary-written (a .names .now) (nodes (a .codes .now) (a .lefts .now) (a .rights .now) (a .sizes .now)) (nodeOf (a .node)) (s .pre .1) (f .result) (f .ensures) u (c .before .before .before .before .before .before .before .before .before .before .before .before .before .before .before .before .before .before .before .before .before .before .before .before .node-at2 .ensures) (c .before .before .before .before .before .before .before .before .before .before .before .before .before .before .before .before .before .before .before .before .before .before .node-at3 .ensures) (c .before .before .before .before .before .before .before .before .before .before .before .before .before .before .before .before .before .before .before .put2 .ensures) (c .before .before .before .before .before .before .before .before .before .before .before .before .before .before .before .write2 .ensures) (c .before .before .before .before .before .before .before .before .before .before .before .put-between .ensures) (c .before .before .before .before .before .before .before .write3 .ensures) (c .before .before .put3 .ensures)
+    let f =
+    c .before .before .before .before .before .before .before .before .before .before .before .before .before .before .before .before .before .before .before .before .before .before
+    .before .before .before .before .before .before .operator-of in
+    let u = in-binary _ (f .result) (f .ensures)
+    (c .before .before .before .before .before .before .before .before .before .before .before .before .before .before .before .before .before .before .before .before .before .before
+    .before .before .before .before .enum-told2 .given .1) in
+    binary-written (a .names .now) (nodes (a .codes .now) (a .lefts .now) (a .rights .now) (a .sizes .now)) (nodeOf (a .node)) (s .pre .1) (f .result) (f .ensures) u
+    (c .before .before .before .before .before .before .before .before .before .before .before .before .before .before .before .before .before .before .before .before .before .before
+    .before .before .node-at2 .ensures)
+    (c .before .before .before .before .before .before .before .before .before .before .before .before .before .before .before .before .before .before .before .before .before .before
+    .node-at3 .ensures)
+    (c .before .before .before .before .before .before .before .before .before .before .before .before .before .before .before .before .before .before .before .put2 .ensures)
+    (c .before .before .before .before .before .before .before .before .before .before .before .before .before .before .before .write2 .ensures)
+    (c .before .before .before .before .before .before .before .before .before .before .before .put-between .ensures)
+    (c .before .before .before .before .before .before .before .write3 .ensures) (c .before .before .put3 .ensures)
 
 write-same-length-3 : (t : ℕ) → write-lts.Need-same-length-3 (calls t) (write-at t) write.Post
 write-same-length-3 t c = search needs

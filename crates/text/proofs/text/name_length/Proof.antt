@@ -7,9 +7,6 @@ use borrow.Author.Needs.{needs}
 use Rattle.text.proofs.text.name_length.Statement.{statement}
 use Rattle.text.proofs.text.name_length.Tie as tie
 
-letters-requires : tie.Need-letters-requires
-letters-requires c κs = search needs
-
 sub-result : tie.Need-sub-result
 sub-result c = let s = c .before .before .before in omega (arith, span-order (s .args .names .now) (s .args .p) (c .before .letters .ensures) .0)
 
@@ -17,4 +14,4 @@ returns : tie.Need-returns
 returns c = let s = c .before .before .before in letters-long (s .args .names .now) (s .pre .0) (s .args .p) (s .pre .1) (c .before .letters .ensures)
 
 pub name-length-spec : {M : Type 1} → statement M
-name-length-spec = tie.close (tie.spec letters-requires sub-result returns)
+name-length-spec = tie.close (tie.spec (λ c κs. search needs) sub-result returns)

@@ -9,35 +9,14 @@ use borrow.Author.Needs.{needs}
 use Rattle.text.proofs.text.put_before.Statement.{statement}
 use Rattle.text.proofs.text.put_before.Tie as tie
 
-array-share-prefix-token : tie.Need-array-share-prefix-token
-array-share-prefix-token c = search needs
-
 slice-aggregate-put : tie.Need-slice-aggregate-put
 slice-aggregate-put c = let s = c .before .before .before .before in sym (length-take-le (s .args .operator .bytes) (s .args .operator .token) (s .pre))
 
-put-requires : tie.Need-put-requires
-put-requires c κs = search needs
-
-slice-aggregate-put-2 : tie.Need-slice-aggregate-put-2
-slice-aggregate-put-2 c = search needs
-
-put-requires-2 : tie.Need-put-requires-2
-put-requires-2 c κs = search needs
-
-same-length : tie.Need-same-length
-same-length c = search needs
-
 returns : tie.Need-returns
-returns c = let o = c .before .before .before .before .before .before .before .before .before .before .before .before .args .operator in wrote-both (take (o .bytes) (o .token)) (32 ∷ 40 ∷ []) (c .before .before .before .before .before .before .before .put .ensures) (c .before .before .put2 .ensures)
+returns c =
+    let o = c .before .before .before .before .before .before .before .before .before .before .before .before .args .operator in
+    wrote-both (take (o .bytes) (o .token)) (32 ∷ 40 ∷ []) (c .before .before .before .before .before .before .before .put .ensures) (c .before .before .put2 .ensures)
 
 pub put-before-spec : {M : Type 1} → statement M
-put-before-spec =
-    tie.close
-    (tie.spec
-    array-share-prefix-token
-    slice-aggregate-put
-    put-requires
-    slice-aggregate-put-2
-    put-requires-2
-    same-length
-    returns)
+put-before-spec = tie.close (tie.spec
+    (λ c. search needs) slice-aggregate-put (λ c κs. search needs) (λ c. search needs) (λ c κs. search needs) (λ c. search needs) returns)

@@ -7,21 +7,14 @@ use borrow.Author.Needs.{needs}
 use Rattle.text.proofs.text.put_between.Statement.{statement}
 use Rattle.text.proofs.text.put_between.Tie as tie
 
-slice-aggregate-put : tie.Need-slice-aggregate-put
-slice-aggregate-put c = search needs
-
-put-requires : tie.Need-put-requires
-put-requires c κs = search needs
-
 put-before-requires : tie.Need-put-before-requires
 put-before-requires c κs = c .before .before .before .before .before .before .before .pre
 
-same-length : tie.Need-same-length
-same-length c = search needs
-
 returns : tie.Need-returns
-returns c = wrote-both (41 ∷ 32 ∷ []) (beforeLast (c .before .before .before .before .before .before .before .before .before .before .args .operator)) (c .before .before .before .before .before .before .put .ensures) (c .before .before .put-before .ensures)
+returns c =
+    wrote-both (41 ∷ 32 ∷ []) (beforeLast (c .before .before .before .before .before .before .before .before .before .before .args .operator))
+    (c .before .before .before .before .before .before .put .ensures) (c .before .before .put-before .ensures)
 
 pub put-between-spec : {M : Type 1} → statement M
 put-between-spec =
-    tie.close (tie.spec slice-aggregate-put put-requires put-before-requires same-length returns)
+    tie.close (tie.spec (λ c. search needs) (λ c κs. search needs) put-before-requires (λ c. search needs) returns)

@@ -15,70 +15,45 @@ use borrow.Author.Needs.{needs}
 use Rattle.text.proofs.text.put_leaf.Statement.{statement}
 use Rattle.text.proofs.text.put_leaf.Tie as tie
 
-from-left-requires : tie.Need-from-left-requires
-from-left-requires c κs = search needs
-
-cast-p : tie.Need-cast-p
-cast-p c = search needs
-
 put-name-requires : tie.Need-put-name-requires
 put-name-requires c κs = let s = c .before .before .before .before .before .before .before .before .before .before .before in
     let a = s .args in
     let few = few-names (a .names .now) (s .pre .0 .good) in
-    let low = proposition-under (length (namesIn (a .names .now))) (nodes (a .codes .now) (a .lefts .now) (a .rights .now) (a .sizes .now)) (a .below) (nodeOf (a .node)) (s .pre .0 .fits) (c .before .before .before .if1 .taken) in
+    let low = proposition-under (length (namesIn (a .names .now))) (nodes (a .codes .now) (a .lefts .now) (a .rights .now) (a .sizes .now)) (a .below) (nodeOf (a .node))
+    (s .pre .0 .fits) (c .before .before .before .if1 .taken) in
     let e : c .before .before .from-left .result .0 ≡ a .node .left .0 = omega arith in
     (s .pre .0 .good, omega arith)
-
-same-length : tie.Need-same-length
-same-length c = search needs
 
 returns : tie.Need-returns
 returns c = let s = c .before .before .before .before .before .before .before .before .before .before .before .before .before .before in
     let a = s .args in
     let few = few-names (a .names .now) (s .pre .0 .good) in
-    let low = proposition-under (length (namesIn (a .names .now))) (nodes (a .codes .now) (a .lefts .now) (a .rights .now) (a .sizes .now)) (a .below) (nodeOf (a .node)) (s .pre .0 .fits) (c .before .before .before .before .before .before .if1 .taken) in
+    let low = proposition-under (length (namesIn (a .names .now))) (nodes (a .codes .now) (a .lefts .now) (a .rights .now) (a .sizes .now)) (a .below) (nodeOf (a .node))
+    (s .pre .0 .fits) (c .before .before .before .before .before .before .if1 .taken) in
     let e : c .before .before .before .before .before .from-left .result .0 ≡ a .node .left .0 = omega arith in
-    let w = subst (λ (p : ℕ). Wrote (a .room .now) (a .at) (getD (namesIn (a .names .now)) p []) (c .before .before .put-name .last .1 .1 .0) (c .before .before .put-name .result)) e (c .before .before .put-name .ensures) in
-    known-written (a .names .now) (nodes (a .codes .now) (a .lefts .now) (a .rights .now) (a .sizes .now)) (nodeOf (a .node)) (proposition-text (a .names .now) (nodes (a .codes .now) (a .lefts .now) (a .rights .now) (a .sizes .now)) (nodeOf (a .node)) (c .before .before .before .before .before .before .if1 .taken)) w
-
-slice-aggregate-put : tie.Need-slice-aggregate-put
-slice-aggregate-put c = search needs
-
-put-requires : tie.Need-put-requires
-put-requires c κs = search needs
-
-same-length-2 : tie.Need-same-length-2
-same-length-2 c = search needs
+    let w = subst (λ (p : ℕ). Wrote (a .room .now) (a .at) (getD (namesIn (a .names .now)) p []) (c .before .before .put-name .last .1 .1 .0)
+    (c .before .before .put-name .result)) e (c .before .before .put-name .ensures) in
+    known-written (a .names .now) (nodes (a .codes .now) (a .lefts .now) (a .rights .now) (a .sizes .now)) (nodeOf (a .node))
+    (proposition-text (a .names .now) (nodes (a .codes .now) (a .lefts .now) (a .rights .now) (a .sizes .now)) (nodeOf (a .node))
+    (c .before .before .before .before .before .before .if1 .taken)) w
 
 returns-2 : tie.Need-returns-2
-returns-2 c = let a = c .before .before .before .before .before .before .before .before .before .before .before .before .before .before .before .args in known-written (a .names .now) (nodes (a .codes .now) (a .lefts .now) (a .rights .now) (a .sizes .now)) (nodeOf (a .node)) (false-text (a .names .now) (nodes (a .codes .now) (a .lefts .now) (a .rights .now) (a .sizes .now)) (nodeOf (a .node)) (c .before .before .before .before .before .if2 .taken)) (c .before .before .put .ensures)
-
-slice-aggregate-put-2 : tie.Need-slice-aggregate-put-2
-slice-aggregate-put-2 c = search needs
-
-put-requires-2 : tie.Need-put-requires-2
-put-requires-2 c κs = search needs
-
-same-length-3 : tie.Need-same-length-3
-same-length-3 c = search needs
+returns-2 c =
+    let a = c .before .before .before .before .before .before .before .before .before .before .before .before .before .before .before .args in
+    known-written (a .names .now) (nodes (a .codes .now) (a .lefts .now) (a .rights .now) (a .sizes .now)) (nodeOf (a .node))
+    (false-text (a .names .now) (nodes (a .codes .now) (a .lefts .now) (a .rights .now) (a .sizes .now)) (nodeOf (a .node)) (c .before .before .before .before .before .if2 .taken))
+    (c .before .before .put .ensures)
 
 returns-3 : tie.Need-returns-3
-returns-3 c = let s = c .before .before .before .before .before .before .before .before .before .before .before .before .before .before .before in let a = s .args in known-written (a .names .now) (nodes (a .codes .now) (a .lefts .now) (a .rights .now) (a .sizes .now)) (nodeOf (a .node)) (true-text (a .names .now) (nodes (a .codes .now) (a .lefts .now) (a .rights .now) (a .sizes .now)) (nodeOf (a .node)) (true-code _ _ (a .below) (nodeOf (a .node)) (s .pre .0 .fits) (s .pre .1) (s .pre .2) (c .before .before .before .before .before .before .before .if1 .left) (c .before .before .before .before .before .if2 .left))) (c .before .before .put2 .ensures)
+returns-3 c =
+    let s = c .before .before .before .before .before .before .before .before .before .before .before .before .before .before .before in
+    let a = s .args in
+    known-written (a .names .now) (nodes (a .codes .now) (a .lefts .now) (a .rights .now) (a .sizes .now)) (nodeOf (a .node))
+    (true-text (a .names .now) (nodes (a .codes .now) (a .lefts .now) (a .rights .now) (a .sizes .now)) (nodeOf (a .node))
+    (true-code _ _ (a .below) (nodeOf (a .node)) (s .pre .0 .fits) (s .pre .1) (s .pre .2) (c .before .before .before .before .before .before .before .if1 .left)
+    (c .before .before .before .before .before .if2 .left))) (c .before .before .put2 .ensures)
 
 pub put-leaf-spec : {M : Type 1} → statement M
-put-leaf-spec =
-    tie.close
-    (tie.spec
-    from-left-requires
-    cast-p
-    put-name-requires
-    same-length
-    returns
-    slice-aggregate-put
-    put-requires
-    same-length-2
-    returns-2
-    slice-aggregate-put-2
-    put-requires-2
-    same-length-3
-    returns-3)
+put-leaf-spec = tie.close (tie.spec
+    (λ c κs. search needs) (λ c. search needs) put-name-requires (λ c. search needs) returns (λ c. search needs) (λ c κs. search needs)
+    (λ c. search needs) returns-2 (λ c. search needs) (λ c κs. search needs) (λ c. search needs) returns-3)

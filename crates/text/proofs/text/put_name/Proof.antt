@@ -11,9 +11,6 @@ use borrow.Author.Needs.{needs}
 use Rattle.text.proofs.text.put_name.Statement.{statement}
 use Rattle.text.proofs.text.put_name.Tie as tie
 
-letters-requires : tie.Need-letters-requires
-letters-requires c κs = search needs
-
 sub-put : tie.Need-sub-put
 sub-put c = let s = c .before .before .before .before in let o = span-order (s .args .names .now) (s .args .p) (c .before .letters .ensures) in omega (arith, o .0, o .1)
 
@@ -23,12 +20,6 @@ part-put-start c = let s = c .before .before .before .before in let o = span-ord
 part-put-end : tie.Need-part-put-end
 part-put-end c = let s = c .before .before .before .before in let o = span-order (s .args .names .now) (s .args .p) (c .before .letters .ensures) in omega (arith, o .0, o .1)
 
-put-requires : tie.Need-put-requires
-put-requires c κs = search needs
-
-same-length : tie.Need-same-length
-same-length c = search needs
-
 returns : tie.Need-returns
 returns c =
     let s = c .before .before .before .before .before .before .before .before in
@@ -37,13 +28,5 @@ returns c =
     (letters-are-name (a .names .now) (s .pre .0) (a .p) (s .pre .1) (c .before .before .before .before .before .letters .ensures)) (c .before .before .put .ensures)
 
 pub put-name-spec : {M : Type 1} → statement M
-put-name-spec =
-    tie.close
-    (tie.spec
-    letters-requires
-    sub-put
-    part-put-start
-    part-put-end
-    put-requires
-    same-length
-    returns)
+put-name-spec = tie.close (tie.spec
+    (λ c κs. search needs) sub-put part-put-start part-put-end (λ c κs. search needs) (λ c. search needs) returns)

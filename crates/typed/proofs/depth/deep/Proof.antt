@@ -17,21 +17,12 @@ abbrev μ-loop : tie.MeasureT-loop
 loop-holds : tie.Need-loop-holds Inv-loop μ-loop
 loop-holds c = let s = c .before in counted-start (s .args .text .now)
 
-shared-slice-read-b : tie.Need-shared-slice-read-b Inv-loop μ-loop
-shared-slice-read-b c = search needs
-
-one-requires : tie.Need-one-requires Inv-loop μ-loop
-one-requires c κs = search needs
-
 add-opened : tie.Need-add-opened Inv-loop μ-loop
 add-opened c =
     let s = c .before .before .before .before .before in
     let l = c .before .before .before .loop in
     let h = c .before .before .loop-test .taken in
     omega (arith, l .inv .opened-most, c .one .ensures .most)
-
-one-requires-2 : tie.Need-one-requires-2 Inv-loop μ-loop
-one-requires-2 c κs = search needs
 
 add-closed : tie.Need-add-closed Inv-loop μ-loop
 add-closed c =
@@ -63,9 +54,6 @@ add-i c =
     let h = c .before .before .before .before .loop-test .taken in
     omega arith
 
-loop-less : tie.Need-loop-less Inv-loop μ-loop
-loop-less c = search needs
-
 loop-again : tie.Need-loop-again Inv-loop μ-loop
 loop-again c =
     let s = c .before .before .before .before .before .before .before in
@@ -73,26 +61,13 @@ loop-again c =
     let h = c .before .before .before .before .loop-test .taken in
     let a = counted-next (s .args .text .now) (l .inv) h 40 (l .inv .opens) (c .before .before .one .ensures .is) in
     let b = counted-next (s .args .text .now) (l .inv) h 41 (l .inv .closes) (c .before .one2 .ensures .is) in
-    counted-on (s .args .text .now) (l .inv) h a b (omega (arith, l .inv .opened-most, c .before .before .one .ensures .most)) (omega (arith, l .inv .closed-most, c .before .one2 .ensures .most)) (omega (arith, c .if1 .left))
+    counted-on (s .args .text .now) (l .inv) h a b (omega (arith, l .inv .opened-most, c .before .before .one .ensures .most))
+    (omega (arith, l .inv .closed-most, c .before .one2 .ensures .most)) (omega (arith, c .if1 .left))
 
 returns-2 : tie.Need-returns-2 Inv-loop μ-loop
 returns-2 c = let s = c .before .before .before in let l = c .before .loop in counted-end (s .args .text .now) (l .inv) (c .loop-test .left)
 
 pub deep-spec : {M : Type 1} → statement M
-deep-spec =
-    tie.close
-    (tie.spec
-    Inv-loop
-    μ-loop
-    loop-holds
-    shared-slice-read-b
-    one-requires
-    add-opened
-    one-requires-2
-    add-closed
-    add-if1
-    returns
-    add-i
-    loop-less
-    loop-again
-    returns-2)
+deep-spec = tie.close (tie.spec
+    Inv-loop μ-loop loop-holds (λ c. search needs) (λ c κs. search needs) add-opened (λ c κs. search needs) add-closed add-if1 returns add-i
+    (λ c. search needs) loop-again returns-2)

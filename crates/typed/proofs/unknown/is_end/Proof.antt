@@ -5,9 +5,6 @@ use borrow.Author.Needs.{needs}
 use Rattle.typed.proofs.unknown.is_end.Statement.{statement}
 use Rattle.typed.proofs.unknown.is_end.Tie as tie
 
-is-name-byte-requires : tie.Need-is-name-byte-requires
-is-name-byte-requires c κs = search needs
-
 returns : tie.Need-returns
 returns c = simp (sym (c .before .is-name-byte .ensures) ∙ c .if1 .taken)
 
@@ -15,4 +12,4 @@ returns-2 : tie.Need-returns-2
 returns-2 c = simp (sym (c .before .is-name-byte .ensures) ∙ c .if1 .left)
 
 pub is-end-spec : {M : Type 1} → statement M
-is-end-spec = tie.close (tie.spec is-name-byte-requires returns returns-2)
+is-end-spec = tie.close (tie.spec (λ c κs. search needs) returns returns-2)

@@ -11,12 +11,6 @@ use borrow.Author.Needs.{needs}
 use Rattle.typed.proofs.unknown.pass.Statement.{statement}
 use Rattle.typed.proofs.unknown.pass.Tie as tie
 
-run-end-requires : tie.Need-run-end-requires
-run-end-requires c κs = search needs
-
-add-t6 : tie.Need-add-t6
-add-t6 c = search needs
-
 returns : tie.Need-returns
 returns c =
     let s = c .before .before .before .before in
@@ -28,36 +22,23 @@ sub-known c = omega (arith, c .before .run-end .ensures .forward)
 part-known-start : tie.Need-part-known-start
 part-known-start c = omega (arith, c .before .run-end .ensures .forward)
 
-part-known-end : tie.Need-part-known-end
-part-known-end c = omega (arith, c .before .run-end .ensures .within)
-
-known-requires : tie.Need-known-requires
-known-requires c κs = search needs
-
 returns-2 : tie.Need-returns-2
 returns-2 c =
     let r = c .before .before .before .before .run-end in
     let a = c .before .before .before .before .before .before .before .args in
     let names = namesBy (a .names .now) in
-    pass-known (a .text .now) names (a .i) (r .result) (r .ensures) (omega (arith, r .ensures .forward, c .before .before .before .if1 .left)) (subst (KnownIs names (take (r .result - a .i) (drop (a .i) (a .text .now)))) (c .if2 .taken) (c .before .known .ensures))
+    pass-known (a .text .now) names (a .i) (r .result) (r .ensures) (omega (arith, r .ensures .forward, c .before .before .before .if1 .left))
+    (subst (KnownIs names (take (r .result - a .i) (drop (a .i) (a .text .now)))) (c .if2 .taken) (c .before .known .ensures))
 
 returns-3 : tie.Need-returns-3
 returns-3 c =
     let r = c .before .before .before .before .run-end in
     let a = c .before .before .before .before .before .before .before .args in
     let names = namesBy (a .names .now) in
-    pass-unknown (a .text .now) names (a .i) (r .result) (r .ensures) (omega (arith, r .ensures .forward, c .before .before .before .if1 .left)) (subst (KnownIs names (take (r .result - a .i) (drop (a .i) (a .text .now)))) (c .if2 .left) (c .before .known .ensures))
+    pass-unknown (a .text .now) names (a .i) (r .result) (r .ensures) (omega (arith, r .ensures .forward, c .before .before .before .if1 .left))
+    (subst (KnownIs names (take (r .result - a .i) (drop (a .i) (a .text .now)))) (c .if2 .left) (c .before .known .ensures))
 
 pub pass-spec : {M : Type 1} → statement M
-pass-spec =
-    tie.close
-    (tie.spec
-    run-end-requires
-    add-t6
-    returns
-    sub-known
-    part-known-start
-    part-known-end
-    known-requires
-    returns-2
-    returns-3)
+pass-spec = tie.close (tie.spec
+    (λ c κs. search needs) (λ c. search needs) returns sub-known part-known-start (λ c. omega (arith, c .before .run-end .ensures .within))
+    (λ c κs. search needs) returns-2 returns-3)

@@ -1,0 +1,32 @@
+-- The counts of a walk, one candidate further.
+-- Assumes nothing.
+use mathlib.Core.Path.{_≡_}
+use mathlib.Core.List.{List}
+use Prim.Native.Nat.{ℕ, _+_, _-_, _^_, _≤_, _<_, min}
+use lib.ListN.{length}
+use Rattle.walk.specs.Walk.{Candidate, Tally, tally, kept, counted}
+use Rattle.walk.specs.Kept.{Table}
+use Rattle.candidate.specs.declared.counts.Counts.{Counts}
+use Rattle.candidate.specs.declared.Verdict.{Verdict}
+use Rattle.candidate.specs.declared.Verdict.the-variants.{Found, Dropped, Full, Kept}
+use Rattle.candidate.specs.Judge.{comes}
+
+-- one more; a count that has reached the largest number of its word stays. No walk comes so far, but a made-up state may hold it
+abbrev pub oneMore : ℕ → ℕ
+oneMore n = min (n + 1) (2 ^ 64 - 1)
+
+-- "Each candidate is counted"; request E6's "the number dropped"
+abbrev pub countedBy : Verdict → Counts → Counts
+countedBy Found n = record { tried = oneMore (n .tried); kept = n .kept; dropped = n .dropped }
+countedBy Dropped n = record { tried = oneMore (n .tried); kept = n .kept; dropped = oneMore (n .dropped) }
+countedBy Full n = record { tried = oneMore (n .tried); kept = n .kept; dropped = n .dropped }
+countedBy Kept n = record { tried = oneMore (n .tried); kept = oneMore (n .kept); dropped = n .dropped }
+
+-- the counts as the walk's
+abbrev pub tallyOf : Counts → Tally
+tallyOf n = tally (n .tried) (n .dropped)
+
+-- they are the walk's: of a walk that has kept k, where no count has reached the largest number. Proved under its name in proofs/Tallies: counts-are-walks
+abbrev pub CountsAreWalks : Type 0
+CountsAreWalks = (v : Verdict) (n : Counts) (x : Candidate (List ℕ)) (k : Table) → n .kept ≡ length k → n .tried + 1 < 2 ^ 64 → n .kept ≤ n .tried → n .dropped ≤ n .tried
+    → (tallyOf (countedBy v n) ≡ counted (comes v x k (tallyOf n))) × (countedBy v n .kept ≡ length (kept (comes v x k (tallyOf n))))

@@ -1,0 +1,2 @@
+-- How long a line can be.
+pub mod Digits

@@ -1,0 +1,3 @@
+-- Laws of nodes that are left in arrays, by subject.
+pub mod Kept
+pub mod Placed

@@ -1,0 +1,61 @@
+-- What a search and the formula reader leave in arrays of their own, and that it can be put over a lent list.
+-- Assumes nothing.
+use mathlib.Core.Path.{_≡_}
+use mathlib.Core.List.{List, _++_}
+use Prim.Native.Nat.{ℕ, _≤_}
+use lib.ListN.{length, take, drop}
+use Rattle.walk.specs.Input.{Input}
+use Rattle.rules.specs.Limits.{mostRoom}
+use Rattle.formula.specs.declared.kinds.Node.{Node}
+use Rattle.search.specs.declared.SearchAnswer.{SearchAnswer}
+use Rattle.search.specs.declared.SearchAnswer.the-variants.{Found, None, Full}
+use Rattle.search.specs.declared.SearchAnswer.the-variants as search
+use Rattle.search.specs.Search.{Searched}
+use Rattle.reader.specs.declared.Parsed.{Parsed}
+use Rattle.reader.specs.declared.Parsed.the-variants.{Nodes, Broken, Stops, Unknown}
+use Rattle.reader.specs.declared.Parsed.the-variants as reader
+use Rattle.reader.specs.Parsing.{saidParsed, Parses}
+use Rattle.nodes_out.specs.declared.Done.{Done}
+use Rattle.nodes_out.specs.declared.Read.{Read}
+use Rattle.nodes_out.specs.Columns.{columns, fields}
+
+-- "table room C 1 to 4,096 formulas"
+abbrev pub room : ℕ
+room = mostRoom
+
+-- the number kept, 0 at a refusal
+abbrev pub keptOf : SearchAnswer → ℕ
+keptOf (Found root n) = n .kept
+keptOf (None n) = n .kept
+keptOf (Full size n) = n .kept
+keptOf (search.Refused k) = 0
+
+-- the kept nodes, over what was there before
+abbrev pub putOver : Done → List Node → List Node
+putOver d ns = take (d .kept) (d .nodes) ++ drop (d .kept) ns
+
+-- for whatever list of n nodes is lent: there is room for the kept ones, and with these put over its first places it is as the search has to leave it
+abbrev pub Works : Input → ℕ → List ℕ → Done → List ℕ → Type 0
+Works i n old d new =
+    (ns : List Node) → length ns ≡ n
+    → ((d .kept ≤ length (d .nodes)) × (d .kept ≤ length ns)) × Searched i (columns ns old) (d .answer) (columns (putOver d ns) new)
+
+-- ---- the formula reader
+
+-- the number of nodes, 0 at a refusal
+abbrev pub countIn : Parsed → ℕ
+countIn (Nodes n) = n
+countIn (Broken o) = 0
+countIn (Stops o) = 0
+countIn (Unknown o) = 0
+countIn (reader.Refused k) = 0
+
+-- the formula's nodes, over what was there before
+abbrev pub placedOver : Read → List Node → List Node
+placedOver d ns = take (d .count) (d .nodes) ++ drop (d .count) ns
+
+-- for whatever list of n nodes is lent: there is room for the formula's, and with these put over its first places it is as the reader has to leave it
+abbrev pub ReadIn : List ℕ → List ℕ → ℕ → Read → Type 0
+ReadIn file text n d =
+    (ns : List Node) → length ns ≡ n
+    → ((d .count ≤ length (d .nodes)) × (d .count ≤ length ns)) × Parses file text (fields ns) (fields (placedOver d ns)) (saidParsed (d .answer))

@@ -1,0 +1,5 @@
+pub mod Groups
+pub mod Table
+pub mod Unique
+pub mod Commuting
+pub mod Settled

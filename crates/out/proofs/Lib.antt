@@ -1,0 +1,1 @@
+-- No laws: the one function is proved by its own needs.

@@ -1,0 +1,22 @@
+-- `put` meets its contract: what the state tells and its words, or the number.
+-- Assumes nothing.
+use mathlib.Core.Path.{refl}
+use Rattle.out_resume.proofs.Resuming.{put-goes}
+use borrow.Author.Needs.{needs}
+use Rattle.out_resume.proofs.put.Statement.{statement}
+use Rattle.out_resume.proofs.put.Tie as tie
+
+returns : tie.Need-returns
+returns c = rw (c .before .before .before .before .before .before .before .before .before .answer .given .1) (put-goes _
+    (c .before .before .before .before .before .before .before .before .before .before .before .before .before .args .state .now)
+    (c .before .before .before .before .before .before .before .before .before .before .before .before .before .args .out .now) _ _ _
+    (c .before .before .before .before .before .before .before .before .before .before .before .before .before .pre .0)
+    (c .before .before .put .ensures) (c .before .before .before .before .before .before .tell .ensures))
+
+returns-2 : tie.Need-returns-2
+returns-2 c = rw (c .before .answer2 .given .1) (refl, refl, refl)
+
+pub put-spec : {M : Type 1} → statement M
+put-spec = tie.close (tie.spec
+    (λ c. search needs) (λ c κs. search needs) (λ c κs. search needs) (λ c. search needs) (λ c. search needs) (λ c. search needs) (λ c. search needs)
+    returns returns-2)

@@ -1,0 +1,33 @@
+-- `resume` meets its contract: where `out` or the state is too short by what comes before 3, and else by the search in slices.
+-- Assumes nothing.
+use Rattle.out_resume.proofs.Resuming.{out-short, state-short, resume-long}
+use borrow.Author.Needs.{needs}
+use Rattle.out_resume.proofs.resume.Statement.{statement}
+use Rattle.out_resume.proofs.resume.Tie as tie
+
+returns : tie.Need-returns
+returns c = out-short _ _ _ _ _ _ _ _ _ _ _ _ _ _ (c .before .if1 .taken) _ (c .unanswered .ensures)
+
+returns-2 : tie.Need-returns-2
+returns-2 c = state-short _ _ _ _ _ _ _ _ _ _ _ _ _ _ (c .before .before .if1 .left) (c .before .if2 .taken) _ (c .unanswered2 .ensures)
+
+returns-3 : tie.Need-returns-3
+returns-3 c = resume-long _ _ _ _ _
+    (c .before .before .before .before .before .before .before .before .before .before .before .before .before .before .before .before .before .before .before .before .before .before
+    .before .before .before .before .if1 .left)
+    (c .before .before .before .before .before .before .before .before .before .before .before .before .before .before .before .before .before .before .before .before .before .before
+    .before .before .before .if2 .left)
+    (c .before .before .before .before .before .before .before .before .before .before .before .before .before .before .before .before .before .before .before .before .before .before
+    .before .read .result)
+    (c .before .before .before .before .before .before .before .before .before .before .before .before .before .before .before .before .before .before .before .before .before .before
+    .before .read .ensures)
+    (c .before .before .before .before .before .before .before .before .before .before .before .before .before .before .before .before .before .resume .result)
+    _
+    (c .before .before .before .before .before .before .before .before .before .before .before .before .before .before .before .before .before .resume .ensures)
+    (c .before .before .before .before .put .result) _ _ (c .before .before .before .before .put .ensures)
+
+pub resume-spec : {M : Type 1} → statement M
+resume-spec = tie.close (tie.spec
+    (λ c κs. search needs) returns (λ c κs. search needs) returns-2 (λ c κs. search needs) (λ c κs. search needs) (λ c κs. search needs)
+    (λ c. search needs) (λ c. search needs) (λ c. search needs) (λ c. search needs) (λ c. search needs) (λ c. search needs) (λ c. search needs)
+    returns-3)

@@ -1,0 +1,4 @@
+-- The laws that the proofs cite, by subject.
+pub mod Searching
+pub mod Unique
+pub mod Promises

@@ -1,0 +1,6 @@
+-- Laws by subject.
+pub mod Numbers
+pub mod CodeLaws
+pub mod Walks
+pub mod Turns
+pub mod Session

@@ -1,0 +1,313 @@
+-- A call of the search in slices: its refusals decide in their order, a state that 14 lets pass may go on, and state and room that stand at a count of the
+-- walk stand, after the call, as many candidates later.
+-- Assumes nothing.
+use mathlib.Core.Path.{_≡_, refl, sym, ap, _∙_, subst}
+use mathlib.Core.Logic.{_⊎_, inl, inr}
+use mathlib.Core.Bool.{Bool, true, false, cond}
+use mathlib.Core.List.{List, [], _∷_, _++_, map, flatMap}
+use Prim.Native.Nat.{ℕ, zero, suc, _+_, _≤_, _<_}
+use native.Mathlib.Omega.{arith}
+use native.Mathlib.Decide.{decLe}
+use lib.ListN.{length, take, drop, length-append}
+use lib.Seq.{take-all}
+use lib.Dec.{eqb}
+use borrow.Author.Tests.{ne-eqb}
+use Rattle.rules.specs.Limits.{mostSize, mostRoom}
+use Rattle.rules.specs.Lists.{count}
+use Rattle.rules.specs.Refusals.{Row, Decided}
+use Rattle.rules.proofs.Refusals.{Numbered, decided-both}
+use Rattle.formula.specs.Formula.{proposition}
+use Rattle.walk.specs.Walk.{found, none, full, Tally, tally, layer, seed}
+use Rattle.walk.specs.Input as walk
+use Rattle.walk.specs.Input.{Input, Passes, offer}
+use Rattle.walk.specs.Cut.{Cut, more, over}
+use Rattle.walk.specs.Kept.{Table, begun, goOn}
+use Rattle.walk.proofs.Resume.{turns-add}
+use Rattle.order.specs.Size.{cand, leaves, constantsIf}
+use Rattle.order.specs.Ahead.{ahead, first, leafCursor, codesOf, cursorAfter}
+use Rattle.order.specs.Starts.{startsOf, below}
+use Rattle.order.proofs.Leaves.{length-count}
+use Rattle.order.proofs.Layers.{column-begins}
+use Rattle.rows.specs.Formulas.{nothing}
+use Rattle.rows.proofs.Matrices.{length-map}
+use Rattle.table.specs.Slices.{Cols, tableOver}
+use Rattle.checks.specs.Promises.{RoomThere}
+use Rattle.checks.specs.Refusals.{settingWrong, searchRows}
+use Rattle.slices.specs.declared.state.State.{State}
+use Rattle.slices.specs.Costs.{inAll}
+use Rattle.slices.specs.Said.{counts}
+use Rattle.slices.specs.Slices.{startsIn, layerAt, stateAt, freshState, todo, Ongoing, StandsIn, StandsAt, stateWrong, mostBudget, resumeRows, advanceRows, StateIn}
+use Rattle.slices.specs.Resume.{Went}
+use Rattle.slices.specs.Inner.{PointAt, GoAsks, GoDoes, positionOf, StateFits, OneOrTwo}
+use Rattle.slices.proofs.Checks.{unary-few, binary-few}
+use Rattle.slices.proofs.Rounds.{began, few-left, kept-sizes}
+use Rattle.slices.proofs.Settling.{settled-more, turn-none, turn-over, begun-is}
+
+-- ---- the refusals
+
+-- a list that decides a number decides it with more after it
+decided-more : (rows later : List Row) (k : ℕ) → (k ≡ 0 → ⊥) → Decided rows k → Decided (rows ++ later) k
+unfolding Decided
+decided-more [] later k h e = absurd (h e)
+decided-more (row ∷ rows) later k h (inl d) = inl d
+decided-more (row ∷ rows) later k h (inr d) = inr (d .0, decided-more rows later k h (d .1))
+
+pub one-or-two-some : (r m k : ℕ) → OneOrTwo r m k → 0 < k
+unfolding Decided
+one-or-two-some r m k (inl a) = omega (arith, a .1)
+one-or-two-some r m k (inr (a, inl b)) = omega (arith, b .1)
+one-or-two-some r m k (inr (a, inr b)) = absurd (b .0 tt)
+
+-- a setting is wrong, or none is
+settings : (i : Input) → settingWrong i .given ⊎ (settingWrong i .given → ⊥)
+settings i = elim (decLe 1 (i .bound)) [
+  | no a ↦ inl (inl (inl (omega arith)))
+  | yes a ↦ elim (decLe (i .bound) mostSize) [
+    | no b ↦ inl (inl (inr (omega arith)))
+    | yes b ↦ elim (decLe 1 (i .room)) [
+      | no c ↦ inl (inr (inl (inl (omega arith))))
+      | yes c ↦ elim (decLe (i .room) mostRoom) [
+        | no d ↦ inl (inr (inl (inr (omega arith))))
+        | yes d ↦ elim (decLe (i .constants) 1) [
+          | no e ↦ inl (inr (inr (omega arith)))
+          | yes e ↦ inr (λ w. elim w [
+            | inl x ↦ elim x [ inl h ↦ omega arith | inr h ↦ omega arith ]
+            | inr x ↦ elim x [ inl y ↦ elim y [ inl h ↦ omega arith | inr h ↦ omega arith ] | inr h ↦ omega arith ]
+          ])
+        ]
+      ]
+    ]
+  ]
+]
+
+module _ (i : Input) (t : Cols) (state : State) where
+  numbered : Numbered (searchRows i t)
+  numbered = (omega arith, (omega arith, (omega arith, (omega arith, (omega arith, (omega arith, (omega arith, (omega arith, tt))))))))
+
+  -- the search refuses, or the state decides
+  pub rows-search : (k : ℕ) → Decided (searchRows i t) k → (k ≡ 0 → ⊥) → Decided (advanceRows i t state) k
+  rows-search k d z = decided-more (searchRows i t) (stateWrong i state ∷ []) k z d
+
+  pub rows-state : (k : ℕ) → Decided (searchRows i t) k → k ≡ 0 → (m : ℕ) → Decided (stateWrong i state ∷ []) m → Decided (advanceRows i t state) m
+  rows-state k d z m s = decided-both (searchRows i t) (stateWrong i state ∷ []) 0 m numbered (subst (Decided (searchRows i t)) z d) s
+
+  -- a budget that is too large comes after 1 and as 2, before 3; one that isn't is passed over
+  pub rows-budget : (budget k : ℕ) → mostBudget < budget → OneOrTwo (i .recording .sessions) (i .recording .propositions) k → Decided (resumeRows i t budget state) k
+  unfolding Decided
+  rows-budget budget k h (inl a) = inl a
+  rows-budget budget k h (inr (a, inl b)) = inr (a, elim (settings i) [ inl c ↦ inl (c, b .1) | inr c ↦ inr (c, inl (h, b .1)) ])
+  rows-budget budget k h (inr (a, inr b)) = absurd (b .0 tt)
+
+  pub rows-within : (budget k : ℕ) → budget ≤ mostBudget → Decided (advanceRows i t state) k → Decided (resumeRows i t budget state) k
+  unfolding Decided
+  rows-within budget k h (inl a) = inl a
+  rows-within budget k h (inr (a, inl b)) = inr (a, inl b)
+  rows-within budget k h (inr (a, inr (b, c))) = inr (a, inr (b, inr ((λ l. omega arith), c)))
+
+-- ---- 14
+
+leaves-long : (m c : ℕ) → length (leaves m c) ≡ cond (eqb c 1) (m + 2) m
+unfolding leaves
+leaves-long m c = go (eqb c 1)
+  where
+    many : length (map (λ p. cand 16 p 0) (count 0 m)) ≡ m
+    many = length-map (λ p. cand 16 p 0) (count 0 m) ∙ length-count 0 m
+
+    go : (b : Bool) → length (map (λ p. cand 16 p 0) (count 0 m) ++ constantsIf b) ≡ cond b (m + 2) m
+    go true = omega (arith, length-append (map (λ p. cand 16 p 0) (count 0 m)) (constantsIf true), many)
+    go false = omega (arith, length-append (map (λ p. cand 16 p 0) (count 0 m)) (constantsIf false), many)
+
+codes-long : (unary binary : List ℕ) (split : ℕ) → length (codesOf unary binary split) ≡ cond (eqb split 0) (length unary) (length binary)
+codes-long unary binary zero = refl
+codes-long unary binary (suc split) = rw (ne-eqb (suc split) 0 (λ e. omega arith))
+
+module _ (i : Input) (st : State) where
+  position-is : positionOf (i .recording .propositions) (i .constants) (length (i .unary)) (length (i .binary)) (st .size) (st .at .split)
+      ≡ cond (eqb (st .size) 1) (length (leaves (i .recording .propositions) (i .constants))) (length (codesOf (i .unary) (i .binary) (st .at .split)))
+  position-is = rw (leaves-long (i .recording .propositions) (i .constants), codes-long (i .unary) (i .binary) (st .at .split))
+
+  pub state-in : StateFits (i .recording .propositions) (i .bound) (i .room) (i .constants) (length (i .unary)) (length (i .binary)) st → StateIn i st
+  state-in w = record {
+    kept-in = w .kept-in;
+    kept-tried = w .kept-tried;
+    size-in = w .size-in;
+    left-in = w .left-in;
+    right-in = w .right-in;
+    operator-in = omega (arith, w .operator-in, position-is);
+  }
+
+  pub not-wrong : StateIn i st → stateWrong i st .given → ⊥
+  not-wrong w (inl h) = omega (arith, w .kept-in)
+  not-wrong w (inr (inl h)) = omega (arith, w .kept-tried)
+  not-wrong w (inr (inr (inl (inl h)))) = omega (arith, w .size-in)
+  not-wrong w (inr (inr (inl (inr h)))) = omega (arith, w .size-in)
+  not-wrong w (inr (inr (inr (inl h)))) = omega (arith, w .left-in)
+  not-wrong w (inr (inr (inr (inr (inl h))))) = omega (arith, w .right-in)
+  not-wrong w (inr (inr (inr (inr (inr h))))) = omega (arith, w .operator-in)
+
+  pub wrong : (StateFits (i .recording .propositions) (i .bound) (i .room) (i .constants) (length (i .unary)) (length (i .binary)) st → ⊥) → stateWrong i st .given
+  wrong h = elim (decLe (st .counts .kept) (i .room)) [
+    | no a ↦ inl (omega arith)
+    | yes a ↦ elim (decLe (st .counts .kept) (st .counts .tried)) [
+      | no b ↦ inr (inl (omega arith))
+      | yes b ↦ elim (decLe 1 (st .size)) [
+        | no c ↦ inr (inr (inl (inl (omega arith))))
+        | yes c ↦ elim (decLe (st .size) (i .bound)) [
+          | no e ↦ inr (inr (inl (inr (omega arith))))
+          | yes e ↦ elim (decLe (st .at .left) (st .counts .kept)) [
+            | no f ↦ inr (inr (inr (inl (omega arith))))
+            | yes f ↦ elim (decLe (st .at .right) (st .counts .kept)) [
+              | no g ↦ inr (inr (inr (inr (inl (omega arith)))))
+              | yes g ↦ elim (decLe (st .at .operator) (positionOf (i .recording .propositions) (i .constants) (length (i .unary)) (length (i .binary)) (st .size) (st .at .split))) [
+                | no o ↦ inr (inr (inr (inr (inr (omega (arith, position-is))))))
+                | yes o ↦ absurd (h (record { kept-in = a; kept-tried = b; size-in = (c, e); left-in = f; right-in = g; operator-in = o }))
+              ]
+            ]
+          ]
+        ]
+      ]
+    ]
+  ]
+
+-- ---- the walk goes on
+
+-- where the sizes of the slices begin is where those of the table do
+starts-are : (sizes : List ℕ) (k : Table) → take (length k) sizes ≡ map (λ c. c .node .size) k → startsOf sizes (length k) ≡ startsIn k
+unfolding startsOf
+starts-are sizes k e =
+    ap (λ (l : List ℕ). map (λ x. below x l) (count 0 (mostSize + 2)))
+    (e ∙ sym (take-all (length k) (map (λ c. c .node .size) k) (omega (arith, length-map (λ c. c .node .size) k))))
+
+module _ (i : Input) (t₀ t : Cols) (s j : ℕ) (k : Table) (n : Tally) (w : Ongoing i s j k n) (ok : Passes i) (h : t ≡ tableOver k t₀) where
+  sizes-are : take (length k) (t .sizes) ≡ map (λ c. c .node .size) k
+  sizes-are = kept-sizes {i = i} {k = k} {t₀ = t₀} {t = t} refl (record { fine = w .fine; are = h })
+
+  abbrev same : startsOf (t .sizes) (length k) ≡ startsIn k
+  same = starts-are (t .sizes) k sizes-are
+
+  pub ongoing-point : PointAt i t₀ t (startsOf (t .sizes) (length k)) s (cursorAfter (layerAt i s (startsIn k)) j) (counts k n) k j
+  ongoing-point = record {
+    stands = record {
+      counted = refl;
+      holds = record { fine = w .fine; are = h };
+      rising = w .rising;
+      small = w .small;
+      begins = λ u l. column-begins nothing k (t .sizes) (length k) (w .rising) sizes-are u (omega (arith, w .size-in, ok .bound-in));
+    };
+    cursor = ap (λ (x : List ℕ). cursorAfter (layerAt i s x) j) (sym same);
+    left = subst (λ (x : List ℕ). ahead (layerAt i s x) (cursorAfter (layerAt i s (startsIn k)) j) ≡ drop j (ahead (layerAt i s x) (first x s))) (sym same) (w .left);
+    tried = subst (λ (x : List ℕ). n .tried + todo i x s (cursorAfter (layerAt i s (startsIn k)) j) ≤ inAll) (sym same) (w .tried);
+    dropped = w .dropped;
+  }
+
+module _ (i : Input) (t : Cols) (ok : Passes i) (budget : ℕ) (state : State) where
+  -- the walk goes on where the state says so
+  on : (after : State) {t′ : Cols} (t₀ : Cols) → RoomThere i t₀ → (c : Cut (List ℕ)) → state .end ≡ 0 → StandsIn i t₀ c state t → GoDoes i budget state t t′ after
+      → StandsIn i t₀ (goOn i budget c) after t′
+  on after t₀ r (over (found root) k n) e w v = absurd (let z = ap (λ (x : State). x .end) (w .is) in omega arith)
+  on after t₀ r (over none k n) e w v = absurd (let z = ap (λ (x : State). x .end) (w .is) in omega arith)
+  on after t₀ r (over (full s) k n) e w v = absurd (let z = ap (λ (x : State). x .end) (w .is) in omega arith)
+  on after {t′} t₀ r (more s j k n) e w v =
+      let q = w .sound in
+      let g = subst (λ (x : State). GoDoes i budget x t t′ after) (w .is) v in
+      subst (λ (c : Cut (List ℕ)). StandsIn i t₀ (goOn i budget c) after t′) (settled-more i s j k n (q .size-in .1) (q .next))
+      (g .runs t₀ k j ok r (ongoing-point i t₀ t s j k n q ok (w .holds)))
+
+  -- and stays where it has ended
+  stays : (t₀ : Cols) (c : Cut (List ℕ)) → (state .end ≡ 0 → ⊥) → StandsIn i t₀ c state t → StandsIn i t₀ (goOn i budget c) state t
+  stays t₀ (more s j k n) e w = absurd (e (ap (λ (x : State). x .end) (w .is)))
+  stays t₀ (over f k n) e w = subst (λ (c : Cut (List ℕ)). StandsIn i t₀ c state t) (sym (turn-over i budget f k n)) w
+
+  pub went-on : (after : State) {t′ : Cols} → state .end ≡ 0 → GoDoes i budget state t t′ after → Went i t budget state after t′
+  went-on after {t′} e v = record {
+    passes = v .state-in;
+    spends = v .spends;
+    runs = λ t₀ r n w. subst (λ (c : Cut (List ℕ)). StandsIn i t₀ c after t′) (turns-add i n budget (begun i)) (on after t₀ r (goOn i n (begun i)) e w v);
+  }
+
+  pub went-ended : (state .end ≡ 0 → ⊥) → StateIn i state → Went i t budget state state t
+  went-ended e w = record {
+    passes = w;
+    spends = omega arith;
+    runs = λ t₀ r n z. subst (λ (c : Cut (List ℕ)). StandsIn i t₀ c state t) (turns-add i n budget (begun i)) (stays t₀ (goOn i n (begun i)) e z);
+  }
+
+-- what is asked of it
+pub asks-of : (i : Input) → Passes i → (st : State) → StateIn i st → GoAsks i st
+asks-of i ok st w = record {
+  bound-in = ok .bound-in .1;
+  room-in = ok .room-in .1;
+  propositions-in = ok .propositions-in .1;
+  unary-few = unary-few ok;
+  binary-few = binary-few ok;
+  state-in = w;
+}
+
+-- ---- a fresh state stands at count 0
+
+module _ (i : Input) (ok : Passes i) where
+  some-leaf : 0 < length (layer (offer i) 1 [])
+  unfolding layer
+  some-leaf =
+      omega (
+        arith,
+        length-map (seed (offer i)) (offer i .leaves),
+        length-append (map proposition (count 0 (i .recording .propositions))) (walk.constantsIf (eqb (i .constants) 1)),
+        length-map proposition (count 0 (i .recording .propositions)),
+        length-count 0 (i .recording .propositions),
+        ok .propositions-in,
+      )
+
+  begun-more : goOn i 0 (begun i) ≡ more 1 0 [] (tally 0 0)
+  begun-more = turn-none i 0 (begun i) refl ∙ begun-is i ∙ settled-more i 1 0 [] (tally 0 0) (ok .bound-in .0) some-leaf
+
+  fresh-is : freshState ≡ stateAt i (more 1 0 [] (tally 0 0))
+  unfolding cursorAfter
+  fresh-is = refl
+
+  fresh-left : ahead (layerAt i 1 (startsIn [])) (cursorAfter (layerAt i 1 (startsIn [])) 0) ≡ drop 0 (ahead (layerAt i 1 (startsIn [])) (first (startsIn []) 1))
+  unfolding cursorAfter
+  fresh-left = refl
+
+  -- it passes
+  pub fresh-in : StateIn i freshState
+  fresh-in = record {
+    kept-in = omega arith;
+    kept-tried = omega arith;
+    size-in = (omega arith, ok .bound-in .0);
+    left-in = omega arith;
+    right-in = omega arith;
+    operator-in = omega arith;
+  }
+
+  fresh-few : 0 + todo i (startsIn []) 1 (cursorAfter (layerAt i 1 (startsIn [])) 0) ≤ inAll
+  unfolding cursorAfter
+  fresh-few =
+      omega (
+        arith,
+        few-left (asks-of i ok freshState fresh-in) (startsIn []) 1 (leafCursor 0) (began [] 0 1 (omega arith) (omega arith)) (ok .bound-in .0),
+        ok .bound-in,
+      )
+
+  empty-over : (t : Cols) → t ≡ tableOver [] t
+  unfolding flatMap
+  empty-over t = refl
+
+  pub fresh-stands-here : (t : Cols) → StandsAt i t 0 freshState t
+  fresh-stands-here t =
+      subst (λ (c : Cut (List ℕ)). StandsIn i t c freshState t) (sym begun-more)
+      (record {
+        is = fresh-is;
+        holds = empty-over t;
+        sound = record {
+          size-in = (omega arith, ok .bound-in .0);
+          few = omega arith;
+          fine = λ p h. absurd (omega arith);
+          rising = λ p q h l. absurd (omega arith);
+          small = λ p h. absurd (omega arith);
+          next = some-leaf;
+          left = fresh-left;
+          tried = fresh-few;
+          dropped = omega arith;
+        };
+      })

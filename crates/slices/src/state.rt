@@ -1,0 +1,14 @@
+// Where a search in slices stands, by value: with the table it is all that the next call needs to go on.
+use candidate::counts::Counts;
+use formula::kinds::Node;
+use order::Cursor;
+
+// The size, the cursor before its next candidate and the counts. `end` is 0 while the walk goes on; at its end 1 FOUND, 2 NONE, 3 FULL, and `root` is
+// FOUND's root node.
+pub struct State {
+    pub size: usize,
+    pub at: Cursor,
+    pub counts: Counts,
+    pub end: u64,
+    pub root: Node,
+}

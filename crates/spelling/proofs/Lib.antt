@@ -1,0 +1,3 @@
+-- Laws by subject.
+pub mod Same
+pub mod Words

@@ -1,0 +1,14 @@
+-- `room` gives a first part of what was lent.
+-- Assumes nothing.
+use mathlib.Core.Path.{sym}
+use native.Mathlib.Omega.{arith}
+use lib.ListN.{length-take}
+use lib.Seq.{length-take-le}
+use borrow.Author.Needs.{needs}
+use Rattle.stored.proofs.room.Statement.{statement}
+use Rattle.stored.proofs.room.Tie as tie
+
+pub room-spec : {M : Type 1} → statement M
+room-spec = tie.close (tie.spec
+    (λ c. search needs) (λ c κs. search needs) (λ c. search needs) (λ c. search needs) (λ c. sym (length-take-le _ _ (search needs)))
+    (λ c. simp length-take (omega arith)))

@@ -1,0 +1,2 @@
+-- Firsts and counts from the bits of a word.
+pub mod Firsts

@@ -1,0 +1,3 @@
+-- The laws by which each return of the functions meets its contract.
+pub mod Operators
+pub mod Fronts

@@ -1,0 +1,5 @@
+-- Laws by subject, and the theorems on the public contracts.
+pub mod Evaluation
+pub mod Checking
+pub mod Unique
+pub mod Sequencing

@@ -1,0 +1,1 @@
+-- Nothing to believe: the runs are of walk's definitions.

@@ -1,0 +1,1 @@
+// Larger runs of the walk, by its definition: no program.
