@@ -120,10 +120,10 @@ uint64_t scarfpylon_search(size_t sessions, size_t propositions, size_t bound, s
  *
  *     state[0]   the size that is being gone through, 1 to the bound
  *     state[1]   how many formulas are kept        state[2]   how many candidates were tried        state[13]  how many were dropped
- *     state[3], state[4]  the left and the right place of the next candidate, each at most state[1]
- *     state[5]   the position of its operator in its list: at size 1 in the list of leaves (the propositions, then false and true if `constants` is 1), else
- *                in the unary list if state[6] is 0 and in the binary one if not; at most the list's length
- *     state[6]   the size of the left child of a binary candidate, 0 before those
+ *     state[3], state[4]  where the walk stands: the left and the right place of the pair last tried, or of the size's first, each at most state[1]
+ *     state[5]   the position after the operator last tried: at size 1 in the list of leaves (the propositions, then false and true if `constants` is 1), else
+ *                in the unary list if state[6] is 0 and in the binary one if not; at most the list's length, and equal to it where that pair is done
+ *     state[6]   the size of the left child of a binary candidate, 0 while unary ones are gone through
  *     state[7]   1 where an operator that doesn't commute has been tried in one order and not yet in the other, else 0
  *     state[8]   0 while there is more to try; at the end 1 found, 2 none, 3 the room is full
  *     state[9] to state[12]  found: the root's code, left, right and size; else 0
@@ -148,12 +148,12 @@ uint64_t scarfpylon_fresh(uint64_t *state, size_t state_count);
  *     out[0]  4 more to try; 1, 2, 3 at the end, as at the search
  *     out[1] to out[8]  at the end as at the search; else only out[2], out[3] and out[8]: tried, kept and dropped so far
  * Where the last candidate is tried the same call says how the walk ended. Any cutting into calls ends as the search does, with the same words in `out` and the
- * same slices; a call after the end repeats it, and a budget of 0 changes nothing.
+ * same slices; a call after the end repeats it, and a budget of 0 changes neither state nor room (it writes `out`).
  * Refuses with 1, 2 (the budget too), 3 (what is read, the room, `state`, `out`), 4, 5, 6, 7, then 14: state[1] above `room` or above state[2], state[0] not 1 to
  * `bound`, state[3] or state[4] above state[1], or state[5] above the length of its list. All input is tested in each call.
  *
- * A state that no call wrote, or a room that was changed: if it is not refused, the call tries at most `budget` candidates, reads and writes only what is lent,
- * and leaves a state that is not refused either; nothing more is promised. No value of the words 6 to 15 is refused. Any number but 0 in state[7] is a 1, one
+ * A state that no call wrote, or a room that was changed: if it is not refused, the counts tried and kept grow by at most `budget` (a count that has reached
+ * 2^64 - 1 stays there), only what is lent is read and written, and the state that is left is not refused either; nothing more is promised. No value of the words 6 to 15 is refused. Any number but 0 in state[7] is a 1, one
  * above 3 in state[8] is a 0, of state[9] and state[12] the lowest 8 bits count, of state[10] and state[11] the lowest 16, and state[14] and state[15] are not
  * looked at.
  */

@@ -222,6 +222,7 @@ module _ (i : Input) (t : Cols) (ok : Passes i) (budget : ℕ) (state : State) w
   went-on after {t′} e v = record {
     passes = v .state-in;
     spends = v .spends;
+    keeps = v .keeps;
     runs = λ t₀ r n w. subst (λ (c : Cut (List ℕ)). StandsIn i t₀ c after t′) (turns-add i n budget (begun i)) (on after t₀ r (goOn i n (begun i)) e w v);
   }
 
@@ -229,6 +230,7 @@ module _ (i : Input) (t : Cols) (ok : Passes i) (budget : ℕ) (state : State) w
   went-ended e w = record {
     passes = w;
     spends = omega arith;
+    keeps = omega arith;
     runs = λ t₀ r n z. subst (λ (c : Cut (List ℕ)). StandsIn i t₀ c state t) (turns-add i n budget (begun i)) (stays t₀ (goOn i n (begun i)) e z);
   }
 

@@ -119,6 +119,7 @@ pub record Loop (i : Input) (budget : ℕ) (s₀ : ℕ) (at₀ : Cursor) (n₀ :
   pub within : (at .left ≤ n .kept) × (at .right ≤ n .kept) × (at .operator ≤ listLong (layerAt i s []) (at .split))
   pub left-in : left ≤ budget
   pub spent : n .tried ≤ n₀ .tried + (budget - left)
+  pub gained : n .kept ≤ n₀ .kept + (budget - left)
   pub long : SameLengths t t′
   pub begun : Began starts s
   pub runs : (t₀ : Cols) (k : Table) (j : ℕ) → Passes i → RoomThere i t₀ → PointAt i t₀ t (startsOf (t .sizes) (n₀ .kept)) s₀ at₀ n₀ k j
@@ -144,6 +145,7 @@ loop-start {i} {budget} {from} {t} a e =
       within = (a .state-in .left-in, a .state-in .right-in, a .state-in .operator-in);
       left-in = omega arith;
       spent = omega arith;
+      gained = omega arith;
       long = record { codes = refl; lefts = refl; rights = refl; sizes = refl; matrices = refl };
       begun = began (t .sizes) (from .counts .kept) (from .size) (omega (arith, a .state-in .kept-in, a .room-in)) (omega (arith, a .state-in .size-in, a .bound-in));
       runs = λ t₀ k j ok room w. record { table = k; position = j; point = w; is = refl };
@@ -210,15 +212,16 @@ over-counts s Kept root n = refl
 pub record Grown (i : Input) (n after : Counts) : Type 0 where
   pub kept-in : after .kept ≤ i .room
   pub kept-more : n .kept ≤ after .kept
+  pub kept-one : after .kept ≤ n .kept + 1
   pub kept-tried : after .kept ≤ after .tried
   pub tried : after .tried ≤ n .tried + 1
 
 grown : {i : Input} (room-in : i .room ≤ mostRoom) (n : Counts) (t t′ : Cols) (v : Verdict) → n .kept ≤ i .room → n .kept ≤ n .tried → Placed (i .room) (n .kept) t t′ v
     → Grown i n (countedBy v n)
-grown r n t t′ Found a b p = record { kept-in = a; kept-more = omega arith; kept-tried = omega arith; tried = omega arith }
-grown r n t t′ Dropped a b p = record { kept-in = a; kept-more = omega arith; kept-tried = omega arith; tried = omega arith }
-grown r n t t′ Full a b p = record { kept-in = a; kept-more = omega arith; kept-tried = omega arith; tried = omega arith }
-grown r n t t′ Kept a b p = record { kept-in = omega (arith, p); kept-more = omega arith; kept-tried = omega (arith, p); tried = omega arith }
+grown r n t t′ Found a b p = record { kept-in = a; kept-more = omega arith; kept-one = omega arith; kept-tried = omega arith; tried = omega arith }
+grown r n t t′ Dropped a b p = record { kept-in = a; kept-more = omega arith; kept-one = omega arith; kept-tried = omega arith; tried = omega arith }
+grown r n t t′ Full a b p = record { kept-in = a; kept-more = omega arith; kept-one = omega arith; kept-tried = omega arith; tried = omega arith }
+grown r n t t′ Kept a b p = record { kept-in = omega (arith, p); kept-more = omega arith; kept-one = omega arith; kept-tried = omega (arith, p); tried = omega arith }
 
 -- there is room at a place below C
 pub room-at : {i : Input} {t₀ : Cols} (count : ℕ) → RoomThere i t₀ → count < i .room → RoomAt i count t₀
@@ -254,6 +257,7 @@ module _ {r m bound room constants : ℕ} {marks lengths words unary binary : Li
         operator-in = omega arith;
       };
       spends = omega (arith, v .spent);
+      keeps = omega (arith, v .gained);
       runs = λ t₀ k j ok there w.
           let z = v .runs t₀ k j ok there w in
           stands-none i t₀ _ s (z .position) left (z .table) n (z .point .stands .counted) (z .point .stands .holds) (omega (arith, v .high))
@@ -301,6 +305,7 @@ module _ {r m bound room constants : ℕ} {marks lengths words unary binary : Li
         within = (omega (arith, next-first .left-in, next-places), omega (arith, next-first .right-in, next-places), next-first .operator-in);
         left-in = v .left-in;
         spent = v .spent;
+        gained = v .gained;
         long = v .long;
         begun = next-began;
         runs = λ t₀ k j ok there w.
@@ -341,6 +346,7 @@ module _ {r m bound room constants : ℕ} {marks lengths words unary binary : Li
         operator-in = v .within .2;
       };
       spends = omega (arith, v .spent);
+      keeps = omega (arith, v .gained);
       runs = λ t₀ k j ok there w.
           let z = v .runs t₀ k j ok there w in
           let p = z .point in
@@ -421,6 +427,7 @@ module _ {r m bound room constants : ℕ} {marks lengths words unary binary : Li
               within = (omega (arith, w .left-in, v .places, g .kept-more), omega (arith, w .right-in, v .places, g .kept-more), w .operator-in);
               left-in = omega (arith, v .left-in);
               spent = omega (arith, v .spent, g .tried, v .left-in);
+              gained = omega (arith, v .gained, g .kept-one, v .left-in);
               long = same;
               begun = v .begun;
               runs = λ t₀ k j ok there y.
@@ -444,6 +451,7 @@ module _ {r m bound room constants : ℕ} {marks lengths words unary binary : Li
             record {
               state-in = over-in i s d node (countedBy d n) (v .low, v .high) (g .kept-in) (g .kept-tried);
               spends = let c = ap (λ (x : Counts). x .tried) (over-counts s d node (countedBy d n)) in omega (arith, c, v .spent, g .tried, v .left-in);
+              keeps = let c = ap (λ (x : Counts). x .kept) (over-counts s d node (countedBy d n)) in omega (arith, c, v .gained, g .kept-one, v .left-in);
               runs = λ t₀ k j ok there y.
                   let z = v .runs t₀ k j ok there y in
                   let x = make i (z .table) s (cand code (l .0) (q .0)) in

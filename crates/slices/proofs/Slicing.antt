@@ -16,10 +16,14 @@ use Rattle.slices.specs.declared.state.State as value
 use Rattle.table.specs.Slices.{Cols, tableOver}
 use Rattle.checks.specs.Promises.{RoomThere}
 use Rattle.slices.specs.Said.{walkSaid}
-use Rattle.slices.specs.Slices.{stateAt, freshState, stateSaid, cutSaid, moreSaid, StandsIn, StandsAt}
-use Rattle.slices.specs.Slicing.{FreshStands, CallStands, StandsUnique, TellsCut, GrownByBudget, BudgetNone, EndsInTime, EndRepeats}
-use Rattle.slices.specs.Slicing.{Turns, stop, turn, total, Each1, WholeByTurns, EnoughTurns, FreshPasses, LeftPasses, WithinBudget}
-use Rattle.slices.proofs.Calls.{fresh-in, fresh-stands-here, not-wrong}
+use Rattle.slices.specs.Slices.{stateAt, freshState, stateSaid, cutSaid, moreSaid, StandsIn, StandsAt, stateWrong, resumeRows}
+use Rattle.slices.specs.declared.Resumed.the-variants.{Goes, Refused}
+use Rattle.slices.specs.Resume.{numberOf}
+use Rattle.slices.specs.Slicing.{FreshStands, CallStands, StandsUnique, CallUnique, TellsCut, GrownByBudget, BudgetNone, EndsInTime, EndRepeats}
+use Rattle.slices.specs.Slicing.{Turns, stop, turn, total, Each1, WholeByTurns, EnoughTurns, FreshPasses, LeftPasses, WithinBudget, CallGoes}
+use Rattle.rules.proofs.Refusals.{decided-unique, decided-not}
+use Rattle.checks.proofs.Passing.{passes-whole}
+use Rattle.slices.proofs.Calls.{fresh-in, fresh-stands-here, not-wrong, rows-state, rows-within}
 use Rattle.slices.proofs.Settling.{turn-over}
 
 pub fresh-stands : FreshStands
@@ -30,6 +34,16 @@ call-stands i t₀ t budget n state after t′ r w c = c .outcome .runs t₀ r n
 
 pub stands-unique : StandsUnique
 stands-unique i t₀ n a b t u v w = (v .is ∙ sym (w .is), v .holds ∙ sym (w .holds))
+
+pub call-unique : CallUnique
+call-unique i t₀ t budget n state (Goes a) (Goes b) t′ u′ r w c d =
+    let s = stands-unique i t₀ (n + budget) a b t′ u′ (c .outcome .runs t₀ r n w) (d .outcome .runs t₀ r n w) in (ap Goes (s .0), s .1)
+call-unique i t₀ t budget n state (Goes a) (Refused k) t′ u′ r w c d =
+    absurd (let e = decided-unique (resumeRows i t budget state) 0 k (c .decided) (d .decided) in omega (arith, e, d .outcome .0))
+call-unique i t₀ t budget n state (Refused k) (Goes b) t′ u′ r w c d =
+    absurd (let e = decided-unique (resumeRows i t budget state) k 0 (c .decided) (d .decided) in omega (arith, e, c .outcome .0))
+call-unique i t₀ t budget n state (Refused k) (Refused l) t′ u′ r w c d =
+    (ap Refused (decided-unique (resumeRows i t budget state) k l (c .decided) (d .decided)), c .outcome .1 ∙ sym (d .outcome .1))
 
 said-at : (i : Input) (c : Cut (List ℕ)) → stateSaid (stateAt i c) ≡ cutSaid c
 said-at i (more s j k n) = refl
@@ -111,4 +125,9 @@ pub left-passes : LeftPasses
 left-passes i t budget state after t′ c w = not-wrong i after (c .outcome .passes) w
 
 pub within-budget : WithinBudget
-within-budget i t budget state after t′ c = c .outcome .spends
+within-budget i t budget state after t′ c = (c .outcome .spends, c .outcome .keeps)
+
+pub call-goes : CallGoes
+call-goes i ok t r budget h state w a t′ c =
+    decided-unique (resumeRows i t budget state) (numberOf a) 0 (c .decided)
+    (rows-within i t state budget 0 h (rows-state i t state 0 (passes-whole i t .1 (ok, r)) refl 0 (decided-not (stateWrong i state) w)))

@@ -113,6 +113,7 @@ pub record GoAsks (i : Input) (from : value.State) : Type 0 where
 pub record GoDoes (i : Input) (budget : ℕ) (from : value.State) (t t′ : Cols) (state : value.State) : Type 0 where
   pub state-in : StateIn i state
   pub spends : state .counts .tried ≤ from .counts .tried + budget
+  pub keeps : state .counts .kept ≤ from .counts .kept + budget
   pub runs : (t₀ : Cols) (k : Table) (j : ℕ) → Passes i → RoomThere i t₀
       → PointAt i t₀ t (startsOf (t .sizes) (from .counts .kept)) (from .size) (from .at) (from .counts) k j
       → StandsIn i t₀ (goOn i budget (settled i (from .size) j (going k (tallyOf (from .counts))))) state t′

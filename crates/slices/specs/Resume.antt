@@ -16,11 +16,13 @@ abbrev pub numberOf : Resumed → ℕ
 numberOf (Goes st) = 0
 numberOf (Refused k) = k
 
--- whatever the state and the room hold, "only demand 1": the call leaves a state that a next call may be given, and has tried at most `budget`. Where
--- state and room stand at count n of the walk, they stand at count n + budget after the call: this fixes state, answer and slices
+-- whatever the state and the room hold, "only demand 1": the call leaves a state that a next call may be given; the count tried grows by at most `budget`
+-- (one that has reached the largest number of its word stays), and so does the number kept. Where state and room stand at count n of the walk, they
+-- stand at count n + budget after the call: this fixes state, answer and slices
 pub record Went (i : Input) (t : Cols) (budget : ℕ) (state after : State) (t′ : Cols) : Type 0 where
   pub passes : StateIn i after
   pub spends : after .counts .tried ≤ state .counts .tried + budget
+  pub keeps : after .counts .kept ≤ state .counts .kept + budget
   pub runs : (t₀ : Cols) → RoomThere i t₀ → (n : ℕ) → StandsAt i t₀ n state t → StandsAt i t₀ (n + budget) after t′
 
 -- a refusal "writes nothing"

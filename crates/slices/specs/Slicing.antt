@@ -1,6 +1,6 @@
 -- What is promised of the search in slices, for states that calls handed out with room and input unaltered: request E7's sentences. Each is proved under its
--- name in proofs/Slicing: fresh-stands, call-stands, stands-unique, tells-cut, grown-by-budget, budget-none, ends-in-time,
--- end-repeats, whole-by-turns, enough-turns; and for any state, made up or not: fresh-passes, left-passes, within-budget.
+-- name in proofs/Slicing: fresh-stands, call-stands, stands-unique, call-unique, tells-cut, grown-by-budget, budget-none, ends-in-time,
+-- end-repeats, whole-by-turns, enough-turns; and for any state, made up or not: fresh-passes, left-passes, within-budget, call-goes.
 -- Assumes nothing.
 use mathlib.Core.Path.{_≡_}
 use mathlib.Core.Logic.{_⊎_}
@@ -11,12 +11,13 @@ use Rattle.walk.specs.Walk.{tried, kept}
 use Rattle.walk.specs.Input.{Input, Passes, search}
 use Rattle.walk.specs.Kept.{begun, goOn}
 use Rattle.checks.specs.Promises.{RoomThere}
+use Rattle.slices.specs.declared.Resumed.{Resumed}
 use Rattle.slices.specs.declared.Resumed.the-variants.{Goes}
 use Rattle.slices.specs.declared.state.State as value
 use Rattle.table.specs.Slices.{Cols, tableOver}
 use Rattle.slices.specs.Said.{walkSaid}
-use Rattle.slices.specs.Slices.{freshState, stateSaid, cutSaid, moreSaid, keptIn, StandsAt, stateWrong}
-use Rattle.slices.specs.Resume.{Called}
+use Rattle.slices.specs.Slices.{freshState, stateSaid, cutSaid, moreSaid, keptIn, StandsAt, stateWrong, mostBudget}
+use Rattle.slices.specs.Resume.{numberOf, Called}
 
 -- "or a fresh one": a fresh state stands at count 0, whatever the slices hold
 abbrev pub FreshStands : Type 0
@@ -30,6 +31,11 @@ CallStands = (i : Input) (t₀ t : Cols) (budget n : ℕ) (state after : value.S
 -- and it fixes the state and the slices: at a count there is one
 abbrev pub StandsUnique : Type 0
 StandsUnique = (i : Input) (t₀ : Cols) (n : ℕ) (a b : value.State) (t u : Cols) → StandsAt i t₀ n a t → StandsAt i t₀ n b u → (a ≡ b) × (t ≡ u)
+
+-- so two answers that a call may give at a count of the walk are one, and so are the slices that it leaves
+abbrev pub CallUnique : Type 0
+CallUnique = (i : Input) (t₀ t : Cols) (budget n : ℕ) (state : value.State) (a b : Resumed) (t′ u′ : Cols) → RoomThere i t₀ → StandsAt i t₀ n state t
+    → Called i t budget state a t′ → Called i t budget state b u′ → (a ≡ b) × (t′ ≡ u′)
 
 -- the state tells the cut walk's answer, MORE or the end
 abbrev pub TellsCut : Type 0
@@ -74,7 +80,7 @@ abbrev pub Each1 : List ℕ → Type 0
 Each1 [] = Unit {0}
 Each1 (budget ∷ rest) = (1 ≤ budget) × Each1 rest
 
--- "Any cutting ends as the whole search does, answer, counts, nodes and matrices": from a fresh state, once the turns' budgets come to as many candidates as
+-- "Any cutting ends as the whole search does": answer, counts, nodes and matrices. From a fresh state, once the turns' budgets come to as many candidates as
 -- the walk tries, the answer is the whole walk's and the slices hold what it kept
 abbrev pub WholeByTurns : Type 0
 WholeByTurns = (i : Input) → Passes i → (t u : Cols) → RoomThere i t → (budgets : List ℕ) (last : value.State) → Turns i freshState t budgets last u
@@ -95,7 +101,12 @@ FreshPasses = (i : Input) → Passes i → stateWrong i freshState .given → �
 abbrev pub LeftPasses : Type 0
 LeftPasses = (i : Input) (t : Cols) (budget : ℕ) (state after : value.State) (t′ : Cols) → Called i t budget state (Goes after) t′ → stateWrong i after .given → ⊥
 
--- and it has tried no more than its budget
+-- and the counts tried and kept have grown by no more than its budget
 abbrev pub WithinBudget : Type 0
 WithinBudget = (i : Input) (t : Cols) (budget : ℕ) (state after : value.State) (t′ : Cols) → Called i t budget state (Goes after) t′
-    → after .counts .tried ≤ state .counts .tried + budget
+    → (after .counts .tried ≤ state .counts .tried + budget) × (after .counts .kept ≤ state .counts .kept + budget)
+
+-- where the input passes, the room is there, the budget is one and 14 lets the state pass, the call is not refused
+abbrev pub CallGoes : Type 0
+CallGoes = (i : Input) → Passes i → (t : Cols) → RoomThere i t → (budget : ℕ) → budget ≤ mostBudget → (state : value.State) → (stateWrong i state .given → ⊥)
+    → (a : Resumed) (t′ : Cols) → Called i t budget state a t′ → numberOf a ≡ 0

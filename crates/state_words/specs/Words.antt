@@ -1,5 +1,5 @@
--- The words of a state: "state words 0 size, 1 kept, 2 tried, 3 left place, 4 right place, 5 operator position (at size 1 the position in the list of
--- leaves ..; else in the list that is being gone through); words 6 to 15 are yours, the header names them, and no value of them is refused".
+-- The words of a state (docs/DECISIONS.md, include/scarfpylon.h): 0 size, 1 kept, 2 tried, 3 left place, 4 right place, 5 operator position (at size 1 the
+-- position in the list of leaves; else in the list that is being gone through); words 6 to 15 are ours, and no value of them is refused.
 -- Assumes nothing.
 use mathlib.Core.Bool.{Bool, true, false, cond}
 use mathlib.Core.List.{List, [], _∷_, _++_}

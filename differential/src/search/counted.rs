@@ -3,7 +3,7 @@
 //! `enum_aux` hands each candidate that doesn't separate to the cache's line, so the wrapper sees them all. A line's own answer says whether a
 //! candidate is new. The first new one beyond the room is where document 01's walk is full; from there on the wrapper hands out no formula to
 //! combine and takes none, and what `enum_aux` still answers is not looked at.
-use std::cell::Cell;
+use std::cell::{Cell, RefCell};
 use std::collections::HashMap;
 use std::rc::Rc;
 
@@ -32,6 +32,7 @@ struct Count {
     /// Those that the Rust's line did not take.
     dropped: Cell<u64>,
     kept: Cell<usize>,
+    kept_at: RefCell<Vec<u64>>,
     stopped: Cell<Option<Stop>>,
 }
 
@@ -78,6 +79,7 @@ impl EnumFormulaCacheLine<LtlCharac> for CountedLine<'_> {
                 count.stopped.set(Some(Stop::Full(self.size)));
             } else {
                 count.kept.set(count.kept.get() + 1);
+                count.kept_at.borrow_mut().push(count.tried.get());
             }
         } else {
             count.dropped.set(count.dropped.get() + 1);
@@ -188,6 +190,7 @@ pub struct End {
     pub tried: u64,
     pub kept: usize,
     pub dropped: u64,
+    kept_at: Vec<u64>,
 }
 
 impl Start {
@@ -208,6 +211,7 @@ impl Start {
                 tried: Cell::new(0),
                 dropped: Cell::new(0),
                 kept: Cell::new(0),
+                kept_at: RefCell::new(vec![]),
                 stopped: Cell::new(None),
             }),
         }
@@ -243,6 +247,7 @@ impl Start {
             tried: self.count.tried.get() + (found.is_some() && stopped.is_none()) as u64,
             kept: self.count.kept.get(),
             dropped: self.count.dropped.get(),
+            kept_at: self.count.kept_at.take(),
             found,
             stopped,
         }
@@ -310,5 +315,6 @@ pub fn outcome(input: &Input, limit: u64) -> Result<Outcome, usize> {
         dropped: end.dropped,
         nodes,
         matrices,
+        kept_at: end.kept_at,
     })
 }

@@ -43,6 +43,8 @@ pub struct Outcome {
     pub dropped: u64,
     pub nodes: Vec<Node>,
     pub matrices: Vec<u64>,
+    /// How many were tried when each was kept, itself among them.
+    pub kept_at: Vec<u64>,
 }
 
 impl Input {
@@ -94,5 +96,10 @@ impl fmt::Display for Input {
 impl Outcome {
     pub fn kept(&self) -> usize {
         self.nodes.len()
+    }
+
+    /// How many were kept when so many had been tried.
+    pub fn kept_by(&self, tried: u64) -> usize {
+        self.kept_at.iter().filter(|at| **at <= tried).count()
     }
 }

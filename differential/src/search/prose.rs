@@ -28,6 +28,7 @@ struct Walk<'a> {
     tried: u64,
     dropped: u64,
     kept: Vec<(Node, Vec<u64>)>,
+    kept_at: Vec<u64>,
 }
 
 impl Walk<'_> {
@@ -57,6 +58,7 @@ impl Walk<'_> {
             return Some(Ending::Full(node.size));
         }
         self.kept.push((node, matrix));
+        self.kept_at.push(self.tried);
         None
     }
 
@@ -143,6 +145,7 @@ pub fn outcome(input: &Input, limit: u64) -> Result<Outcome, usize> {
         tried: 0,
         dropped: 0,
         kept: vec![],
+        kept_at: vec![],
     };
     let mut ending = walk.leaves();
     for s in 2..=input.bound {
@@ -159,5 +162,6 @@ pub fn outcome(input: &Input, limit: u64) -> Result<Outcome, usize> {
         dropped: walk.dropped,
         nodes: walk.kept.iter().map(|kept| kept.0).collect(),
         matrices: walk.kept.into_iter().flat_map(|kept| kept.1).collect(),
+        kept_at: walk.kept_at,
     })
 }

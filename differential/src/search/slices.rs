@@ -34,6 +34,9 @@ struct Cutting {
     random: Random,
     turns: u64,
     differ: u64,
+    /// Endings with a wrong number tried, or with a formula kept one candidate late, that the comparison saw to be wrong, and those that it didn't.
+    seen: u64,
+    unseen: u64,
     /// The first difference.
     first: Option<String>,
 }
@@ -167,15 +170,12 @@ impl Cutting {
         if ends {
             expected.write(outcome);
         } else {
-            let kept = state[KEPT];
-            if kept > outcome.kept() as u64 {
-                return Some(format!("{kept} are kept, and {} at the end", outcome.kept()));
-            }
-            expected.keep(outcome, kept as usize, input.r);
+            let kept = outcome.kept_by(tried + limit);
+            expected.keep(outcome, kept, input.r);
             expected.out[0] = MORE;
             expected.out[2] = tried + limit;
-            expected.out[3] = kept;
-            expected.out[8] = tried + limit - kept;
+            expected.out[3] = kept as u64;
+            expected.out[8] = tried + limit - kept as u64;
         }
         if let Some(wrong) = judge(answer, 0, &passed, input, lent, &expected) {
             return Some(format!("after {tried}, budget {limit}: {wrong}"));
@@ -203,7 +203,7 @@ impl Cutting {
         None
     }
 
-    /// A good input, cut at random: each turn, the end, and the end once more.
+    /// A good input, cut at random. Now and then the answers are held to a wrong ending as well, which has to show.
     fn cut(&mut self, mut input: Input, limit: u64) {
         let outcome = match due(&input, limit) {
             Ok(outcome) => outcome,
@@ -214,35 +214,52 @@ impl Cutting {
         };
         let mut lens = Lens::asked(&input);
         refused::lengthen(&mut self.random, &mut input, &mut lens);
+        let wrong = self.played(&input, lens, &outcome);
+        if wrong.is_none() && self.random.below(64) == 0 {
+            let mut other = outcome.clone();
+            other.tried += 1;
+            match self.played(&input, lens, &other) {
+                Some(_) => self.seen += 1,
+                None => self.unseen += 1,
+            }
+        }
+        self.compared(&input, wrong);
+    }
+
+    /// Each turn of a cutting at random, the end, and the end once more; what is wrong.
+    fn played(&mut self, input: &Input, lens: Lens, outcome: &Outcome) -> Option<String> {
         let start = Lent::new(lens, self.random.next());
         let mut lent = start.clone();
         let more = self.random.below(3) as usize;
         let mut state = self.fresh(more);
-        let mut wrong = None;
         // A cutting into thousands of turns costs more than it shows.
         let mut turns = 0;
-        while wrong.is_none() && state[TRIED] < outcome.tried {
+        while state[TRIED] < outcome.tried {
             turns += 1;
             let limit = if turns > 60 {
                 BUDGET
             } else {
                 budget(&mut self.random, outcome.tried)
             };
-            wrong = self.turn(&input, &outcome, limit, &mut state, &mut lent);
-            if wrong.is_none() && self.random.below(16) == 0 {
-                wrong = self.at_once(&input, &start, &state, &lent);
+            let wrong = self.turn(input, outcome, limit, &mut state, &mut lent);
+            if wrong.is_some() {
+                return wrong;
+            }
+            if self.random.below(16) == 0 {
+                let wrong = self.at_once(input, &start, &state, &lent);
+                if wrong.is_some() {
+                    return wrong;
+                }
             }
         }
-        if wrong.is_none() {
-            let (ended, left) = (state.clone(), lent.clone());
-            for limit in [0, 1 + self.random.below(5), BUDGET] {
-                wrong = wrong.or_else(|| self.turn(&input, &outcome, limit, &mut state, &mut lent));
-            }
-            if wrong.is_none() && (ended != state || left != lent) {
-                wrong = Some("a call after the end changes something".to_string());
+        let (ended, left) = (state.clone(), lent.clone());
+        for limit in [0, 1 + self.random.below(5), BUDGET] {
+            let wrong = self.turn(input, outcome, limit, &mut state, &mut lent);
+            if wrong.is_some() {
+                return wrong;
             }
         }
-        self.compared(&input, wrong);
+        (ended != state || left != lent).then(|| "a call after the end changes something".to_string())
     }
 
     /// What many turns came to, one turn comes to.
@@ -449,6 +466,8 @@ pub fn run(way: Way, count: u64) -> i32 {
         random: Random::new(7),
         turns: 0,
         differ: 0,
+        seen: 0,
+        unseen: 0,
         first: None,
     };
     let mut settled = 0;
@@ -477,9 +496,13 @@ pub fn run(way: Way, count: u64) -> i32 {
         println!("  the first difference: {first}");
     }
     println!(
+        "wrong endings: {} seen to be wrong, {} not seen",
+        cutting.seen, cutting.unseen
+    );
+    println!(
         "compared {} cuttings, {broken} refusals, {count} made-up states, {} differ",
         settled + count,
         cutting.differ
     );
-    (cutting.differ > 0) as i32
+    (cutting.differ > 0 || cutting.unseen > 0) as i32
 }
