@@ -17,8 +17,10 @@ use Rattle.walk.specs.Kept.{begun, goOn}
 use Rattle.checks.specs.Promises.{RoomThere}
 use Rattle.table.specs.Slices.{Cols}
 use Rattle.slices.specs.declared.Resumed.the-variants.{Goes}
-use Rattle.slices.specs.declared.state.State.{State}
-use Rattle.slices.specs.Slices.{freshState, stateAt, StandsAt, StateIn}
+use Rattle.state.specs.declared.State.{State}
+use Rattle.turns.specs.Standing.{stateAt}
+use Rattle.turns.specs.Turns.{StateIn}
+use Rattle.slices.specs.Slices.{freshState, StandsAt}
 use Rattle.slices.specs.Resume.{Called}
 use Rattle.slices.proofs.Slicing.{fresh-stands, call-stands, stands-unique, grown-by-budget, end-repeats}
 use Rattle.out.specs.Out.{written}

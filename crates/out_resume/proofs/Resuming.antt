@@ -16,7 +16,7 @@ use Rattle.walk.specs.Input.{Input, inputOf}
 use Rattle.table.specs.Slices.{Cols}
 use Rattle.slices.specs.declared.Resumed.{Resumed}
 use Rattle.slices.specs.declared.Resumed.the-variants.{Goes, Refused}
-use Rattle.slices.specs.declared.state.State.{State}
+use Rattle.state.specs.declared.State.{State}
 use Rattle.slices.specs.Slices as core
 use Rattle.slices.specs.Resume.{numberOf, Called}
 use Rattle.out.specs.Out.{longWords, Named, wordFrom, written}

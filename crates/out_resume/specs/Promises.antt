@@ -11,7 +11,9 @@ use Rattle.walk.specs.Kept.{begun, goOn}
 use Rattle.checks.specs.Promises.{RoomThere}
 use Rattle.table.specs.Slices.{Cols, tableOver}
 use Rattle.slices.specs.Said.{walkSaid}
-use Rattle.slices.specs.Slices.{freshState, stateSaid, moreSaid, keptIn, StandsAt, StateIn}
+use Rattle.turns.specs.Standing.{keptIn}
+use Rattle.turns.specs.Turns.{StateIn}
+use Rattle.slices.specs.Slices.{freshState, stateSaid, moreSaid, StandsAt}
 use Rattle.out.specs.Out.{written}
 use Rattle.state_words.specs.Words.{stateRead}
 use Rattle.state_words.specs.Written.{StateDone}

@@ -10,7 +10,7 @@ use Rattle.formula.specs.declared.kinds.Node.{Node}
 use Rattle.walk.specs.Input.{Input}
 use Rattle.table.specs.Slices.{Cols}
 use Rattle.slices.specs.declared.Resumed.the-variants.{Goes}
-use Rattle.slices.specs.declared.state.State.{State}
+use Rattle.state.specs.declared.State.{State}
 use Rattle.slices.specs.Slices.{resumeRowsWith}
 use Rattle.slices.specs.Resume.{Called}
 use Rattle.out.specs.Out.{Named, wordFrom, written, longShort}

@@ -1,7 +1,7 @@
 // The search in slices at the C boundary: the state is read from the words that a C program keeps and written back to them; MORE or the end goes to `out`.
 use formula::kinds::Node;
 use slices::Resumed;
-use slices::state::State;
+use state::State;
 ghost use mathlib.Core.Path.{_≡_};
 ghost use Prim.Native.Nat.{_≤_};
 ghost use lib.ListN.{length};

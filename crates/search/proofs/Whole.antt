@@ -14,11 +14,12 @@ use Rattle.walk.specs.Promises.{CutOf}
 use Rattle.walk.proofs.Resume.{cut-resume}
 use Rattle.checks.specs.Refusals.{searchRows}
 use Rattle.checks.proofs.Passing.{search-passes, room-there}
-use Rattle.slices.specs.declared.state.State as value
+use Rattle.state.specs.declared.State as value
 use Rattle.slices.specs.declared.Resumed.{Resumed}
 use Rattle.slices.specs.declared.Resumed.the-variants.{Goes, Refused}
-use Rattle.slices.specs.Costs.{inAll}
-use Rattle.slices.specs.Slices.{freshState, stateWrong, StandsIn}
+use Rattle.turns.specs.Costs.{inAll}
+use Rattle.turns.specs.Standing.{StandsIn}
+use Rattle.slices.specs.Slices.{freshState, stateWrong}
 use Rattle.slices.specs.Resume.{Advanced}
 use Rattle.slices.proofs.Slicing.{fresh-passes, fresh-stands}
 use Rattle.search.specs.Table.{Cols, tableOver}

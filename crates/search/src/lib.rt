@@ -2,7 +2,7 @@
 use candidate::counts::Counts;
 use formula::kinds::Node;
 use slices::Resumed;
-use slices::state::State;
+use state::State;
 ghost use mathlib.Core.Path.{_≡_};
 ghost use Prim.Native.Nat.{_<_};
 ghost use Rattle.walk.specs.Input.{inputOf};

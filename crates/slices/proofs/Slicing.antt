@@ -12,19 +12,21 @@ use Rattle.walk.specs.Cut.{Cut, more, over}
 use Rattle.walk.specs.Kept.{begun, goOn}
 use Rattle.walk.specs.Promises.{CutOf}
 use Rattle.walk.proofs.Resume.{cut-resume, turns-add}
-use Rattle.slices.specs.declared.state.State as value
 use Rattle.table.specs.Slices.{Cols, tableOver}
 use Rattle.checks.specs.Promises.{RoomThere}
+use Rattle.state.specs.declared.State as value
+use Rattle.state.proofs.Passing.{in-passes}
+use Rattle.turns.specs.Standing.{stateAt, StandsIn}
+use Rattle.turns.proofs.Settling.{turn-over}
 use Rattle.slices.specs.Said.{walkSaid}
-use Rattle.slices.specs.Slices.{stateAt, freshState, stateSaid, cutSaid, moreSaid, StandsIn, StandsAt, stateWrong, resumeRows}
+use Rattle.slices.specs.Slices.{freshState, stateSaid, cutSaid, moreSaid, StandsAt, stateWrong, resumeRows}
 use Rattle.slices.specs.declared.Resumed.the-variants.{Goes, Refused}
 use Rattle.slices.specs.Resume.{numberOf}
 use Rattle.slices.specs.Slicing.{FreshStands, CallStands, StandsUnique, CallUnique, TellsCut, GrownByBudget, BudgetNone, EndsInTime, EndRepeats}
 use Rattle.slices.specs.Slicing.{Turns, stop, turn, total, Each1, WholeByTurns, EnoughTurns, FreshPasses, LeftPasses, WithinBudget, CallGoes}
 use Rattle.rules.proofs.Refusals.{decided-unique, decided-not}
 use Rattle.checks.proofs.Passing.{passes-whole}
-use Rattle.slices.proofs.Calls.{fresh-in, fresh-stands-here, not-wrong, rows-state, rows-within}
-use Rattle.slices.proofs.Settling.{turn-over}
+use Rattle.slices.proofs.Calls.{fresh-in, fresh-stands-here, rows-state, rows-within}
 
 pub fresh-stands : FreshStands
 fresh-stands i ok t = fresh-stands-here i ok t
@@ -119,10 +121,10 @@ enough-turns i ok t u r budgets last v e h = whole-by-turns i ok t u r budgets l
 -- ---- any state
 
 pub fresh-passes : FreshPasses
-fresh-passes i ok w = not-wrong i freshState (fresh-in i ok) w
+fresh-passes i ok w = in-passes (fresh-in i ok) w
 
 pub left-passes : LeftPasses
-left-passes i t budget state after t′ c w = not-wrong i after (c .outcome .passes) w
+left-passes i t budget state after t′ c w = in-passes (c .outcome .passes) w
 
 pub within-budget : WithinBudget
 within-budget i t budget state after t′ c = (c .outcome .spends, c .outcome .keeps)

@@ -8,9 +8,10 @@ use Rattle.walk.specs.Input.{Input}
 use Rattle.checks.specs.Promises.{RoomThere}
 use Rattle.slices.specs.declared.Resumed.{Resumed}
 use Rattle.slices.specs.declared.Resumed.the-variants.{Goes, Refused}
-use Rattle.slices.specs.declared.state.State.{State}
 use Rattle.table.specs.Slices.{Cols}
-use Rattle.slices.specs.Slices.{StandsAt, StateIn, resumeRows, advanceRows}
+use Rattle.state.specs.declared.State.{State}
+use Rattle.turns.specs.Turns.{StateIn}
+use Rattle.slices.specs.Slices.{StandsAt, resumeRows, advanceRows}
 
 abbrev pub numberOf : Resumed → ℕ
 numberOf (Goes st) = 0

@@ -13,10 +13,11 @@ use Rattle.walk.specs.Kept.{begun, goOn}
 use Rattle.checks.specs.Promises.{RoomThere}
 use Rattle.slices.specs.declared.Resumed.{Resumed}
 use Rattle.slices.specs.declared.Resumed.the-variants.{Goes}
-use Rattle.slices.specs.declared.state.State as value
 use Rattle.table.specs.Slices.{Cols, tableOver}
+use Rattle.state.specs.declared.State as value
+use Rattle.turns.specs.Standing.{keptIn}
 use Rattle.slices.specs.Said.{walkSaid}
-use Rattle.slices.specs.Slices.{freshState, stateSaid, cutSaid, moreSaid, keptIn, StandsAt, stateWrong, mostBudget}
+use Rattle.slices.specs.Slices.{freshState, stateSaid, cutSaid, moreSaid, StandsAt, stateWrong, mostBudget}
 use Rattle.slices.specs.Resume.{numberOf, Called}
 
 -- "or a fresh one": a fresh state stands at count 0, whatever the slices hold

@@ -1,14 +1,11 @@
 // The search in slices (request E7): a call goes on from the state of the call before for at most so many candidates.
-mod ends;
 mod good;
-pub mod state;
-mod turns;
 
-use crate::state::State;
 use candidate::counts::Counts;
 use formula::kinds::Node;
 use order::Cursor;
 use rules::kinds::Place;
+use state::State;
 ghost use mathlib.Core.Path.{_≡_};
 ghost use Rattle.walk.specs.Input.{inputOf};
 ghost use Rattle.table.specs.Slices.{cols};
@@ -99,7 +96,7 @@ pub fn advance(
     if refused != 0 {
         return Resumed::Refused(refused);
     }
-    if !good::state_good(m, bound, room, constants, unary.len(), binary.len(), state) {
+    if state::wrong(m, bound, room, constants, unary.len(), binary.len(), state) {
         return Resumed::Refused(14);
     }
     if state.end != 0 {

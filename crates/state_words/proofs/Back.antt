@@ -9,7 +9,7 @@ use borrow.Author.Tests.{le-leb}
 use lib.Dec.{leb, lit<}
 use lib.ListN.{length, getD, set, length-set}
 use lib.Seq.{getD-set-same, getD-set-other}
-use Rattle.slices.specs.declared.state.State.{State}
+use Rattle.state.specs.declared.State.{State}
 use Rattle.out.specs.Out.{written, inOrder}
 use Rattle.state_words.specs.Words.{stateWords, mark, marked, endRead, wordsOf, stateRead, Narrow}
 use Rattle.state_words.specs.Written.{stateOver}

@@ -9,7 +9,7 @@ use lib.ListN.{getD}
 use Rattle.formula.specs.declared.kinds.Node.{Node}
 use Rattle.order.specs.declared.Cursor.{Cursor}
 use Rattle.candidate.specs.declared.counts.Counts.{Counts}
-use Rattle.slices.specs.declared.state.State.{State}
+use Rattle.state.specs.declared.State.{State}
 
 -- "a fresh state into its first 16 words"
 abbrev pub stateWords : ℕ

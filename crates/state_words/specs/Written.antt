@@ -5,7 +5,7 @@ use mathlib.Core.List.{List, [], _∷_}
 use Prim.Native.Nat.{ℕ, _<_}
 use lib.ListN.{length}
 use Rattle.rules.specs.Refusals.{Row, Decided}
-use Rattle.slices.specs.declared.state.State.{State}
+use Rattle.state.specs.declared.State.{State}
 use Rattle.out.specs.Out.{written, inOrder}
 use Rattle.state_words.specs.Words.{stateWords, wordsOf, Narrow}
 

@@ -3,7 +3,7 @@ use candidate::counts::Counts;
 use formula::kinds::Node;
 use order::Cursor;
 use rules::kinds::Place;
-use slices::state::State;
+use state::State;
 ghost use mathlib.Core.Path.{_≡_};
 ghost use Prim.Native.Nat.{_≤_};
 ghost use lib.ListN.{length, getD};

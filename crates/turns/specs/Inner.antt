@@ -1,0 +1,60 @@
+-- The states that the loop answers, where a size begins, and the masks. No public contract cites this.
+-- Assumes nothing.
+use mathlib.Core.Path.{_≡_}
+use mathlib.Core.Bool.{Bool, cond}
+use mathlib.Core.List.{List}
+use Prim.Native.Nat.{ℕ, _+_}
+use lib.ListN.{length, replicate}
+use lib.Dec.{eqb}
+use Rattle.rules.specs.Limits.{mostSessions}
+use Rattle.formula.specs.declared.kinds.Node.{Node}
+use Rattle.order.specs.declared.Cursor.{Cursor}
+use Rattle.order.specs.Ahead.{first, leafCursor}
+use Rattle.order.specs.Starts.{startsOf}
+use Rattle.rows.specs.Rows.{MasksAnswer}
+use Rattle.candidate.specs.declared.Verdict.{Verdict}
+use Rattle.candidate.specs.declared.Verdict.the-variants.{Found, Dropped, Full, Kept}
+use Rattle.candidate.specs.declared.counts.Counts.{Counts}
+use Rattle.candidate.specs.Counting.{countedBy}
+use Rattle.state.specs.declared.State.{State}
+use Rattle.turns.specs.declared.Start.{Start}
+use Rattle.turns.specs.Standing.{noNode}
+
+-- the state by value, before a candidate, and at the end: "After the last, NONE."
+abbrev pub moreState : ℕ → Cursor → Counts → State
+moreState s at n = record { size = s; at = at; counts = n; end = 0; root = noNode }
+
+abbrev pub endState : ℕ → Counts → ℕ → Node → State
+endState s n end root = record { size = s; at = leafCursor 0; counts = n; end = end; root = root }
+
+abbrev pub noneState : ℕ → Counts → State
+noneState s n = endState s n 2 noNode
+
+-- after a candidate: `end` is 0 where the walk goes on, and FOUND's root is the candidate
+abbrev pub endAfter : Verdict → ℕ
+endAfter Found = 1
+endAfter Dropped = 0
+endAfter Full = 3
+endAfter Kept = 0
+
+abbrev pub rootAt : ℕ → Node → Node
+rootAt end node = cond (eqb end 1) node noNode
+
+abbrev pub overState : ℕ → Counts → Verdict → Node → State
+overState s n v node = endState s (countedBy v n) (endAfter v) (rootAt (endAfter v) node)
+
+abbrev pub afterState : ℕ → Counts → Cursor → Verdict → Node → State
+afterState s n next v node = cond (eqb (endAfter v) 0) (moreState s next (countedBy v n)) (overState s n v node)
+
+-- where the size after that of a state begins, and the state there
+abbrev pub startOf : List ℕ → State → Start
+startOf sizes st = record {
+  starts = startsOf sizes (st .counts .kept);
+  state = moreState (st .size + 1) (first (startsOf sizes (st .counts .kept)) (st .size + 1)) (st .counts);
+}
+
+-- the masks of r sessions in a room for 32
+pub record Masked (r : ℕ) (lengths masks : List ℕ) : Type 0 where
+  pub long : length masks ≡ mostSessions
+  pub done : Bool
+  pub answer : MasksAnswer r lengths (replicate {A = ℕ} mostSessions 0) masks done
