@@ -2,9 +2,9 @@
 pub mod counting;
 pub mod counts;
 
+use comparison::Known;
 use formula::kinds::Node;
 use rules::kinds::Place;
-use table::Known;
 ghost use Rattle.table.specs.Slices.{cols};
 ghost use Rattle.candidate.specs.Judge.{Judged};
 ghost use Rattle.candidate.specs.Inner.{NoPlace};
@@ -66,7 +66,7 @@ pub fn judge(
     if table::agrees(r, marks, rows) {
         return Verdict::Found;
     }
-    let known = table::known_at(r, matrices, rows, kept);
+    let known = comparison::known_at(r, matrices, rows, kept);
     let Known::New = known else {
         return Verdict::Dropped;
     };

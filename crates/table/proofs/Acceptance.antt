@@ -17,7 +17,7 @@ use Rattle.rules.specs.Lists.{count}
 use Rattle.walk.specs.Rows.{acceptsRow}
 use Rattle.walk.specs.Input.{Input, every, separating}
 use Rattle.session.specs.Recording.{markOf}
-use Rattle.table.specs.Compare.{agreesAt, agreeing}
+use Rattle.table.specs.Acceptance.{agreesAt, agreeing}
 use Rattle.table.specs.Promises.{AgreesSeparating}
 
 -- ---- one session

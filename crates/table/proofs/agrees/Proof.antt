@@ -3,7 +3,7 @@
 use mathlib.Core.Path.{_≡_}
 use borrow.Author.Tests.{le-leb, lt-leb}
 use borrow.Author.Needs.{needs}
-use Rattle.table.specs.Compare.{agreeing}
+use Rattle.table.specs.Acceptance.{agreeing}
 use Rattle.table.proofs.agrees.Statement.{statement}
 use Rattle.table.proofs.agrees.Tie as tie
 

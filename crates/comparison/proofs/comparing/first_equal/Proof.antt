@@ -7,12 +7,12 @@ use native.Mathlib.Nat.{zero-mul}
 use borrow.Author.Count.{below-more}
 use borrow.Author.Needs.{needs}
 use Rattle.rules.specs.Limits.{mostSessions, mostRoom}
-use Rattle.table.specs.Compare.{Same}
+use Rattle.comparison.specs.Compare.{Same}
 use Rattle.rows.proofs.Parts.{part-long}
-use Rattle.table.proofs.Differences.{same-below, unequal}
+use Rattle.comparison.proofs.Differences.{same-below, unequal}
 use Rattle.rows.proofs.Products.{place-end, next-row, at-most}
-use Rattle.table.proofs.comparing.first_equal.Statement.{statement}
-use Rattle.table.proofs.comparing.first_equal.Tie as tie
+use Rattle.comparison.proofs.comparing.first_equal.Statement.{statement}
+use Rattle.comparison.proofs.comparing.first_equal.Tie as tie
 
 abbrev Inv-loop : tie.InvT-loop
 Inv-loop r matrices rows kept p₀ from₀ p from = (p ≤ kept) × (from ≡ p * r) × ((q : ℕ) → q < p → Same r matrices rows q r → ⊥)
@@ -38,11 +38,9 @@ compare-at-requires : tie.Need-compare-at-requires Inv-loop μ-loop
 compare-at-requires c κs =
     let a = c .before .before .before .before .before .args in
     let v = c .before .before .loop in (
-      record {
-        sessions-in = omega arith;
-        there = part-long (a .matrices .now) (v .from) (a .r) (omega (arith, place-end (v .p) (a .kept) (a .r) (c .before .loop-test .taken)));
-      },
-      search needs,
+      omega arith,
+      part-long (a .matrices .now) (v .from) (a .r) (omega (arith, place-end (v .p) (a .kept) (a .r) (c .before .loop-test .taken))),
+      omega arith,
     )
 
 returns : tie.Need-returns Inv-loop μ-loop

@@ -4,8 +4,8 @@ use native.Mathlib.Omega.{arith}
 use borrow.Author.Needs.{needs}
 use Rattle.rules.specs.Limits.{mostSessions, mostRoom}
 use Rattle.rows.proofs.Products.{at-most}
-use Rattle.table.proofs.known_at.Statement.{statement}
-use Rattle.table.proofs.known_at.Tie as tie
+use Rattle.comparison.proofs.known_at.Statement.{statement}
+use Rattle.comparison.proofs.known_at.Tie as tie
 
 mul-if4 : tie.Need-mul-if4
 mul-if4 c = let a = c .before .before .before .before .before .args in omega (arith, at-most (a .kept) mostRoom (a .r) mostSessions (omega arith) (omega arith))

@@ -9,13 +9,13 @@ use lib.ListN.{length, getD, take, drop}
 use denote.Enum.Declared.{tagOf}
 use Rattle.rules.specs.Limits.{mostSessions, Outside}
 use Rattle.rules.specs.Refusals.{Decided}
-use Rattle.table.specs.declared.Compared.{Compared}
-use Rattle.table.specs.declared.Compared.the-variants.{Equal, Differs, Refused}
-use Rattle.table.proofs.Compared.{the-type}
-use Rattle.table.specs.Compare.{Same, equalSaid, saidCompared, compareRowsWith, Compares}
+use Rattle.comparison.specs.declared.Compared.{Compared}
+use Rattle.comparison.specs.declared.Compared.the-variants.{Equal, Differs, Refused}
+use Rattle.comparison.proofs.Compared.{the-type}
+use Rattle.comparison.specs.Compare.{Same, equalSaid, saidCompared, compareRowsWith, Compares}
 use Rattle.rows.proofs.Parts.{part-at}
 use Rattle.rows.proofs.Products.{next-row}
-use Rattle.table.specs.Inner.{ComparedAt}
+use Rattle.comparison.specs.Inner.{ComparedAt}
 
 -- the words of a slice from a word on
 abbrev part : List ℕ → ℕ → List ℕ

@@ -4,10 +4,10 @@ use mathlib.Core.Logic.{inl, inr}
 use native.Mathlib.Omega.{arith}
 use borrow.Author.Needs.{needs}
 use Rattle.rules.specs.Limits.{mostSessions}
-use Rattle.table.proofs.Differences.{refused-one, refused-three, compared}
+use Rattle.comparison.proofs.Differences.{refused-one, refused-three, compared}
 use Rattle.rows.proofs.Products.{at-most}
-use Rattle.table.proofs.compare.Statement.{statement}
-use Rattle.table.proofs.compare.Tie as tie
+use Rattle.comparison.proofs.compare.Statement.{statement}
+use Rattle.comparison.proofs.compare.Tie as tie
 
 returns-3 : tie.Need-returns-3
 returns-3 c = refused-three _ _ _ _ (omega arith) (omega arith) (inr (omega arith))

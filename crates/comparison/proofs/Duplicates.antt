@@ -16,11 +16,11 @@ use Rattle.walk.specs.Promises.{SuperfluousBy}
 use Rattle.walk.proofs.Promises.{kept-distinct}
 use Rattle.walk.proofs.Dropped.{drops-front, dropped-by}
 use Rattle.walk.proofs.Reading.{lawful}
-use Rattle.table.specs.declared.Known.{Known}
-use Rattle.table.specs.declared.Known.the-variants.{At, New}
-use Rattle.table.specs.Compare.{Same, KnownAsk, KnownAnswer}
+use Rattle.comparison.specs.declared.Known.{Known}
+use Rattle.comparison.specs.declared.Known.the-variants.{At, New}
+use Rattle.comparison.specs.Compare.{Same, KnownAsk, KnownAnswer}
 use Rattle.rows.specs.Formulas.{nothing, matrixAt, Stored}
-use Rattle.table.specs.Promises.{KnownIsKnown, KnownBy}
+use Rattle.comparison.specs.Promises.{KnownIsKnown, KnownBy}
 
 module _ (i : Input) where
   same-yes : (x y : List ℕ) → x ≡ y → sameRows x y ≡ true

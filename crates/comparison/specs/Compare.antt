@@ -1,34 +1,17 @@
--- A matrix against the marks, and against the kept ones: what `agrees`, `compare` and `known_at` answer, for every input.
+-- A matrix against the kept ones: what `compare` and `known_at` answer, for every input.
 -- Assumes nothing.
 use mathlib.Core.Path.{_≡_}
 use mathlib.Core.Logic.{_⊎_}
-use mathlib.Core.Bool.{Bool, _&&_, Bool·beq}
 use mathlib.Core.List.{List, [], _∷_, _++_}
 use Prim.Native.Nat.{ℕ, _+_, _*_, _≤_, _<_}
 use lib.ListN.{length, getD}
-use lib.Dec.{eqb, leb}
 use Rattle.rules.specs.Limits.{mostSessions, mostRoom, Outside}
 use Rattle.rules.specs.Refusals.{Row, Decided}
 use Rattle.rules.specs.Answers.{Said}
-use Rattle.rules.specs.Lists.{count}
-use Rattle.walk.specs.Rows.{acceptsRow}
-use Rattle.walk.specs.Input.{every}
-use Rattle.table.specs.declared.Compared.{Compared}
-use Rattle.table.specs.declared.Compared.the-variants.{Equal, Differs, Refused}
-use Rattle.table.specs.declared.Known.{Known}
-use Rattle.table.specs.declared.Known.the-variants.{At, New}
-
--- ---- acceptance
-
--- session j accepts just if it is marked 1
-abbrev pub agreesAt : List ℕ → List ℕ → ℕ → Bool
-agreesAt marks rows j = Bool·beq (acceptsRow (getD rows j 0)) (eqb (getD marks j 0) 1)
-
--- "its acceptance equals the marks": r sessions are there, and each agrees
-unfoldable pub agreeing : ℕ → List ℕ → List ℕ → Bool
-agreeing r marks rows = leb r mostSessions && leb r (length marks) && leb r (length rows) && every (count 0 r) (agreesAt marks rows)
-
--- ---- comparison
+use Rattle.comparison.specs.declared.Compared.{Compared}
+use Rattle.comparison.specs.declared.Compared.the-variants.{Equal, Differs, Refused}
+use Rattle.comparison.specs.declared.Known.{Known}
+use Rattle.comparison.specs.declared.Known.the-variants.{At, New}
 
 -- the matrix at a place is equal in the rows below n
 abbrev pub Same : ℕ → List ℕ → List ℕ → ℕ → ℕ → Type 0

@@ -3,12 +3,15 @@ use crate::Compared;
 use crate::Known;
 use rules::kinds::Place;
 use rules::kinds::Session;
-ghost use Rattle.table.specs.Compare.{KnownAsk, KnownAnswer};
-ghost use Rattle.table.specs.Inner.{Long, ComparedAt};
+ghost use Prim.Native.Nat.{_≤_};
+ghost use lib.ListN.{length};
+ghost use Rattle.rules.specs.Limits.{mostSessions};
+ghost use Rattle.comparison.specs.Compare.{KnownAsk, KnownAnswer};
+ghost use Rattle.comparison.specs.Inner.{ComparedAt};
 
 // A matrix against x, the kept one at the place, row by row up to the first that differs.
 pub(crate) fn compare_at(r: usize, place: Place, x: &[u64], rows: &[u64]) -> Compared
-    requires { ⌜ Long r (now x) × Long r (now rows) ⌝ }
+    requires { ⌜ (r ≤ mostSessions) × (r ≤ length (now x)) × (r ≤ length (now rows)) ⌝ }
     ensures { λ c. ⌜ ComparedAt r (place .0) (now (x .entry)) (now (rows .entry)) c ⌝ }
 {
     let mut j: usize = 0;

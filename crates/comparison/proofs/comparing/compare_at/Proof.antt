@@ -5,8 +5,8 @@ use Prim.Native.Nat.{ℕ, _-_, _≤_, _<_}
 use native.Mathlib.Omega.{arith}
 use lib.ListN.{getD}
 use borrow.Author.Count.{below-more}
-use Rattle.table.proofs.comparing.compare_at.Statement.{statement}
-use Rattle.table.proofs.comparing.compare_at.Tie as tie
+use Rattle.comparison.proofs.comparing.compare_at.Statement.{statement}
+use Rattle.comparison.proofs.comparing.compare_at.Tie as tie
 
 abbrev Inv-loop : tie.InvT-loop
 Inv-loop r place x rows j₀ j = (j ≤ r) × ((t : ℕ) → t < j → getD rows t 0 ≡ getD x t 0)
