@@ -1,21 +1,11 @@
 // One candidate of the walk over a table in lent slices (aux.rs, cache.rs): its rows, then FOUND, the comparison with what is kept, FULL, kept.
-pub mod counting;
-pub mod counts;
-
 use comparison::Known;
+use counting::Verdict;
 use formula::kinds::Node;
 use rules::kinds::Place;
 ghost use Rattle.table.specs.Slices.{cols};
 ghost use Rattle.candidate.specs.Judge.{Judged};
 ghost use Rattle.candidate.specs.Inner.{NoPlace};
-
-// What becomes of a candidate.
-pub enum Verdict {
-    Found,
-    Dropped,
-    Full,
-    Kept,
-}
 
 // Whether there is no place for one more: as many are kept as the room has, or as any table may have.
 fn no_place(room: usize, kept: usize) -> bool

@@ -24,7 +24,8 @@ use Rattle.walk.specs.Kept.{Table}
 use Rattle.walk.proofs.Reading.{row-rows}
 use Rattle.walk.proofs.Rows.{unary-row-means, binary-row-means, constant-row-means, unary-row-only, binary-row-only}
 use Rattle.loops.specs.Loops.{Filled}
-use Rattle.rows.specs.Rows.{MaskOf, Reads, RowIs, RowsAsk}
+use Rattle.masks.specs.Masks.{MaskOf}
+use Rattle.rows.specs.Rows.{Reads, RowIs, RowsAsk}
 use Rattle.rows.specs.Formulas.{matrixAt, LeafIn, Makes, made, Fine, Stored, Masks}
 use Rattle.rows.specs.Promises.{MasksMade, RowsMade, MadeFine}
 use Rattle.rows.proofs.Candidates.{unary-is, binary-is, leaf-is}

@@ -24,15 +24,15 @@ use Rattle.order.proofs.Rest.{step-left, step-safe, end-left}
 use Rattle.rows.specs.Formulas.{nothing, Makes}
 use Rattle.table.specs.Slices.{Cols}
 use Rattle.table.specs.Formulas.{HoldsKept}
-use Rattle.candidate.specs.declared.Verdict.{Verdict}
-use Rattle.candidate.specs.declared.Verdict.the-variants.{Found, Dropped, Full, Kept}
-use Rattle.candidate.specs.Judge.{comes, Posed, Does}
-use Rattle.candidate.specs.declared.counts.Counts.{Counts}
+use Rattle.counting.specs.declared.Verdict.{Verdict}
+use Rattle.counting.specs.declared.Verdict.the-variants.{Found, Dropped, Full, Kept}
+use Rattle.candidate.specs.Judge.{Posed, Does}
+use Rattle.counting.specs.declared.Counts.{Counts}
 use Rattle.slices.specs.Said.{tallyOf}
 use Rattle.slices.specs.Slices.{layerAt}
 use Rattle.slices.specs.Inner.{endsWalk, make, Standing, PointAt}
-use Rattle.candidate.specs.Counting.{countedBy}
-use Rattle.candidate.proofs.Tallies.{counts-are-walks}
+use Rattle.counting.specs.Counting.{comes, countedBy}
+use Rattle.counting.proofs.Tallies.{counts-are-walks}
 use Rattle.slices.proofs.Making.{made-written, safe-makes, offered}
 
 -- ---- what a candidate leaves, where the walk goes on: the table as it was, or with this formula

@@ -34,18 +34,18 @@ use Rattle.order.proofs.Cursors.{first-within, cursor-same, left-same, rest-sam
 use Rattle.order.proofs.Few.{rest-few}
 use Rattle.order.proofs.Layers.{column-begins}
 use Rattle.order.proofs.Rest.{step-left, end-left, step-within}
-use Rattle.rows.specs.Rows.{MasksAnswer}
+use Rattle.masks.specs.Masks.{MasksAnswer}
 use Rattle.rows.specs.Formulas.{nothing, Masks}
 use Rattle.rows.proofs.Matrices.{length-map, masks-made}
 use Rattle.rows.proofs.Products.{place-end}
 use Rattle.table.specs.Slices.{Cols}
 use Rattle.table.specs.Formulas.{HoldsKept, RoomAt}
 use Rattle.checks.specs.Promises.{RoomThere}
-use Rattle.candidate.specs.declared.Verdict.{Verdict}
-use Rattle.candidate.specs.declared.Verdict.the-variants.{Found, Dropped, Full, Kept}
-use Rattle.candidate.specs.Judge.{comes, Placed, Does, Judged}
-use Rattle.candidate.specs.Counting.{oneMore, countedBy}
-use Rattle.candidate.specs.declared.counts.Counts.{Counts}
+use Rattle.counting.specs.declared.Verdict.{Verdict}
+use Rattle.counting.specs.declared.Verdict.the-variants.{Found, Dropped, Full, Kept}
+use Rattle.candidate.specs.Judge.{Placed, Does, Judged}
+use Rattle.counting.specs.Counting.{comes, oneMore, countedBy}
+use Rattle.counting.specs.declared.Counts.{Counts}
 use Rattle.slices.specs.declared.state.State as value
 use Rattle.slices.specs.Costs.{operators, perSize, inAll}
 use Rattle.slices.specs.Said.{counts, tallyOf}

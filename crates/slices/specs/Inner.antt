@@ -25,9 +25,9 @@ use Rattle.rows.specs.Formulas.{nothing, matrixAt}
 use Rattle.table.specs.Slices.{Cols}
 use Rattle.table.specs.Formulas.{HoldsKept}
 use Rattle.checks.specs.Promises.{RoomThere}
-use Rattle.candidate.specs.declared.Verdict.{Verdict}
-use Rattle.candidate.specs.declared.Verdict.the-variants.{Found, Dropped, Full, Kept}
-use Rattle.candidate.specs.declared.counts.Counts.{Counts}
+use Rattle.counting.specs.declared.Verdict.{Verdict}
+use Rattle.counting.specs.declared.Verdict.the-variants.{Found, Dropped, Full, Kept}
+use Rattle.counting.specs.declared.Counts.{Counts}
 use Rattle.slices.specs.declared.turns.Start.{Start}
 use Rattle.slices.specs.declared.state.State as value
 use Rattle.slices.specs.Costs.{operators, inAll}

@@ -6,8 +6,8 @@ use lib.ListN.{length}
 use Rattle.rules.specs.Answers.{Said}
 use Rattle.walk.specs.Walk.{Candidate, Ending, found, full, none, Tally, State, going, ended}
 use Rattle.formula.specs.Nodes.{Node}
-use Rattle.candidate.specs.declared.counts.Counts.{Counts}
-pub use Rattle.candidate.specs.Counting.{tallyOf}
+use Rattle.counting.specs.declared.Counts.{Counts}
+pub use Rattle.counting.specs.Counting.{tallyOf}
 
 -- ---- the number and values of each case: 0 and the case, the size of FOUND and FULL, the counts (tried, kept), FOUND's root node, and the number dropped; or
 -- document 01's number of a refusal and nothing else. The cases' numbers are our own, those of the C boundary: 1 FOUND, 2 NONE,

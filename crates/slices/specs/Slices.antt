@@ -27,7 +27,7 @@ use Rattle.order.specs.Starts.{startsOf}
 use Rattle.order.specs.Steps.{listLong}
 use Rattle.rows.specs.Formulas.{nothing, matrixAt, Fine}
 use Rattle.checks.specs.Refusals.{settingWrong, noRoom, codeWrong, searchRows}
-use Rattle.candidate.specs.declared.counts.Counts.{Counts}
+use Rattle.counting.specs.declared.Counts.{Counts}
 use Rattle.slices.specs.declared.state.State.{State}
 use Rattle.slices.specs.Costs.{perSize, inAll}
 use Rattle.table.specs.Slices.{Cols, tableOver}

@@ -1,7 +1,7 @@
 // What a candidate's verdict comes to: whether the walk has ended, and the states before a candidate and at the end.
 use crate::state::State;
-use candidate::Verdict;
-use candidate::counts::Counts;
+use counting::Counts;
+use counting::Verdict;
 use formula::kinds::Node;
 use order::Cursor;
 use rules::kinds::Place;

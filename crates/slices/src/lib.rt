@@ -5,7 +5,7 @@ pub mod state;
 mod turns;
 
 use crate::state::State;
-use candidate::counts::Counts;
+use counting::Counts;
 use formula::kinds::Node;
 use order::Cursor;
 use rules::kinds::Place;

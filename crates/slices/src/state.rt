@@ -1,5 +1,5 @@
 // Where a search in slices stands, by value: with the table it is all that the next call needs to go on.
-use candidate::counts::Counts;
+use counting::Counts;
 use formula::kinds::Node;
 use order::Cursor;
 

@@ -56,7 +56,7 @@ pub(crate) fn go_on(
         (cols (now (codes .exit)) (now (lefts .exit)) (now (rights .exit)) (now (sizes .exit)) (now (matrices .exit))) state ⌝ }
 {
     let mut masks = [0u64; rules::SESSIONS];
-    rows::masks_of(r, lengths, &mut masks);
+    masks::masks_of(r, lengths, &mut masks);
     let mut rows = [0u64; rules::SESSIONS];
     let mut s = from.size;
     let mut at = from.at;
@@ -108,7 +108,7 @@ pub(crate) fn go_on(
             sizes,
             matrices,
         );
-        counts = candidate::counting::count(verdict, counts);
+        counts = counting::count(verdict, counts);
         if ends::ends_walk(verdict) {
             return ends::over(s, verdict, node, counts);
         }

@@ -1,5 +1,5 @@
 // The 16 words in which a C program keeps the state of a search in slices: how a state is written there, and how whatever stands there is read.
-use candidate::counts::Counts;
+use counting::Counts;
 use formula::kinds::Node;
 use order::Cursor;
 use rules::kinds::Place;

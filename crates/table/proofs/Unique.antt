@@ -5,7 +5,7 @@ use mathlib.Core.Bool.{Bool}
 use mathlib.Core.List.{List}
 use Prim.Native.Nat.{ℕ}
 use Rattle.formula.specs.Nodes.{Node}
-use Rattle.rows.proofs.Unique.{told-unique}
+use Rattle.loops.proofs.Unique.{told-unique}
 use Rattle.table.specs.Slices.{Cols}
 use Rattle.table.specs.Keep.{keptAt, KeepAnswer}
 

@@ -7,10 +7,10 @@ use native.Mathlib.Omega.{arith}
 use borrow.Author.Needs.{needs}
 use denote.Enum.Declared.{tagOf}
 use Rattle.formula.specs.declared.kinds.Node.{Node}
-use Rattle.candidate.specs.declared.Verdict.{Verdict}
-use Rattle.candidate.specs.declared.Verdict.the-variants.{Found, Dropped, Full, Kept}
-use Rattle.candidate.proofs.Verdict.{the-type as verdict-type}
-use Rattle.candidate.specs.declared.counts.Counts.{Counts}
+use Rattle.counting.specs.declared.Verdict.{Verdict}
+use Rattle.counting.specs.declared.Verdict.the-variants.{Found, Dropped, Full, Kept}
+use Rattle.counting.proofs.Verdict.{the-type as verdict-type}
+use Rattle.counting.specs.declared.Counts.{Counts}
 use Rattle.slices.specs.Slices.{noNode}
 use Rattle.slices.specs.Inner.{endState, overState}
 use Rattle.slices.proofs.ends.over.Statement.{statement}

@@ -3,11 +3,11 @@
 use Prim.Native.Nat.{_-_, _≤_}
 use native.Mathlib.Omega.{arith}
 use borrow.Author.Needs.{needs}
-use Rattle.rows.specs.Rows.{MaskOf}
+use Rattle.masks.specs.Masks.{MaskOf}
 use Rattle.loops.specs.Loops.{Filled}
 use Rattle.loops.proofs.Filling.{filled-none, filled-more, filled-all}
-use Rattle.rows.proofs.masks.fill.Statement.{statement}
-use Rattle.rows.proofs.masks.fill.Tie as tie
+use Rattle.masks.proofs.fill.Statement.{statement}
+use Rattle.masks.proofs.fill.Tie as tie
 
 abbrev Inv-loop : tie.InvT-loop
 Inv-loop r lengths masks₀ j₀ masks j = (j ≤ r) × Filled j masks₀ (MaskOf lengths) masks

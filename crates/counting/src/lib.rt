@@ -1,8 +1,21 @@
-// The counts of a walk, one candidate further.
-use crate::Verdict;
-use crate::counts::Counts;
+// The counts of a walk, one candidate further, by what became of it.
 ghost use mathlib.Core.Path.{_≡_};
-ghost use Rattle.candidate.specs.Counting.{oneMore, countedBy};
+ghost use Rattle.counting.specs.Counting.{oneMore, countedBy};
+
+// What becomes of a candidate.
+pub enum Verdict {
+    Found,
+    Dropped,
+    Full,
+    Kept,
+}
+
+// The counts of a search: the candidates tried, up to and including the deciding one, the formulas kept, and the candidates dropped.
+pub struct Counts {
+    pub tried: u64,
+    pub kept: usize,
+    pub dropped: u64,
+}
 
 // One more; a count that has reached the largest number of its word stays.
 fn one_more(n: u64) -> u64

@@ -4,13 +4,13 @@ use mathlib.Core.Path.{_≡_, refl}
 use native.Mathlib.Omega.{arith}
 use borrow.Author.Needs.{needs}
 use denote.Enum.Declared.{tagOf}
-use Rattle.candidate.specs.declared.Verdict.{Verdict}
-use Rattle.candidate.specs.declared.Verdict.the-variants.{Found, Dropped, Full, Kept}
-use Rattle.candidate.proofs.Verdict.{the-type as verdict-type}
-use Rattle.candidate.specs.declared.counts.Counts.{Counts}
-use Rattle.candidate.specs.Counting.{oneMore, countedBy}
-use Rattle.candidate.proofs.counting.count.Statement.{statement}
-use Rattle.candidate.proofs.counting.count.Tie as tie
+use Rattle.counting.specs.declared.Verdict.{Verdict}
+use Rattle.counting.specs.declared.Verdict.the-variants.{Found, Dropped, Full, Kept}
+use Rattle.counting.proofs.Verdict.{the-type as verdict-type}
+use Rattle.counting.specs.declared.Counts.{Counts}
+use Rattle.counting.specs.Counting.{oneMore, countedBy}
+use Rattle.counting.proofs.count.Statement.{statement}
+use Rattle.counting.proofs.count.Tie as tie
 
 module _ (n : Counts) where
   found : (v : Verdict) → tagOf verdict-type v ≡ 0 → record { tried = oneMore (n .tried); kept = n .kept; dropped = n .dropped } ≡ countedBy v n

@@ -6,8 +6,8 @@ use Prim.Native.Nat.{ℕ, suc}
 use native.Mathlib.Omega.{arith}
 use lib.ListN.{length-append}
 use Rattle.walk.specs.Walk.{tally}
-use Rattle.candidate.specs.declared.Verdict.the-variants.{Found, Dropped, Full, Kept}
-use Rattle.candidate.specs.Counting.{oneMore, CountsAreWalks}
+use Rattle.counting.specs.declared.Verdict.the-variants.{Found, Dropped, Full, Kept}
+use Rattle.counting.specs.Counting.{oneMore, CountsAreWalks}
 
 pub counts-are-walks : CountsAreWalks
 counts-are-walks Found n x k c f l d =
