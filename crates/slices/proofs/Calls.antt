@@ -23,10 +23,11 @@ use Rattle.walk.specs.Input.{Input, Passes, offer}
 use Rattle.walk.specs.Cut.{Cut, more, over}
 use Rattle.walk.specs.Kept.{Table, begun, goOn}
 use Rattle.walk.proofs.Resume.{turns-add}
-use Rattle.order.specs.Size.{cand, leaves, constantsIf}
+use Rattle.split.specs.Split.{cand}
+use Rattle.order.specs.Size.{leaves, constantsIf}
 use Rattle.order.specs.Ahead.{ahead, first, leafCursor, codesOf, cursorAfter}
-use Rattle.order.specs.Starts.{startsOf, below}
-use Rattle.order.proofs.Leaves.{length-count}
+use Rattle.starts.specs.Starts.{startsOf, below}
+use Rattle.starts.proofs.Numbers.{length-count}
 use Rattle.order.proofs.Layers.{column-begins}
 use Rattle.rows.specs.Formulas.{nothing}
 use Rattle.rows.proofs.Matrices.{length-map}

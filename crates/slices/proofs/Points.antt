@@ -13,9 +13,10 @@ use Rattle.walk.specs.Walk.{Candidate, going, kept, layer}
 use Rattle.walk.specs.Input.{Input, Passes, offer}
 use Rattle.walk.specs.Kept.{Table}
 use Rattle.walk.proofs.Places.{sizeAt, split-push}
-use Rattle.order.specs.declared.Cursor.{Cursor}
-use Rattle.order.specs.declared.Step.the-variants.{Candidate as Told, End}
-use Rattle.order.specs.Size.{Cand, cand, start}
+use Rattle.split.specs.declared.Cursor.{Cursor}
+use Rattle.split.specs.declared.Step.the-variants.{Candidate as Told, End}
+use Rattle.split.specs.Split.{Cand, cand}
+use Rattle.order.specs.Size.{start}
 use Rattle.order.specs.Ahead.{ahead, candidateAt, rest, first}
 use Rattle.order.specs.Steps.{Rises, Steps}
 use Rattle.order.proofs.Cursors.{after-step}

@@ -21,15 +21,16 @@ use Rattle.walk.specs.Input.{Input, Passes, offer, inputOf}
 use Rattle.walk.specs.Cut.{Cut}
 use Rattle.walk.specs.Kept.{Table, goOn}
 use Rattle.walk.proofs.Places.{Split}
-use Rattle.order.specs.declared.Cursor.{Cursor}
-use Rattle.order.specs.declared.Step.{Step}
-use Rattle.order.specs.declared.Step.the-variants.{Candidate as Told, End}
-use Rattle.order.proofs.Step.{the-type as step-type}
-use Rattle.order.specs.Size.{cand, Layer, start}
+use Rattle.split.specs.declared.Cursor.{Cursor}
+use Rattle.split.specs.declared.Step.{Step}
+use Rattle.split.specs.declared.Step.the-variants.{Candidate as Told, End}
+use Rattle.split.proofs.Step.{the-type as step-type}
+use Rattle.split.specs.Split.{cand}
+use Rattle.order.specs.Size.{Layer, start}
 use Rattle.order.specs.Ahead.{ahead, rest, first, cursorAfter}
-use Rattle.order.specs.Starts.{startsOf}
+use Rattle.starts.specs.Starts.{startsOf}
 use Rattle.order.specs.Steps.{listLong, Within, Steps}
-use Rattle.order.proofs.Counting.{starts-long, starts-rise, starts-within}
+use Rattle.starts.proofs.Counting.{starts-long, starts-rise, starts-within}
 use Rattle.order.proofs.Cursors.{first-within, cursor-same, left-same, rest-same}
 use Rattle.order.proofs.Few.{rest-few}
 use Rattle.order.proofs.Layers.{column-begins}

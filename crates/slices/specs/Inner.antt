@@ -17,10 +17,11 @@ use Rattle.walk.specs.Input.{Input, Passes, offer}
 use Rattle.walk.specs.Cut.{Cut, settle}
 use Rattle.walk.specs.Kept.{Table, goOn}
 use Rattle.walk.proofs.Places.{sizeAt, Split}
-use Rattle.order.specs.declared.Cursor.{Cursor}
-use Rattle.order.specs.Size.{Cand, start}
+use Rattle.split.specs.declared.Cursor.{Cursor}
+use Rattle.split.specs.Split.{Cand}
+use Rattle.order.specs.Size.{start}
 use Rattle.order.specs.Ahead.{ahead, first, leafCursor, cursorAfter}
-use Rattle.order.specs.Starts.{startsOf}
+use Rattle.starts.specs.Starts.{startsOf}
 use Rattle.rows.specs.Formulas.{nothing, matrixAt}
 use Rattle.table.specs.Slices.{Cols}
 use Rattle.table.specs.Formulas.{HoldsKept}

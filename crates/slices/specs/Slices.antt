@@ -20,10 +20,10 @@ use Rattle.walk.specs.Input.{Input, offer}
 use Rattle.walk.specs.Cut.{Cut, more, over}
 use Rattle.walk.specs.Kept.{Table, begun, goOn}
 use Rattle.walk.proofs.Places.{sizeAt}
-use Rattle.order.specs.declared.Cursor.{Cursor}
+use Rattle.split.specs.declared.Cursor.{Cursor}
 use Rattle.order.specs.Size.{Layer, layerOf}
 use Rattle.order.specs.Ahead.{ahead, rest, first, leafCursor, cursorAfter}
-use Rattle.order.specs.Starts.{startsOf}
+use Rattle.starts.specs.Starts.{startsOf}
 use Rattle.order.specs.Steps.{listLong}
 use Rattle.rows.specs.Formulas.{nothing, matrixAt, Fine}
 use Rattle.checks.specs.Refusals.{settingWrong, noRoom, codeWrong, searchRows}

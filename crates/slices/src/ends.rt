@@ -3,8 +3,8 @@ use crate::state::State;
 use counting::Counts;
 use counting::Verdict;
 use formula::kinds::Node;
-use order::Cursor;
 use rules::kinds::Place;
+use split::Cursor;
 ghost use mathlib.Core.Path.{_≡_};
 ghost use Rattle.slices.specs.Inner.{endsWalk, moreState, noneState, overState};
 

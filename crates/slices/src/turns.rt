@@ -2,10 +2,10 @@
 use crate::ends;
 use crate::state::State;
 use formula::kinds::Node;
-use order::Cursor;
-use order::Step;
-use order::starts::COUNT;
-use order::starts::of_table;
+use split::Cursor;
+use split::Step;
+use starts::COUNT;
+use starts::of_table;
 ghost use mathlib.Core.Path.{_≡_};
 ghost use Prim.Native.Nat.{_^_, _<_};
 ghost use Rattle.walk.specs.Input.{inputOf};

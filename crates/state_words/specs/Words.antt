@@ -7,7 +7,7 @@ use Prim.Native.Nat.{ℕ, _%_, _<_}
 use lib.Dec.{eqb, leb}
 use lib.ListN.{getD}
 use Rattle.formula.specs.declared.kinds.Node.{Node}
-use Rattle.order.specs.declared.Cursor.{Cursor}
+use Rattle.split.specs.declared.Cursor.{Cursor}
 use Rattle.counting.specs.declared.Counts.{Counts}
 use Rattle.slices.specs.declared.state.State.{State}
 

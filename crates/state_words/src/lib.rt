@@ -1,9 +1,9 @@
 // The 16 words in which a C program keeps the state of a search in slices: how a state is written there, and how whatever stands there is read.
 use counting::Counts;
 use formula::kinds::Node;
-use order::Cursor;
 use rules::kinds::Place;
 use slices::state::State;
+use split::Cursor;
 ghost use mathlib.Core.Path.{_≡_};
 ghost use Prim.Native.Nat.{_≤_};
 ghost use lib.ListN.{length, getD};

@@ -1,6 +1,5 @@
 -- `agrees` meets its contract: each test that fails decides, and else the sessions do.
 -- Assumes nothing.
-use mathlib.Core.Path.{_≡_}
 use borrow.Author.Tests.{le-leb, lt-leb}
 use borrow.Author.Needs.{needs}
 use Rattle.table.specs.Acceptance.{agreeing}

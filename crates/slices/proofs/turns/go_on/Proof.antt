@@ -8,8 +8,7 @@ use Rattle.walk.specs.Input.{inputOf}
 use Rattle.table.specs.Slices.{cols}
 use Rattle.slices.specs.Slices.{todo}
 use Rattle.slices.proofs.Checks.{pos-of-ne}
-use Rattle.slices.proofs.Rounds.{Loop, loop-start, stops-none, turn-size, less-size, stops-more, less-one, turn-goes-on, stops}
-use Rattle.slices.proofs.Rounds.{ended-step, masked}
+use Rattle.slices.proofs.Rounds.{Loop, loop-start, stops-none, turn-size, less-size, stops-more, less-one, turn-goes-on, stops, ended-step, masked}
 use Rattle.slices.proofs.turns.go_on.Statement.{statement}
 use Rattle.slices.proofs.turns.go_on.Tie as tie
 

@@ -13,9 +13,9 @@ use lib.Dec.{eqb, ltb}
 use borrow.Author.Tests.{lt-ltb, le-ltb, eq-eqb, ne-eqb}
 use Rattle.rules.specs.Limits.{mostSize}
 use Rattle.rules.specs.Lists.{count}
-use Rattle.order.specs.Starts.{below, startsOf}
-use Rattle.order.specs.Inner.{exactly, Counted}
-use Rattle.order.proofs.Leaves.{length-count, getD-map-count}
+use Rattle.starts.specs.Starts.{below, startsOf}
+use Rattle.starts.specs.Inner.{exactly, Counted}
+use Rattle.starts.proofs.Numbers.{length-count, getD-map-count}
 
 exactly-more : (t x : ℕ) (xs : List ℕ) → exactly t (xs ++ (x ∷ [])) ≡ exactly t xs + cond (eqb x t) 1 0
 unfolding exactly

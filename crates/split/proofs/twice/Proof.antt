@@ -1,9 +1,9 @@
 -- `twice` meets its contract.
 -- Assumes nothing.
-use Rattle.order.proofs.Marks.{twice-listed}
+use Rattle.split.proofs.Marks.{twice-listed}
 use borrow.Author.Needs.{needs}
-use Rattle.order.proofs.twice.Statement.{statement}
-use Rattle.order.proofs.twice.Tie as tie
+use Rattle.split.proofs.twice.Statement.{statement}
+use Rattle.split.proofs.twice.Tie as tie
 
 returns-2 : tie.Need-returns-2
 returns-2 c = twice-listed _ (c .before .before .if1 .left) (c .before .operator-of .ensures)

@@ -4,9 +4,9 @@ use Prim.Native.Nat.{_-_, _≤_, min}
 use native.Mathlib.Omega.{arith}
 use borrow.Author.Needs.{needs}
 use lib.ListN.{length, take, length-take}
-use Rattle.order.proofs.Counting.{Summed, summed-none, summed-few, summed-more, summed-all}
-use Rattle.order.proofs.starts.of_table.Statement.{statement}
-use Rattle.order.proofs.starts.of_table.Tie as tie
+use Rattle.starts.proofs.Counting.{Summed, summed-none, summed-few, summed-more, summed-all}
+use Rattle.starts.proofs.of_table.Statement.{statement}
+use Rattle.starts.proofs.of_table.Tie as tie
 
 abbrev Inv-loop : tie.InvT-loop
 Inv-loop sizes kept starts₀ t₀ starts t = (1 ≤ t) × (t ≤ 33) × Summed (take (min kept (length sizes)) sizes) t starts

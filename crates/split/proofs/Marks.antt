@@ -1,16 +1,14 @@
 -- The table's commuting mark of a code is the definition's.
 -- Assumes nothing.
 use mathlib.Core.Path.{_≡_, refl, sym, ap, _∙_}
-use mathlib.Core.Bool.{true, false, not, _&&_}
+use mathlib.Core.Bool.{false, not}
 use Prim.Native.Nat.{ℕ, zero, suc}
-use native.Mathlib.Omega.{arith}
-use borrow.Author.Tests.{eq-eqb, ne-eqb}
+use borrow.Author.Tests.{ne-eqb}
 use Rattle.operators.specs.declared.Operator.{Operator}
 use Rattle.sequence.specs.Operators as ops
 use Rattle.operators.specs.Table.{Listed}
 use Rattle.sequence.specs.Operators.{binaryOf, decode}
-use Rattle.order.specs.Size.{commuting}
-use Rattle.order.specs.Ahead.{twice}
+use Rattle.split.specs.Split.{commuting, twice}
 
 unary-unmarked : (op : ops.Unary) → commuting (ops.unaryCode op) ≡ false
 unfolding commuting decode

@@ -5,13 +5,12 @@ use mathlib.Core.Bool.{Bool, true, false, cond}
 use mathlib.Core.List.{List, [], _∷_, _++_, append-assoc}
 use Prim.Native.Nat.{ℕ, _+_, _≤_, _<_}
 use native.Mathlib.Omega.{arith}
-use lib.ListN.{length, getD}
+use lib.ListN.{length}
 use Rattle.rules.specs.Lists.{each}
-use Rattle.order.specs.declared.Cursor.{Cursor}
-use Rattle.order.specs.Size.{range}
-use Rattle.order.specs.Ahead.{cursor, resume, twice, codeAt, both, oneRow, column, bothFrom, rowFrom, columnFrom, partFrom, afterIn}
-use Rattle.order.specs.Inner.{stand}
-use Rattle.order.proofs.Loops.{each-empty, each-none, resume-empty, resume-in, resume-out, resume-as, resume-done, resume-fresh}
+use Rattle.split.specs.declared.Cursor.{Cursor}
+use Rattle.split.specs.Split.{range, cursor, twice, codeAt, both, oneRow, column, bothFrom, rowFrom, columnFrom, partFrom, afterIn}
+use Rattle.split.specs.Inner.{stand}
+use Rattle.split.proofs.Loops.{each-empty, each-none, resume-empty, resume-in, resume-out, resume-as, resume-done, resume-fresh}
 
 -- ---- an operator over a pair
 

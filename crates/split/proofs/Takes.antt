@@ -1,19 +1,18 @@
 -- Steps over whatever is ahead: an end, a step taken, and the same from another cursor.
 -- Assumes nothing.
-use mathlib.Core.Path.{_≡_, ap, _∙_}
+use mathlib.Core.Path.{_≡_, sym, ap, _∙_}
 use mathlib.Core.List.{List, []}
 use Prim.Native.Nat.{ℕ, _<_}
 use native.Mathlib.Omega.{arith}
 use lib.ListN.{length}
 use denote.Enum.Declared.{tagOf}
-use Rattle.order.proofs.Step.{the-type}
-use Rattle.order.specs.declared.Cursor.{Cursor}
-use Rattle.order.specs.declared.Part.{Part}
-use Rattle.order.specs.declared.Step.{Step}
-use Rattle.order.specs.Size.{Cand}
-use Rattle.order.specs.Ahead.{told, twice, codeAt, partFrom, candIn, afterIn}
-use Rattle.order.specs.Inner.{Takes, stand, InPart}
-use Rattle.order.proofs.Splits.{part-stands}
+use Rattle.split.proofs.Step.{the-type}
+use Rattle.split.specs.declared.Cursor.{Cursor}
+use Rattle.split.specs.declared.Part.{Part}
+use Rattle.split.specs.declared.Step.{Step}
+use Rattle.split.specs.Split.{Cand, told, candIn, afterIn, Takes, InPart}
+use Rattle.split.specs.Inner.{stand}
+use Rattle.split.proofs.Splits.{part-stands}
 
 module _ {F : Cursor → List Cursor} {cand : Cursor → Cand} {after : Cursor → Cursor} {P : Cursor → Type 0} {at : Cursor} where
   pub ended : (step : Step) → tagOf the-type step ≡ 1 → Takes F cand after P at step → F at ≡ []
@@ -24,6 +23,15 @@ module _ {F : Cursor → List Cursor} {cand : Cursor → Cand} {after : Cursor �
   pub carried : {other : Cursor} {step : Step} → F at ≡ F other → Takes F cand after P other step → Takes F cand after P at step
   carried e (Takes.ends f d) = Takes.ends (e ∙ f) d
   carried e (Takes.takes here f d p) = Takes.takes here (e ∙ f) d p
+
+  -- a step is fixed by what is ahead
+  pub takes-unique : {step other : Step} → Takes F cand after P at step → Takes F cand after P at other → step ≡ other
+  takes-unique (Takes.ends e d) (Takes.ends e′ d′) = cc
+  takes-unique (Takes.ends e d) (Takes.takes h e′ d′ p′) = let z : _≡_ {A = ℕ} 0 1 = cc in absurd (omega arith)
+  takes-unique (Takes.takes h e d p) (Takes.ends e′ d′) = let z : _≡_ {A = ℕ} 0 1 = cc in absurd (omega arith)
+  takes-unique (Takes.takes h e d p) (Takes.takes h′ e′ d′ p′) =
+      let q : h ≡ h′ = cc in
+      d ∙ ap (λ (x : Cursor). told (cand x) (after x)) q ∙ sym d′
 
 -- a cursor whose numbers are in range stands on a candidate
 pub part-takes : (codes : List ℕ) (part : Part) (at : Cursor) {step : Step} → at .left < part .end → at .right < part .to → at .operator < length codes

@@ -5,10 +5,10 @@ use mathlib.Core.Logic.{⊎-elim}
 use Prim.Native.Nat.{_-_, _≤_}
 use lib.ListN.{getD}
 use native.Mathlib.Omega.{arith}
-use Rattle.order.specs.Inner.{Counted}
-use Rattle.order.proofs.Counting.{counted-none, counted-few, counted-more, counted-out}
-use Rattle.order.proofs.starts.counts.Statement.{statement}
-use Rattle.order.proofs.starts.counts.Tie as tie
+use Rattle.starts.specs.Inner.{Counted}
+use Rattle.starts.proofs.Counting.{counted-none, counted-few, counted-more, counted-out}
+use Rattle.starts.proofs.counts.Statement.{statement}
+use Rattle.starts.proofs.counts.Tie as tie
 
 abbrev Inv-loop : tie.InvT-loop
 Inv-loop sizes n counts₀ p₀ counts p = (p ≤ n) × Counted sizes p counts

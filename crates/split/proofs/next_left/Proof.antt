@@ -2,12 +2,12 @@
 -- Assumes nothing.
 use mathlib.Core.Path.{refl, _∙_}
 use native.Mathlib.Omega.{arith}
-use Rattle.order.specs.Inner.{Takes}
-use Rattle.order.proofs.Splits.{carry-right, part-out, no-right}
-use Rattle.order.proofs.Takes.{carried, part-takes}
+use Rattle.split.specs.Split.{Takes}
+use Rattle.split.proofs.Splits.{carry-right, part-out, no-right}
+use Rattle.split.proofs.Takes.{carried, part-takes}
 use borrow.Author.Needs.{needs}
-use Rattle.order.proofs.next_left.Statement.{statement}
-use Rattle.order.proofs.next_left.Tie as tie
+use Rattle.split.proofs.next_left.Statement.{statement}
+use Rattle.split.proofs.next_left.Tie as tie
 
 returns : tie.Need-returns
 returns c = Takes.ends (carry-right _ _ _ _ _ (c .before .before .before .before .pre .2) ∙ part-out _ _ _ _ _ (omega arith)) refl

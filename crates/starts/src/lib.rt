@@ -2,8 +2,8 @@
 ghost use mathlib.Core.Path.{_≡_};
 ghost use Prim.Native.Nat.{_≤_, min};
 ghost use lib.ListN.{length};
-ghost use Rattle.order.specs.Starts.{startsOf};
-ghost use Rattle.order.specs.Inner.{Counted};
+ghost use Rattle.starts.specs.Starts.{startsOf};
+ghost use Rattle.starts.specs.Inner.{Counted};
 
 // At t stands the number of kept formulas of size below t, for t from 0 to BOUND + 1: those of size t are the places from the one at t to the one at t + 1.
 pub const COUNT: usize = rules::BOUND + 2;

@@ -2,12 +2,12 @@
 -- Assumes nothing.
 use mathlib.Core.Path.{refl}
 use native.Mathlib.Omega.{arith}
-use Rattle.order.specs.Inner.{Takes}
-use Rattle.order.proofs.Splits.{carry-operator, part-out, no-codes, past-right, past-operator}
-use Rattle.order.proofs.Takes.{carried, part-takes}
+use Rattle.split.specs.Split.{Takes}
+use Rattle.split.proofs.Splits.{carry-operator, part-out, no-codes, past-right, past-operator}
+use Rattle.split.proofs.Takes.{carried, part-takes}
 use borrow.Author.Needs.{needs}
-use Rattle.order.proofs.part_step.Statement.{statement}
-use Rattle.order.proofs.part_step.Tie as tie
+use Rattle.split.proofs.part_step.Statement.{statement}
+use Rattle.split.proofs.part_step.Tie as tie
 
 next-left-requires : tie.Need-next-left-requires
 next-left-requires c κs = (omega arith, omega arith, past-right _ _ _ (omega arith))

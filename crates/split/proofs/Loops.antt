@@ -8,8 +8,7 @@ use native.Mathlib.Numerals.{add-one}
 use native.Mathlib.Decide.{decLe}
 use borrow.Author.Tests.{lt-ltb, le-ltb}
 use Rattle.rules.specs.Lists.{each, count}
-use Rattle.order.specs.Size.{range}
-use Rattle.order.specs.Ahead.{resume}
+use Rattle.split.specs.Split.{range, resume}
 
 pub range-cons : (a b : ℕ) → a < b → range a b ≡ a ∷ range (a + 1) b
 unfolding range count

@@ -2,10 +2,10 @@
 -- Assumes nothing.
 use mathlib.Core.Path.{sym, _∙_}
 use borrow.Author.Tests.{not-true, not-false}
-use Rattle.order.specs.Ahead.{afterIn}
+use Rattle.split.specs.Split.{afterIn}
 use borrow.Author.Needs.{needs}
-use Rattle.order.proofs.over.Statement.{statement}
-use Rattle.order.proofs.over.Tie as tie
+use Rattle.split.proofs.over.Statement.{statement}
+use Rattle.split.proofs.over.Tie as tie
 
 returns : tie.Need-returns
 unfolding afterIn
