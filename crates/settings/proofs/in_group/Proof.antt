@@ -5,9 +5,9 @@ use Prim.Native.Nat.{ℕ}
 use native.Mathlib.Omega.{arith}
 use borrow.Author.Needs.{needs}
 use Rattle.operators.proofs.Groups.{in-unary, in-binary, off-unary, off-binary}
-use Rattle.checks.proofs.Codes.{group-unary, group-binary, group-neither}
-use Rattle.checks.proofs.in_group.Statement.{statement}
-use Rattle.checks.proofs.in_group.Tie as tie
+use Rattle.settings.proofs.Codes.{group-unary, group-binary, group-neither}
+use Rattle.settings.proofs.in_group.Statement.{statement}
+use Rattle.settings.proofs.in_group.Tie as tie
 
 returns : tie.Need-returns
 returns c = let f = c .before .before .operator-of in let op = in-unary _ (f .result) (f .ensures) (c .enum-told .given .1) in group-unary (c .before .before .before .args .unary) _ (op .0) (op .1)

@@ -4,9 +4,9 @@ use mathlib.Core.Logic.{inl, inr}
 use Prim.Native.Nat.{_-_}
 use lib.ListN.{length}
 use borrow.Author.Needs.{needs}
-use Rattle.checks.proofs.Codes.{GoodBelow, good-none, good-more, good-all}
-use Rattle.checks.proofs.codes_good.Statement.{statement}
-use Rattle.checks.proofs.codes_good.Tie as tie
+use Rattle.settings.proofs.Codes.{GoodBelow, good-none, good-more, good-all}
+use Rattle.settings.proofs.codes_good.Statement.{statement}
+use Rattle.settings.proofs.codes_good.Tie as tie
 
 abbrev Inv-loop : tie.InvT-loop
 Inv-loop codes unary i₀ i = GoodBelow unary codes i

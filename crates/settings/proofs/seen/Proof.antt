@@ -6,8 +6,8 @@ use native.Mathlib.Omega.{arith}
 use lib.ListN.{getD}
 use borrow.Author.Count.{below-more}
 use borrow.Author.Needs.{needs}
-use Rattle.checks.proofs.seen.Statement.{statement}
-use Rattle.checks.proofs.seen.Tie as tie
+use Rattle.settings.proofs.seen.Statement.{statement}
+use Rattle.settings.proofs.seen.Tie as tie
 
 abbrev Inv-loop : tie.InvT-loop
 Inv-loop codes n code i₀ i = (i ≤ n) × ((o : ℕ) → o < i → getD codes o 0 ≡ code → ⊥)

@@ -2,8 +2,8 @@
 -- Assumes nothing.
 use mathlib.Core.Logic.{inl, inr}
 use native.Mathlib.Omega.{arith}
-use Rattle.checks.proofs.settings_good.Statement.{statement}
-use Rattle.checks.proofs.settings_good.Tie as tie
+use Rattle.settings.proofs.settings_good.Statement.{statement}
+use Rattle.settings.proofs.settings_good.Tie as tie
 
 returns-6 : tie.Need-returns-6
 returns-6 c = (omega arith, omega arith, omega arith, omega arith, omega arith)
