@@ -34,7 +34,7 @@ use Rattle.rows.specs.Formulas as matrices
 use Rattle.table.proofs.Acceptance.{agrees-separating}
 use Rattle.comparison.proofs.Duplicates.{known-is-known}
 use Rattle.table.proofs.Kept.{held-is-stored, keep-grows}
-use Rattle.counting.specs.declared.Verdict.the-variants.{Found, Dropped, Full, Kept}
+use Rattle.counting.specs.declared.Fate.the-variants.{Found, Dropped, Full, Kept}
 use Rattle.candidate.specs.Judge.{Over, Does}
 use Rattle.candidate.specs.Inner.{NoPlace}
 

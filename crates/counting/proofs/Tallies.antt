@@ -6,7 +6,7 @@ use Prim.Native.Nat.{ℕ, suc}
 use native.Mathlib.Omega.{arith}
 use lib.ListN.{length-append}
 use Rattle.walk.specs.Walk.{tally}
-use Rattle.counting.specs.declared.Verdict.the-variants.{Found, Dropped, Full, Kept}
+use Rattle.counting.specs.declared.Fate.the-variants.{Found, Dropped, Full, Kept}
 use Rattle.counting.specs.Counting.{oneMore, CountsAreWalks}
 
 pub counts-are-walks : CountsAreWalks

@@ -3,7 +3,7 @@ ghost use mathlib.Core.Path.{_≡_};
 ghost use Rattle.counting.specs.Counting.{oneMore, countedBy};
 
 // What becomes of a candidate.
-pub enum Verdict {
+pub enum Fate {
     Found,
     Dropped,
     Full,
@@ -36,30 +36,30 @@ fn one_kept(n: usize) -> usize
     n + 1
 }
 
-// The counts after a candidate: one more is tried, and one more dropped or kept by its verdict.
-pub fn count(verdict: Verdict, before: Counts) -> Counts
-    ensures { λ r. ⌜ r ≡ countedBy verdict before ⌝ }
+// The counts after a candidate: one more is tried, and one more dropped or kept by what became of it.
+pub fn count(fate: Fate, before: Counts) -> Counts
+    ensures { λ r. ⌜ r ≡ countedBy fate before ⌝ }
 {
     let tried = one_more(before.tried);
     let kept = before.kept;
     let dropped = before.dropped;
-    match verdict {
-        Verdict::Found => Counts {
+    match fate {
+        Fate::Found => Counts {
             tried,
             kept,
             dropped,
         },
-        Verdict::Dropped => Counts {
+        Fate::Dropped => Counts {
             tried,
             kept,
             dropped: one_more(dropped),
         },
-        Verdict::Full => Counts {
+        Fate::Full => Counts {
             tried,
             kept,
             dropped,
         },
-        Verdict::Kept => Counts {
+        Fate::Kept => Counts {
             tried,
             kept: one_kept(kept),
             dropped,

@@ -25,8 +25,8 @@ use Rattle.order.proofs.Rest.{step-left, step-safe, end-left}
 use Rattle.rows.specs.Formulas.{nothing, Makes}
 use Rattle.table.specs.Slices.{Cols}
 use Rattle.table.specs.Formulas.{HoldsKept}
-use Rattle.counting.specs.declared.Verdict.{Verdict}
-use Rattle.counting.specs.declared.Verdict.the-variants.{Found, Dropped, Full, Kept}
+use Rattle.counting.specs.declared.Fate.{Fate}
+use Rattle.counting.specs.declared.Fate.the-variants.{Found, Dropped, Full, Kept}
 use Rattle.candidate.specs.Judge.{Posed, Does}
 use Rattle.counting.specs.declared.Counts.{Counts}
 use Rattle.slices.specs.Said.{tallyOf}
@@ -39,7 +39,7 @@ use Rattle.slices.proofs.Making.{made-written, safe-makes, offered}
 -- ---- what a candidate leaves, where the walk goes on: the table as it was, or with this formula
 
 -- the counts are the walk's, where they don't reach the largest number
-pub comes-going : (v : Verdict) → endsWalk v ≡ false → (x : Candidate (List ℕ)) (k : Table) (n : Counts) → n .kept ≡ length k → n .tried + 1 < 2 ^ 64 → n .kept ≤ n .tried
+pub comes-going : (v : Fate) → endsWalk v ≡ false → (x : Candidate (List ℕ)) (k : Table) (n : Counts) → n .kept ≡ length k → n .tried + 1 < 2 ^ 64 → n .kept ≤ n .tried
     → n .dropped ≤ n .tried → comes v x k (tallyOf n) ≡ going (kept (comes v x k (tallyOf n))) (tallyOf (countedBy v n))
 comes-going Found e x k n c f l d = absurd (true≢false e)
 comes-going Dropped e x k n c f l d = ap (going k) (sym (counts-are-walks Dropped n x k c f l d .0))
@@ -78,7 +78,7 @@ module _ {i : Input} {t₀ t t′ : Cols} {k : Table} {starts : List ℕ} {s kep
       begins = λ u l. split-push nothing k u (start starts u) x (w .begins u l) (omega (arith, size));
     }
 
-  pub standing-after : (v : Verdict) → endsWalk v ≡ false → (n : Counts) → n .kept ≡ kept₀ → n .kept + 1 < 2 ^ 64 → HoldsKept i (kept (comes v x k (tallyOf n))) t₀ t′
+  pub standing-after : (v : Fate) → endsWalk v ≡ false → (n : Counts) → n .kept ≡ kept₀ → n .kept + 1 < 2 ^ 64 → HoldsKept i (kept (comes v x k (tallyOf n))) t₀ t′
       → Standing i t₀ t′ (kept (comes v x k (tallyOf n))) starts s (countedBy v n .kept)
   standing-after Found e n c f h = absurd (true≢false e)
   standing-after Dropped e n c f h = record { counted = c ∙ w .counted; holds = h; rising = w .rising; small = w .small; begins = w .begins }
@@ -130,18 +130,18 @@ module _ {i : Input} (ok : Passes i) {t₀ t : Cols} {k : Table} {starts : List 
     pub posed : Posed i k (record { code = code; left = a; right = b; size = s }) (make i k s (cand code (a .0) (b .0)))
     posed = record { node-is = refl; makes = makes; matrix-is = made-written i k makes }
 
-    module _ {t′ : Cols} (v : Verdict) (goes : endsWalk v ≡ false) (kept-fits : n .kept + 1 < 2 ^ 64)
+    module _ {t′ : Cols} (v : Fate) (goes : endsWalk v ≡ false) (kept-fits : n .kept + 1 < 2 ^ 64)
         (y : Does i (record { code = code; left = a; right = b; size = s }) t₀ t′ k (make i k s (cand code (a .0) (b .0))) v) where
       shorter : length (rest (layerAt i s starts) at) ≡ 1 + length (rest (layerAt i s starts) next)
       shorter = ap length (step-left step) ∙ omega arith
 
-      fewer : (u : Verdict) → endsWalk u ≡ false → countedBy u n .dropped ≤ countedBy u n .tried
+      fewer : (u : Fate) → endsWalk u ≡ false → countedBy u n .dropped ≤ countedBy u n .tried
       fewer Found e = absurd (true≢false e)
       fewer Dropped e = omega (arith, w .dropped)
       fewer Full e = absurd (true≢false e)
       fewer Kept e = omega (arith, w .dropped, w .tried, shorter)
 
-      more-tried : (u : Verdict) → countedBy u n .tried ≤ n .tried + 1
+      more-tried : (u : Fate) → countedBy u n .tried ≤ n .tried + 1
       more-tried Found = omega arith
       more-tried Dropped = omega arith
       more-tried Full = omega arith

@@ -42,8 +42,8 @@ use Rattle.rows.proofs.Products.{place-end}
 use Rattle.table.specs.Slices.{Cols}
 use Rattle.table.specs.Formulas.{HoldsKept, RoomAt}
 use Rattle.checks.specs.Promises.{RoomThere}
-use Rattle.counting.specs.declared.Verdict.{Verdict}
-use Rattle.counting.specs.declared.Verdict.the-variants.{Found, Dropped, Full, Kept}
+use Rattle.counting.specs.declared.Fate.{Fate}
+use Rattle.counting.specs.declared.Fate.the-variants.{Found, Dropped, Full, Kept}
 use Rattle.candidate.specs.Judge.{Placed, Does, Judged}
 use Rattle.counting.specs.Counting.{comes, oneMore, countedBy}
 use Rattle.counting.specs.declared.Counts.{Counts}
@@ -173,7 +173,7 @@ module _ (i : Input) (t₀ : Cols) {t′ : Cols} (target : Cut (List ℕ)) (s j 
 
   -- at a candidate of the size over the table k
   module _ (k : Table) (n : Counts) (c : n .kept ≡ length k) (f : n .tried + 1 < 2 ^ 64) (node : Node) (x : Candidate (List ℕ)) (e : x .node ≡ nodeOf node) (z : node .size ≡ s) where
-    stands-over : (v : Verdict) → endsWalk v ≡ true → Does i node t₀ t′ k x v → (st : State (List ℕ)) → st ≡ comes v x k (tallyOf n)
+    stands-over : (v : Fate) → endsWalk v ≡ true → Does i node t₀ t′ k x v → (st : State (List ℕ)) → st ≡ comes v x k (tallyOf n)
         → target ≡ goOn i a (settled i s j st) → StandsIn i t₀ target (overState s v node (countedBy v n)) t′
     stands-over Found g w st is t =
         subst (λ (y : Cut (List ℕ)). StandsIn i t₀ y (overState s Found node (countedBy Found n)) t′)
@@ -197,13 +197,13 @@ module _ (i : Input) (t₀ : Cols) {t′ : Cols} (target : Cut (List ℕ)) (s j 
     stands-over Kept g w st is t = absurd (true≢false (sym g))
 
 -- a state of the end passes
-over-in : (i : Input) (s : ℕ) (v : Verdict) (root : Node) (n : Counts) → (1 ≤ s) × (s ≤ i .bound) → n .kept ≤ i .room → n .kept ≤ n .tried → StateIn i (overState s v root n)
+over-in : (i : Input) (s : ℕ) (v : Fate) (root : Node) (n : Counts) → (1 ≤ s) × (s ≤ i .bound) → n .kept ≤ i .room → n .kept ≤ n .tried → StateIn i (overState s v root n)
 over-in i s Found root n a b c = record { kept-in = b; kept-tried = c; size-in = a; left-in = omega arith; right-in = omega arith; operator-in = omega arith }
 over-in i s Dropped root n a b c = record { kept-in = b; kept-tried = c; size-in = a; left-in = omega arith; right-in = omega arith; operator-in = omega arith }
 over-in i s Full root n a b c = record { kept-in = b; kept-tried = c; size-in = a; left-in = omega arith; right-in = omega arith; operator-in = omega arith }
 over-in i s Kept root n a b c = record { kept-in = b; kept-tried = c; size-in = a; left-in = omega arith; right-in = omega arith; operator-in = omega arith }
 
-over-counts : (s : ℕ) (v : Verdict) (root : Node) (n : Counts) → overState s v root n .counts ≡ n
+over-counts : (s : ℕ) (v : Fate) (root : Node) (n : Counts) → overState s v root n .counts ≡ n
 over-counts s Found root n = refl
 over-counts s Dropped root n = refl
 over-counts s Full root n = refl
@@ -217,7 +217,7 @@ pub record Grown (i : Input) (n after : Counts) : Type 0 where
   pub kept-tried : after .kept ≤ after .tried
   pub tried : after .tried ≤ n .tried + 1
 
-grown : {i : Input} (room-in : i .room ≤ mostRoom) (n : Counts) (t t′ : Cols) (v : Verdict) → n .kept ≤ i .room → n .kept ≤ n .tried → Placed (i .room) (n .kept) t t′ v
+grown : {i : Input} (room-in : i .room ≤ mostRoom) (n : Counts) (t t′ : Cols) (v : Fate) → n .kept ≤ i .room → n .kept ≤ n .tried → Placed (i .room) (n .kept) t t′ v
     → Grown i n (countedBy v n)
 grown r n t t′ Found a b p = record { kept-in = a; kept-more = omega arith; kept-one = omega arith; kept-tried = omega arith; tried = omega arith }
 grown r n t t′ Dropped a b p = record { kept-in = a; kept-more = omega arith; kept-one = omega arith; kept-tried = omega arith; tried = omega arith }
@@ -393,7 +393,7 @@ module _ {r m bound room constants : ℕ} {marks lengths words unary binary : Li
           ∙ turn-one i left (left - 1) _ (omega arith)
           ∙ ap (goOn i (left - 1)) (one-step i s j k (tallyOf n) (make i k s (cand code (l .0) (q .0))) (next-is ok p (v .low) reached (v .begun .rises) step))
 
-      module _ {masks rows : List ℕ} {u : Cols} (ms : Passes i → Masks i masks) (long : mostSessions ≤ length rows) {d : Verdict}
+      module _ {masks rows : List ℕ} {u : Cols} (ms : Passes i → Masks i masks) (long : mostSessions ≤ length rows) {d : Fate}
           (judged : Judged r m room marks words masks node (n .kept) rows t′ u d) where
         more-counted : Grown i n (countedBy d n)
         more-counted = grown (a .room-in) n t′ u d (v .kept-in) (v .kept-tried) (judged .placed)

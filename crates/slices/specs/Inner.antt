@@ -26,8 +26,8 @@ use Rattle.rows.specs.Formulas.{nothing, matrixAt}
 use Rattle.table.specs.Slices.{Cols}
 use Rattle.table.specs.Formulas.{HoldsKept}
 use Rattle.checks.specs.Promises.{RoomThere}
-use Rattle.counting.specs.declared.Verdict.{Verdict}
-use Rattle.counting.specs.declared.Verdict.the-variants.{Found, Dropped, Full, Kept}
+use Rattle.counting.specs.declared.Fate.{Fate}
+use Rattle.counting.specs.declared.Fate.the-variants.{Found, Dropped, Full, Kept}
 use Rattle.counting.specs.declared.Counts.{Counts}
 use Rattle.slices.specs.declared.turns.Start.{Start}
 use Rattle.slices.specs.declared.state.State as value
@@ -37,7 +37,7 @@ use Rattle.slices.specs.Slices.{noNode, layerAt, todo, StateIn, StandsIn
 
 -- ---- the states
 
-abbrev pub endsWalk : Verdict → Bool
+abbrev pub endsWalk : Fate → Bool
 endsWalk Found = true
 endsWalk Dropped = false
 endsWalk Full = true
@@ -53,7 +53,7 @@ endState s n end root = record { size = s; at = leafCursor 0; counts = n; end = 
 abbrev pub noneState : ℕ → Counts → value.State
 noneState s n = endState s n 2 noNode
 
-abbrev pub overState : ℕ → Verdict → Node → Counts → value.State
+abbrev pub overState : ℕ → Fate → Node → Counts → value.State
 overState s Found root n = endState s n 1 root
 overState s Dropped root n = endState s n 3 noNode
 overState s Full root n = endState s n 3 noNode

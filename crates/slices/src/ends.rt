@@ -1,7 +1,7 @@
-// What a candidate's verdict comes to: whether the walk has ended, and the states before a candidate and at the end.
+// What a candidate's fate comes to: whether the walk has ended, and the states before a candidate and at the end.
 use crate::state::State;
 use counting::Counts;
-use counting::Verdict;
+use counting::Fate;
 use formula::kinds::Node;
 use rules::kinds::Place;
 use split::Cursor;
@@ -9,14 +9,14 @@ ghost use mathlib.Core.Path.{_≡_};
 ghost use Rattle.slices.specs.Inner.{endsWalk, moreState, noneState, overState};
 
 // Whether the walk ends by it: FOUND or FULL.
-pub(crate) fn ends_walk(verdict: Verdict) -> bool
-    ensures { λ b. ⌜ b ≡ endsWalk verdict ⌝ }
+pub(crate) fn ends_walk(fate: Fate) -> bool
+    ensures { λ b. ⌜ b ≡ endsWalk fate ⌝ }
 {
-    match verdict {
-        Verdict::Found => true,
-        Verdict::Dropped => false,
-        Verdict::Full => true,
-        Verdict::Kept => false,
+    match fate {
+        Fate::Found => true,
+        Fate::Dropped => false,
+        Fate::Full => true,
+        Fate::Kept => false,
     }
 }
 
@@ -62,9 +62,9 @@ pub(crate) fn none(size: usize, counts: Counts) -> State
     }
 }
 
-// The state where a verdict ended the walk: at FOUND the candidate is the root.
-pub(crate) fn over(size: usize, verdict: Verdict, root: Node, counts: Counts) -> State
-    ensures { λ r. ⌜ r ≡ overState size verdict root counts ⌝ }
+// The state where a candidate ended the walk: at FOUND the candidate is the root.
+pub(crate) fn over(size: usize, fate: Fate, root: Node, counts: Counts) -> State
+    ensures { λ r. ⌜ r ≡ overState size fate root counts ⌝ }
 {
     let at = Cursor {
         split: 0,
@@ -73,7 +73,7 @@ pub(crate) fn over(size: usize, verdict: Verdict, root: Node, counts: Counts) ->
         operator: 0,
         second: false,
     };
-    let Verdict::Found = verdict else {
+    let Fate::Found = fate else {
         return State {
             size,
             at,

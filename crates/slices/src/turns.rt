@@ -92,7 +92,7 @@ pub(crate) fn go_on(
             right: q,
             size: s as u8,
         };
-        let verdict = candidate::judge(
+        let fate = candidate::judge(
             r,
             m,
             room,
@@ -108,9 +108,9 @@ pub(crate) fn go_on(
             sizes,
             matrices,
         );
-        counts = counting::count(verdict, counts);
-        if ends::ends_walk(verdict) {
-            return ends::over(s, verdict, node, counts);
+        counts = counting::count(fate, counts);
+        if ends::ends_walk(fate) {
+            return ends::over(s, fate, node, counts);
         }
     }
 }
