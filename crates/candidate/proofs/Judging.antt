@@ -18,22 +18,23 @@ use Rattle.walk.specs.Walk.{Candidate, judge, consider}
 use Rattle.walk.specs.Walk as walk
 use Rattle.walk.specs.Input.{Input, separating, offer}
 use Rattle.walk.specs.Kept.{Table}
-use Rattle.table.specs.declared.Known.{Known}
-use Rattle.table.specs.declared.Known.the-variants.{At, New}
+use Rattle.comparison.specs.declared.Known.{Known}
+use Rattle.comparison.specs.declared.Known.the-variants.{At, New}
 use Rattle.table.specs.Slices.{Cols}
 use Rattle.rows.specs.Rows.{RowsAnswer}
 use Rattle.rows.specs.Formulas.{Fine, Stored}
 use Rattle.rows.proofs.Matrices.{rows-made, made-fine}
-use Rattle.table.proofs.Known.{the-type as known-type}
-use Rattle.table.specs.Compare.{agreeing, KnownAnswer}
+use Rattle.comparison.proofs.Known.{the-type as known-type}
+use Rattle.table.specs.Acceptance.{agreeing}
+use Rattle.comparison.specs.Compare.{KnownAnswer}
 use Rattle.table.specs.Keep.{KeepAnswer}
 use Rattle.table.specs.Formulas.{RoomAt}
-use Rattle.table.specs.Promises.{isAt}
+use Rattle.comparison.specs.Promises.{isAt}
 use Rattle.rows.specs.Formulas as matrices
 use Rattle.table.proofs.Acceptance.{agrees-separating}
-use Rattle.table.proofs.Duplicates.{known-is-known}
+use Rattle.comparison.proofs.Duplicates.{known-is-known}
 use Rattle.table.proofs.Kept.{held-is-stored, keep-grows}
-use Rattle.candidate.specs.declared.Verdict.the-variants.{Found, Dropped, Full, Kept}
+use Rattle.counting.specs.declared.Fate.the-variants.{Found, Dropped, Full, Kept}
 use Rattle.candidate.specs.Judge.{Over, Does}
 use Rattle.candidate.specs.Inner.{NoPlace}
 

@@ -1,3 +1,2 @@
 -- The laws behind the proofs, by subject.
 pub mod Judging
-pub mod Tallies

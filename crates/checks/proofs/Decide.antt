@@ -13,7 +13,9 @@ use Rattle.session.specs.Data.{outsideNumbers, tooShort, tooLong, bitAbove, mar
 use Rattle.walk.specs.Input.{Input}
 use Rattle.table.specs.Slices.{Cols}
 use Rattle.checks.specs.Refusals.{settingWrong, noRoom, codeWrong, searchRows}
-use Rattle.checks.specs.Inner.{GoodCodes, BadCodes, SettingsTold, RoomTold}
+use Rattle.settings.specs.Settings.{GoodCodes, BadCodes, SettingsTold}
+use Rattle.settings.proofs.Unique.{settings-right}
+use Rattle.checks.specs.Inner.{RoomTold}
 
 pub le-of-not-lt : {a b : ℕ} → (b < a → ⊥) → a ≤ b
 le-of-not-lt {a} {b} f = elim (decLe a b) [
@@ -148,8 +150,7 @@ module _ (i : Input) (t : Cols) (k : ℕ) (d : Decided (dataRows (i .recording .
 
 module _ (i : Input) where
   pub settings-fine : SettingsTold (i .bound) (i .room) (i .constants) true → settingWrong i .given → ⊥
-  settings-fine w = ⊎-elim (λ x. ⊎-elim (λ y. omega (arith, w .0)) (λ y. omega (arith, w .1)) x)
-      (λ x. ⊎-elim (λ y. ⊎-elim (λ z. omega (arith, w .2)) (λ z. omega (arith, w .3)) y) (λ y. omega (arith, w .4)) x)
+  settings-fine w = settings-right _ _ _ w
 
   pub room-fine : (t : Cols) → RoomTold (i .recording .sessions) (i .room) t true → noRoom i t .given → ⊥
   room-fine t w = ⊎-elim (λ x. omega (arith, w .0)) (λ x. ⊎-elim (λ y. omega (arith, w .1)) (λ y. ⊎-elim (λ z. omega (arith, w .2))

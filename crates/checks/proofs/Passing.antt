@@ -21,7 +21,7 @@ use Rattle.walk.proofs.Same.{inside}
 use Rattle.table.specs.Slices.{Cols}
 use Rattle.checks.specs.Refusals.{settingWrong, noRoom, codeWrong, searchRows}
 use Rattle.checks.specs.Promises.{RoomThere, PassesWhole, DataThere, DecidedSame}
-use Rattle.checks.specs.Inner.{GoodCodes}
+use Rattle.settings.specs.Settings.{GoodCodes}
 use Rattle.checks.proofs.Codes.{unary-or, binary-or, at-position, good-once}
 use Rattle.checks.proofs.Decide.{NoneOf, none-given, numbers-in, le-of-not-lt, settings-fine, room-fine, codes-fine}
 

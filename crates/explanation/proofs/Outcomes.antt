@@ -28,7 +28,7 @@ use Rattle.walk.specs.Walk.{found, ended}
 use Rattle.walk.specs.Input.{Input, search}
 use Rattle.walk.specs.Kept.{Table, nodes}
 use Rattle.writing.specs.Writing.{Wrote}
-use Rattle.candidate.specs.declared.counts.Counts.{Counts}
+use Rattle.counting.specs.declared.Counts.{Counts}
 use Rattle.search.specs.declared.SearchAnswer.{SearchAnswer}
 use Rattle.search.specs.declared.SearchAnswer.the-variants.{Found, None, Full, Refused}
 use Rattle.search.specs.Table.{Cols}

@@ -19,7 +19,7 @@ use Rattle.formula.specs.Rule.{Broken}
 use Rattle.text.specs.Text.{text}
 use Rattle.text.proofs.Promises.{text-in}
 use Rattle.writing.specs.Writing.{Wrote}
-use Rattle.candidate.specs.declared.counts.Counts.{Counts}
+use Rattle.counting.specs.declared.Counts.{Counts}
 use Rattle.search.specs.declared.SearchAnswer.{SearchAnswer}
 use Rattle.search.specs.declared.SearchAnswer.the-variants.{Found, None, Full, Refused}
 use Rattle.search.specs.Table.{Cols}

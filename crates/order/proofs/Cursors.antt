@@ -11,13 +11,13 @@ use lib.ListN.{length, getD, drop}
 use lib.Dec.{ltb}
 use Rattle.rules.specs.Lists.{each}
 use Rattle.rules.specs.declared.kinds.Place.{Place}
-use Rattle.order.specs.declared.Cursor.{Cursor}
-use Rattle.order.specs.declared.Step.the-variants.{Candidate}
-use Rattle.order.specs.Size.{Layer, layerOf, range, start}
-use Rattle.order.specs.Ahead.{cursor, leafCursor, column, partFrom, leftStart, leftEnd, rightStart, rightEnd, codesOf, codesIn, part, partAhead, partsAhead, ahead}
-use Rattle.order.specs.Ahead.{candidateAt, after, rest, first, cursorAfter}
+use Rattle.split.specs.declared.Cursor.{Cursor}
+use Rattle.split.specs.declared.Step.the-variants.{Candidate}
+use Rattle.order.specs.Size.{Layer, layerOf, start}
+use Rattle.split.specs.Split.{range, cursor, column, partFrom}
+use Rattle.order.specs.Ahead.{leafCursor, leftStart, leftEnd, rightStart, rightEnd, codesOf, part, partAhead, partsAhead, ahead, candidateAt, after, rest, first, cursorAfter}
 use Rattle.order.specs.Steps.{Rises, Within, Steps}
-use Rattle.order.proofs.Loops.{resume-in, resume-out}
+use Rattle.split.proofs.Loops.{resume-in, resume-out}
 use Rattle.order.proofs.Lists.{each-range}
 use Rattle.order.proofs.Sizes.{ahead-leaves, ahead-parts}
 use Rattle.order.proofs.Rest.{step-ahead}

@@ -1,21 +1,22 @@
 -- How many candidates can be left, whatever the cursor: so a count of them fits.
 -- Assumes nothing.
-use mathlib.Core.Path.{_≡_, refl, ap, _∙_}
+use mathlib.Core.Path.{_≡_}
 use mathlib.Core.Bool.{Bool, true, false, cond}
-use mathlib.Core.List.{List, [], _∷_, _++_}
-use Prim.Native.Nat.{ℕ, zero, suc, _+_, _-_, _*_, _/_, _≤_, _<_}
+use mathlib.Core.List.{List, [], _∷_}
+use Prim.Native.Nat.{ℕ, zero, suc, _+_, _-_, _*_, _/_, _≤_}
 use native.Mathlib.Omega.{arith}
 use native.Mathlib.Decide.{decLe}
 use native.Mathlib.Nat.{suc-mul, mul-le-mul, add-mul, one-mul}
-use lib.ListN.{length, getD, length-append, length-map}
+use lib.ListN.{length, length-append, length-map}
 use lib.Dec.{eqb, ltb}
 use borrow.Author.Tests.{lt-ltb, le-ltb}
-use Rattle.rules.specs.Lists.{each, count}
-use Rattle.order.specs.declared.Cursor.{Cursor}
-use Rattle.order.specs.Size.{Layer, range, leaves, start}
-use Rattle.order.specs.Ahead.{cursor, resume, twice, codeAt, both, oneRow, column, bothFrom, rowFrom, columnFrom, partFrom}
-use Rattle.order.specs.Ahead.{leftStart, leftEnd, rightStart, rightEnd, leavesAhead, codesIn, part, partAhead, partsAhead, ahead, rest}
-use Rattle.order.proofs.Leaves.{length-count, leaves-few}
+use Rattle.rules.specs.Lists.{each}
+use Rattle.split.specs.declared.Cursor.{Cursor}
+use Rattle.order.specs.Size.{Layer, leaves, start}
+use Rattle.split.specs.Split.{range, cursor, resume, twice, codeAt, both, oneRow, column, bothFrom, rowFrom, columnFrom, partFrom}
+use Rattle.order.specs.Ahead.{rightEnd, leavesAhead, codesIn, part, partAhead, partsAhead, ahead, rest}
+use Rattle.starts.proofs.Numbers.{length-count}
+use Rattle.order.proofs.Leaves.{leaves-few}
 
 -- ---- loops
 

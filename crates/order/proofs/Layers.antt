@@ -12,13 +12,14 @@ use lib.ListN.{length, getD, take}
 use borrow.Author.Tests.{lt-ltb, le-ltb}
 use Rattle.rules.specs.Limits.{mostSize}
 use Rattle.walk.specs.Walk.{Offer, Candidate, leftSizes, seed, unaryOn, binaryOn, layer}
-use Rattle.rules.specs.Lists.{each, count}
+use Rattle.rules.specs.Lists.{each}
 use Rattle.walk.specs.Walk as walk
 use Rattle.walk.proofs.Places.{sizeAt, placed, Split, unary-places, pair-places}
-use Rattle.order.specs.Size.{Cand, cand, Layer, range, commuting, leaves, orders, start, places, unaries, pairs, ofSize, candidates}
+use Rattle.split.specs.Split.{Cand, cand, range, commuting}
+use Rattle.order.specs.Size.{Layer, leaves, orders, start, places, unaries, pairs, ofSize, candidates}
 use Rattle.order.specs.Ahead.{rest, first}
-use Rattle.order.specs.Starts.{below, startsOf}
-use Rattle.order.proofs.Counting.{starts-at}
+use Rattle.starts.specs.Starts.{below, startsOf}
+use Rattle.starts.proofs.Counting.{starts-at}
 use Rattle.order.proofs.Rest.{rest-first}
 use Rattle.order.proofs.Lists.{map-append, map-each, map-map, each-map, each-range, each-codes, map-codes}
 

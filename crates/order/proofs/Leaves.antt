@@ -1,10 +1,10 @@
 -- The leaves from a position on.
 -- Assumes nothing.
 use mathlib.Core.Path.{_≡_, refl, sym, ap, _∙_}
-use mathlib.Core.Bool.{Bool, true, false, cond}
+use mathlib.Core.Bool.{Bool, true, false}
 use mathlib.Core.Logic.{inl, inr}
-use mathlib.Core.List.{List, [], _∷_, _++_, map}
-use Prim.Native.Nat.{ℕ, zero, suc, _+_, _-_, _≤_, _<_}
+use mathlib.Core.List.{List, [], map}
+use Prim.Native.Nat.{ℕ, suc, _+_, _-_, _≤_, _<_}
 use native.Mathlib.Omega.{arith}
 use native.Mathlib.Decide.{decLe}
 use lib.ListN.{length, getD, length-append, length-map, List·getD-append}
@@ -12,25 +12,16 @@ use lib.Seq.{getD-append-add}
 use lib.Dec.{eqb}
 use borrow.Author.Tests.{eq-eqb, ne-eqb, eqb-true, eqb-false}
 use Rattle.rules.specs.Lists.{count}
-use Rattle.order.specs.declared.Cursor.{Cursor}
-use Rattle.order.specs.declared.Step.{Step}
-use Rattle.order.specs.declared.Step.the-variants.{End}
-use Rattle.order.specs.Size.{Cand, cand, Layer, constantsIf, leaves}
-use Rattle.order.specs.Ahead.{leafCursor, told, leavesAhead, leafAt, afterLeaf}
+use Rattle.starts.proofs.Numbers.{length-count, getD-map-count}
+use Rattle.split.specs.declared.Cursor.{Cursor}
+use Rattle.split.specs.declared.Step.{Step}
+use Rattle.split.specs.declared.Step.the-variants.{End}
+use Rattle.split.specs.Split.{Cand, cand, told, Takes}
+use Rattle.order.specs.Size.{Layer, constantsIf, leaves}
+use Rattle.order.specs.Ahead.{leafCursor, leavesAhead, leafAt, afterLeaf}
 use Rattle.order.specs.Steps.{Safe}
-use Rattle.order.specs.Inner.{Takes, LeafIn, InLeaves}
-use Rattle.order.proofs.Loops.{range-cons, range-nil}
-
-pub length-count : (a n : ℕ) → length (count a n) ≡ n
-unfolding count
-length-count a zero = refl
-length-count a (suc n) = omega (arith, length-count (suc a) n)
-
-pub getD-map-count : {A : Type 0} (f : ℕ → A) (a n o : ℕ) (d : A) → o < n → getD (map f (count a n)) o d ≡ f (a + o)
-unfolding count
-getD-map-count f a zero o d h = absurd (omega arith)
-getD-map-count f a (suc n) zero d h = ap f (let e : a ≡ a + 0 = omega arith in e)
-getD-map-count f a (suc n) (suc o) d h = getD-map-count f (suc a) n o d (omega arith) ∙ ap f (let e : suc a + o ≡ a + suc o = omega arith in e)
+use Rattle.order.specs.Inner.{LeafIn, InLeaves}
+use Rattle.split.proofs.Loops.{range-cons, range-nil}
 
 module _ (m constants : ℕ) where
   abbrev named : List Cand

@@ -6,22 +6,20 @@ use mathlib.Core.List.{List, [], _∷_, _++_, map, append-nil}
 use Prim.Native.Nat.{ℕ, zero, suc, _+_, _-_, _/_, _≤_, _<_}
 use native.Mathlib.Omega.{arith}
 use native.Mathlib.Decide.{decLe}
-use native.Mathlib.Numerals.{add-one}
 use lib.ListN.{length, getD}
-use lib.Dec.{ltb}
 use borrow.Author.Tests.{lt-ltb, le-ltb}
 use Rattle.walk.specs.Walk.{leftSizes}
 use Rattle.rules.specs.Lists.{each, count}
-use Rattle.order.specs.declared.Cursor.{Cursor}
-use Rattle.order.specs.declared.Step.{Step}
-use Rattle.order.specs.declared.Step.the-variants.{Candidate, End}
+use Rattle.split.specs.declared.Cursor.{Cursor}
+use Rattle.split.specs.declared.Step.{Step}
+use Rattle.split.specs.declared.Step.the-variants.{Candidate, End}
 use Rattle.rules.specs.declared.kinds.Place.{Place}
-use Rattle.order.specs.Size.{Cand, cand, Layer, layerOf, range, commuting, leaves, orders, start, places, unaries, pairs, ofSize, candidates}
-use Rattle.order.specs.Ahead.{cursor, leafCursor, told, twice, codeAt, both, oneRow, column, candIn, leavesAhead}
-use Rattle.order.specs.Ahead.{leafAt, codesIn, part, partAhead, partsAhead, ahead, candidateAt, after, rest, first}
+use Rattle.split.specs.Split.{Cand, cand, range, commuting, cursor, told, both, oneRow, column, candIn}
+use Rattle.order.specs.Size.{Layer, layerOf, leaves, orders, start, unaries, pairs, ofSize, candidates}
+use Rattle.order.specs.Ahead.{leafCursor, leavesAhead, leafAt, codesIn, part, partAhead, partsAhead, ahead, candidateAt, after, rest, first}
 use Rattle.order.specs.Steps.{Rises, Safe, Within, Steps}
-use Rattle.order.proofs.Loops.{range-cons, range-nil, resume-fresh}
-use Rattle.order.proofs.Splits.{part-fresh}
+use Rattle.split.proofs.Loops.{range-cons, resume-fresh}
+use Rattle.split.proofs.Splits.{part-fresh}
 use Rattle.order.proofs.Sizes.{parts-out, ahead-leaves, ahead-parts, ahead-beyond, leaf-candidate, part-candidate}
 use Rattle.order.proofs.Lists.{map-append, map-each, map-map, each-range, each-single, positions, map-positions, each-positions}
 

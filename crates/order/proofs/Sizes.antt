@@ -11,19 +11,20 @@ use lib.ListN.{length, getD, List·getD-eq-default}
 use denote.Enum.Declared.{tagOf}
 use lib.Dec.{ltb}
 use borrow.Author.Tests.{lt-ltb, le-ltb, eq-eqb, ne-eqb}
-use Rattle.order.proofs.Step.{the-type}
+use Rattle.split.proofs.Step.{the-type}
 use Rattle.rules.specs.Lists.{each}
-use Rattle.order.specs.declared.Cursor.{Cursor}
-use Rattle.order.specs.declared.Part.{Part}
-use Rattle.order.specs.declared.Step.{Step}
-use Rattle.order.specs.declared.Step.the-variants.{End}
-use Rattle.order.specs.Size.{Cand, cand, Layer, range, leaves, start}
-use Rattle.order.specs.Ahead.{cursor, leafCursor, told, twice, codeAt, candIn, halfway, afterIn, leftStart, leftEnd, rightStart, rightEnd}
+use Rattle.split.specs.declared.Cursor.{Cursor}
+use Rattle.split.specs.declared.Part.{Part}
+use Rattle.split.specs.declared.Step.{Step}
+use Rattle.split.specs.declared.Step.the-variants.{End}
+use Rattle.split.specs.Split.{cand, range, cursor, candIn, halfway, afterIn, Takes, InPart, Stands}
+use Rattle.order.specs.Size.{Layer, start}
+use Rattle.order.specs.Ahead.{leafCursor, leftEnd, rightEnd}
 use Rattle.order.specs.Ahead.{leavesAhead, leafAt, afterLeaf, codesOf, codesIn, part, partAhead, partsAhead, ahead, candidateAt, after, first}
 use Rattle.order.specs.Steps.{Listed, Rises, Safe, Within, Steps}
-use Rattle.order.specs.Inner.{Takes, LeafIn, InLeaves, InPart, Stands, StandsIn, partOf, partStart, PartsTake}
-use Rattle.order.proofs.Loops.{resume-in, resume-out, resume-done, resume-fresh}
-use Rattle.order.proofs.Splits.{part-fresh}
+use Rattle.order.specs.Inner.{LeafIn, InLeaves, StandsIn, partOf, partStart, PartsTake}
+use Rattle.split.proofs.Loops.{resume-in, resume-out, resume-done, resume-fresh}
+use Rattle.split.proofs.Splits.{part-fresh}
 use Rattle.order.proofs.Leaves.{leaf-safe}
 
 -- ---- the splits

@@ -1,80 +1,17 @@
 -- The cursors at which a size's candidates stand, in the order of document 01, from any cursor on; and the candidate at each.
--- Every loop that a cursor stands in is a `resume`: what is left of its first turn, and the other turns whole.
 -- Assumes nothing.
-use mathlib.Core.Bool.{Bool, true, false, cond, not}
-use mathlib.Core.List.{List, [], _∷_, _++_, map}
+use mathlib.Core.Bool.{false, cond}
+use mathlib.Core.List.{List, [], map}
 use Prim.Native.Nat.{ℕ, zero, suc, _+_, _-_, _/_}
 use lib.ListN.{length, getD}
 use lib.Dec.{eqb, ltb}
 use Rattle.rules.specs.Lists.{each}
-use Rattle.order.specs.declared.Cursor.{Cursor}
-use Rattle.order.specs.declared.Step.{Step}
-use Rattle.order.specs.declared.Step.the-variants.{Candidate}
-use Rattle.order.specs.Size.{Cand, cand, Layer, range, commuting, leaves, start}
-
-abbrev pub cursor : ℕ → ℕ → ℕ → ℕ → Bool → Cursor
-cursor i l q o second = record { split = i; left = l; right = q; operator = o; second = second }
+use Rattle.split.specs.declared.Cursor.{Cursor}
+use Rattle.split.specs.Split.{cursor, resume, column, partFrom, candIn, afterIn, Cand, cand, range}
+use Rattle.order.specs.Size.{Layer, leaves, start}
 
 abbrev pub leafCursor : ℕ → Cursor
 leafCursor o = cursor 0 0 0 o false
-
--- a step that tells a candidate and the cursor after it
-abbrev pub told : Cand → Cursor → Step
-told c next = Candidate (c .code) (record { 0 = c .left }) (record { 0 = c .right }) next
-
--- a loop over the numbers from a to before b, of whose first turn g is left: g of a, and f of each of the others
-unfoldable pub resume : {A : Type 0} → (ℕ → List A) → (ℕ → List A) → ℕ → ℕ → List A
-resume g f a b = cond (ltb a b) (g a ++ each (range (a + 1) b) f) []
-
--- an operator over a pair of places comes twice where it doesn't commute; split 0 has the unary ones, which come once
-abbrev pub twice : ℕ → ℕ → Bool
-twice zero c = false
-twice (suc i) c = not (commuting c)
-
--- ---- a split i, over the operators with these codes
-
-module _ (codes : List ℕ) where
-  abbrev pub codeAt : ℕ → ℕ
-  codeAt o = getD codes o 0
-
-  -- the operator at position o over places l and q: "op(l, q), and if it doesn't commute, op(q, l)"
-  unfoldable pub both : ℕ → ℕ → ℕ → ℕ → List Cursor
-  both i l q o = cond (twice i (codeAt o)) (cursor i l q o false ∷ (cursor i l q o true ∷ [])) (cursor i l q o false ∷ [])
-
-  -- "for each .. operator in the given order"
-  abbrev pub oneRow : ℕ → ℕ → ℕ → List Cursor
-  oneRow i l q = each (range 0 (length codes)) (both i l q)
-
-  -- "for each kept q"
-  abbrev pub column : ℕ → ℕ → ℕ → ℕ → List Cursor
-  column i from to l = each (range from to) (oneRow i l)
-
-  -- what is left of each from a cursor on; a mark of a second order where there is none is not looked at
-  unfoldable pub bothFrom : Cursor → ℕ → ℕ → ℕ → List Cursor
-  bothFrom at l q o =
-      let i = at .split in
-      cond (twice i (codeAt o)) (cond (at .second) (cursor i l q o true ∷ []) (both i l q o)) (cursor i l q o false ∷ [])
-
-  abbrev pub rowFrom : Cursor → ℕ → ℕ → List Cursor
-  rowFrom at l q = resume (bothFrom at l q) (both (at .split) l q) (at .operator) (length codes)
-
-  abbrev pub columnFrom : ℕ → Cursor → ℕ → List Cursor
-  columnFrom to at l = resume (rowFrom at l) (oneRow (at .split) l) (at .right) to
-
-  -- "each kept l"
-  unfoldable pub partFrom : ℕ → ℕ → ℕ → Cursor → List Cursor
-  partFrom end from to at = resume (columnFrom to at) (column (at .split) from to) (at .left) end
-
-  -- the candidate at a cursor, and the cursor after it
-  abbrev pub candIn : Cursor → Cand
-  candIn at = cand (codeAt (at .operator)) (cond (at .second) (at .right) (at .left)) (cond (at .second) (at .left) (at .right))
-
-  abbrev pub halfway : Cursor → Bool
-  halfway at = cond (at .second) false (twice (at .split) (codeAt (at .operator)))
-
-  unfoldable pub afterIn : Cursor → Cursor
-  afterIn at =
-      cond (halfway at) (cursor (at .split) (at .left) (at .right) (at .operator) true) (cursor (at .split) (at .left) (at .right) (at .operator + 1) false)
 
 -- split 0 has the unary operators, the others the binary ones
 abbrev pub codesOf : List ℕ → List ℕ → ℕ → List ℕ

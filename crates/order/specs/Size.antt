@@ -1,22 +1,13 @@
 -- The candidates of a size in the order of document 01, "The walk", by places and codes alone: no matrix, no kept formula.
 -- Assumes nothing.
-use mathlib.Core.Bool.{Bool, true, false, cond, _&&_}
+use mathlib.Core.Bool.{Bool, true, false, cond}
 use mathlib.Core.List.{List, [], _∷_, _++_, map}
 use Prim.Native.Nat.{ℕ, zero, suc, _+_, _-_}
 use lib.ListN.{length, getD}
 use lib.Dec.{eqb, ltb}
-use Rattle.sequence.specs.Operators.{binaryCode, commutes, binaryOf}
 use Rattle.walk.specs.Walk.{leftSizes}
 use Rattle.rules.specs.Lists.{each, count}
-
--- a candidate's code and fields: "unused fields are 0, and a proposition's number is its left field"
-pub record Cand : Type 0 where
-  pub code : ℕ
-  pub left : ℕ
-  pub right : ℕ
-
-abbrev pub cand : ℕ → ℕ → ℕ → Cand
-cand c l r = record { code = c; left = l; right = r }
+use Rattle.split.specs.Split.{Cand, cand, range, commuting}
 
 -- what decides the candidates of a size: the size; the first place of each size, where the places of size t go from starts[t] to before
 -- starts[t + 1]; the number of propositions and the constants' mark; the operators' codes in their order
@@ -30,14 +21,6 @@ pub record Layer : Type 0 where
 
 abbrev pub layerOf : ℕ → List ℕ → ℕ → ℕ → List ℕ → List ℕ → Layer
 layerOf s starts m constants unary binary = record { size = s; starts = starts; propositions = m; constants = constants; unary = unary; binary = binary }
-
--- the numbers from a to before b
-unfoldable pub range : ℕ → ℕ → List ℕ
-range a b = count a (b - a)
-
--- "commuting mark": that of the binary operator with the code; no other code has one
-unfoldable pub commuting : ℕ → Bool
-commuting c = eqb (binaryCode (binaryOf c)) c && commutes (binaryOf c)
 
 -- "Size 1: propositions in order, then, if constants are asked for, false, then true"
 abbrev pub constantsIf : Bool → List Cand

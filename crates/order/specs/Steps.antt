@@ -7,11 +7,12 @@ use mathlib.Core.List.{List, [], _∷_}
 use Prim.Native.Nat.{ℕ, _≤_, _<_}
 use lib.ListN.{length, getD}
 use lib.Dec.{eqb}
-use Rattle.order.specs.declared.Cursor.{Cursor}
-use Rattle.order.specs.declared.Step.{Step}
-use Rattle.order.specs.declared.Step.the-variants.{End}
-use Rattle.order.specs.Size.{Cand, Layer, leaves, start}
-use Rattle.order.specs.Ahead.{codesIn, ahead, candidateAt, after, told}
+use Rattle.split.specs.declared.Cursor.{Cursor}
+use Rattle.split.specs.declared.Step.{Step}
+use Rattle.split.specs.declared.Step.the-variants.{End}
+use Rattle.split.specs.Split.{Cand, told}
+use Rattle.order.specs.Size.{Layer, leaves, start}
+use Rattle.order.specs.Ahead.{codesIn, ahead, candidateAt, after}
 
 -- the code stands in the list
 pub record Listed (codes : List ℕ) (c : ℕ) : Type 0 where

@@ -11,7 +11,7 @@ use Rattle.walk.specs.Walk.{found, none, full}
 use Rattle.walk.specs.Input.{Input}
 use Rattle.walk.specs.Kept.{Table}
 use Rattle.walk.specs.Promises.{FoundAs, Full, NoneBelow}
-use Rattle.candidate.specs.declared.counts.Counts.{Counts}
+use Rattle.counting.specs.declared.Counts.{Counts}
 use Rattle.table.specs.Slices.{Cols}
 use Rattle.search.specs.Promises.{Holding, CountedTo}
 use Rattle.out_search.specs.Search.{SearchDone}

@@ -14,9 +14,8 @@ use Rattle.rules.specs.Limits.{mostSessions, mostPropositions}
 use Rattle.formula.specs.Formula.{Leaf}
 use Rattle.formula.specs.Nodes.{leafCode}
 use Rattle.formula.specs.Rule.{IsUnary, IsBinary}
-use Rattle.loops.specs.Loops.{Filled}
-use Rattle.rows.specs.Rows.{Told, Reads, RowIs, RowsAsk, RowsAnswer}
-use Rattle.loops.specs.Loops.{UnaryRow, BinaryRow}
+use Rattle.loops.specs.Loops.{Filled, Told, UnaryRow, BinaryRow}
+use Rattle.rows.specs.Rows.{Reads, RowIs, RowsAsk, RowsAnswer}
 use Rattle.rows.specs.Inner.{part, UnaryAnswer, BinaryAnswer, LeafAnswer}
 use Rattle.loops.proofs.Filling.{filled-as}
 use Rattle.rows.proofs.Parts.{part-at}

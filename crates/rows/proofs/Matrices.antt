@@ -1,7 +1,7 @@
 -- A candidate's rows as a list: for an input that passes, they are the walk's matrix.
 -- Assumes nothing.
 use mathlib.Core.Path.{_≡_, refl, sym, ap, ap₂, _∙_, subst}
-use mathlib.Core.Bool.{Bool, true, false, true≢false}
+use mathlib.Core.Bool.{true, false, true≢false}
 use mathlib.Core.List.{List, [], _∷_, map}
 use Prim.Native.Nat.{ℕ, zero, suc, _+_, _*_, _≤_, _<_}
 use native.Mathlib.Omega.{arith}
@@ -24,8 +24,8 @@ use Rattle.walk.specs.Kept.{Table}
 use Rattle.walk.proofs.Reading.{row-rows}
 use Rattle.walk.proofs.Rows.{unary-row-means, binary-row-means, constant-row-means, unary-row-only, binary-row-only}
 use Rattle.loops.specs.Loops.{Filled}
-use Rattle.rows.specs.Rows.{MaskOf, Reads, RowIs, RowsAsk}
-use Rattle.rows.specs.Formulas.{matrixAt, LeafIn, Makes, made, Fine, Stored, Masks}
+use Rattle.rows.specs.Rows.{Reads, RowIs, RowsAsk}
+use Rattle.rows.specs.Formulas.{matrixAt, Makes, made, Fine, Stored, Masks}
 use Rattle.rows.specs.Promises.{MasksMade, RowsMade, MadeFine}
 use Rattle.rows.proofs.Candidates.{unary-is, binary-is, leaf-is}
 use Rattle.rows.proofs.Products.{place-end}

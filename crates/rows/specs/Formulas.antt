@@ -12,7 +12,7 @@ use Rattle.walk.specs.Walk.{Candidate}
 use Rattle.walk.specs.Input.{Input, row, offer}
 use Rattle.session.specs.Recording.{lengthOf}
 use Rattle.walk.specs.Kept.{Table}
-use Rattle.rows.specs.Rows.{MaskOf}
+use Rattle.masks.specs.Masks.{MaskOf}
 
 -- a formula beyond the list, never looked at
 abbrev pub nothing : Candidate (List ℕ)

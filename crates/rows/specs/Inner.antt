@@ -6,8 +6,8 @@ use mathlib.Core.List.{List, []}
 use Prim.Native.Nat.{ℕ, _+_, _-_, _*_, _≤_}
 use lib.ListN.{length, take, drop}
 use Rattle.rules.specs.Limits.{mostSessions}
-use Rattle.loops.specs.Loops.{Filled, UnaryRow, BinaryRow}
-use Rattle.rows.specs.Rows.{Told, Reads, RowIs}
+use Rattle.loops.specs.Loops.{Filled, Told, UnaryRow, BinaryRow}
+use Rattle.rows.specs.Rows.{Reads, RowIs}
 
 -- a slice has a word for each of r sessions
 pub record Long (r : ℕ) (slice : List ℕ) : Type 0 where

@@ -12,7 +12,7 @@ use Rattle.walk.specs.Input.{Input, separating, offer}
 use Rattle.walk.specs.Kept.{Table}
 use Rattle.walk.specs.Promises.{NoneBelow, Kept, DecidedAt, AgreeWhereRead, Wider}
 use Rattle.walk.specs.Promises as walk
-use Rattle.candidate.specs.declared.counts.Counts.{Counts}
+use Rattle.counting.specs.declared.Counts.{Counts}
 use Rattle.search.specs.declared.SearchAnswer.{SearchAnswer}
 use Rattle.search.specs.declared.SearchAnswer.the-variants.{Found, None, Full, Refused}
 use Rattle.search.specs.Table.{Cols, tableOver}

@@ -1,5 +1,5 @@
 // The search: the walk of document 01 over a table in lent slices (aux.rs, cache.rs, cm.rs), in one go: the search in slices with budget enough.
-use candidate::counts::Counts;
+use counting::Counts;
 use formula::kinds::Node;
 use slices::Resumed;
 use state::State;

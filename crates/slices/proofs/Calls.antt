@@ -21,7 +21,7 @@ use Rattle.walk.specs.Cut.{Cut, more, over}
 use Rattle.walk.specs.Kept.{begun, goOn}
 use Rattle.walk.proofs.Resume.{turns-add}
 use Rattle.order.specs.Ahead.{ahead, first, leafCursor, cursorAfter}
-use Rattle.order.proofs.Leaves.{length-count}
+use Rattle.starts.proofs.Numbers.{length-count}
 use Rattle.rows.proofs.Matrices.{length-map}
 use Rattle.table.specs.Slices.{Cols, tableOver}
 use Rattle.checks.specs.Refusals.{settingWrong, searchRows}

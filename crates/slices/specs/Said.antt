@@ -5,8 +5,8 @@ use Prim.Native.Nat.{ℕ}
 use Rattle.rules.specs.Answers.{Said}
 use Rattle.walk.specs.Walk.{Ending, found, full, none, State, going, ended}
 use Rattle.formula.specs.Nodes.{Node}
-use Rattle.candidate.specs.declared.counts.Counts.{Counts}
-pub use Rattle.candidate.specs.Counting.{tallyOf}
+use Rattle.counting.specs.declared.Counts.{Counts}
+pub use Rattle.counting.specs.Counting.{tallyOf}
 pub use Rattle.turns.specs.Standing.{counts}
 
 -- ---- the number and values of each case: 0 and the case, the size of FOUND and FULL, the counts (tried, kept), FOUND's root node, and the number dropped; or

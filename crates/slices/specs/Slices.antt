@@ -15,7 +15,7 @@ use Rattle.walk.specs.Cut.{Cut, more, over}
 use Rattle.walk.specs.Kept.{begun, goOn}
 use Rattle.order.specs.Ahead.{leafCursor}
 use Rattle.checks.specs.Refusals.{settingWrong, noRoom, codeWrong, searchRows}
-use Rattle.candidate.specs.declared.counts.Counts.{Counts}
+use Rattle.counting.specs.declared.Counts.{Counts}
 use Rattle.table.specs.Slices.{Cols}
 use Rattle.state.specs.declared.State.{State}
 use Rattle.state.specs.Row as row

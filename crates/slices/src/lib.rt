@@ -1,10 +1,10 @@
 // The search in slices (request E7): a call goes on from the state of the call before for at most so many candidates.
 mod good;
 
-use candidate::counts::Counts;
+use counting::Counts;
 use formula::kinds::Node;
-use order::Cursor;
 use rules::kinds::Place;
+use split::Cursor;
 use state::State;
 ghost use mathlib.Core.Path.{_≡_};
 ghost use Rattle.walk.specs.Input.{inputOf};

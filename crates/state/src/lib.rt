@@ -1,7 +1,7 @@
 // Where a search in slices stands (request E7), by value, and whether its numbers are in range.
-use candidate::counts::Counts;
+use counting::Counts;
 use formula::kinds::Node;
-use order::Cursor;
+use split::Cursor;
 ghost use Rattle.state.specs.Row.{stateWrong, Told};
 
 // The size, the cursor before its next candidate and the counts: with the table it is all that the next call needs to go on. `end` is 0 while the walk goes

@@ -7,8 +7,8 @@ use Prim.Native.Nat.{ℕ, _%_, _<_}
 use lib.Dec.{eqb, leb}
 use lib.ListN.{getD}
 use Rattle.formula.specs.declared.kinds.Node.{Node}
-use Rattle.order.specs.declared.Cursor.{Cursor}
-use Rattle.candidate.specs.declared.counts.Counts.{Counts}
+use Rattle.split.specs.declared.Cursor.{Cursor}
+use Rattle.counting.specs.declared.Counts.{Counts}
 use Rattle.state.specs.declared.State.{State}
 
 -- "a fresh state into its first 16 words"

@@ -1,8 +1,8 @@
 // The 16 words in which a C program keeps the state of a search in slices: how a state is written there, and how whatever stands there is read.
-use candidate::counts::Counts;
+use counting::Counts;
 use formula::kinds::Node;
-use order::Cursor;
 use rules::kinds::Place;
+use split::Cursor;
 use state::State;
 ghost use mathlib.Core.Path.{_≡_};
 ghost use Prim.Native.Nat.{_≤_};

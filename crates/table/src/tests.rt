@@ -5,7 +5,7 @@ ghost use lib.Dec.{eqb};
 ghost use Rattle.rules.specs.Lists.{count};
 ghost use Rattle.walk.specs.Rows.{acceptsRow};
 ghost use Rattle.walk.specs.Input.{every};
-ghost use Rattle.table.specs.Compare.{agreesAt};
+ghost use Rattle.table.specs.Acceptance.{agreesAt};
 ghost use Rattle.table.specs.Inner.{Long};
 
 // A session accepts what has bit 0 of its row set.

@@ -13,7 +13,7 @@ use Rattle.walk.specs.Input.{Input, Passes}
 use Rattle.walk.specs.Cut.{Cut, more, over}
 use Rattle.walk.specs.Kept.{Table, goOn}
 use Rattle.order.specs.Ahead.{ahead, first, cursorAfter}
-use Rattle.order.specs.Starts.{startsOf, below}
+use Rattle.starts.specs.Starts.{startsOf, below}
 use Rattle.order.proofs.Layers.{column-begins}
 use Rattle.rows.specs.Formulas.{nothing}
 use Rattle.rows.proofs.Matrices.{length-map}

@@ -1,6 +1,6 @@
 -- The laws behind the proofs, by subject.
 pub mod Fitting
-pub mod Verdicts
+pub mod Fates
 pub mod Making
 pub mod Settling
 pub mod Points

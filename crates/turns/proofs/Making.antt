@@ -17,7 +17,8 @@ use Rattle.rules.specs.Lists.{count}
 use Rattle.walk.specs.Input as walk
 use Rattle.walk.specs.Input.{Input, Passes, offer}
 use Rattle.walk.specs.Kept.{Table}
-use Rattle.order.specs.Size.{Cand, cand, start, commuting, leaves, constantsIf}
+use Rattle.split.specs.Split.{Cand, cand, commuting}
+use Rattle.order.specs.Size.{start, leaves, constantsIf}
 use Rattle.order.specs.Steps.{Listed, Safe}
 use Rattle.order.proofs.Layers as layers
 use Rattle.order.proofs.Lists.{map-append}

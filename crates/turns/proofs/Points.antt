@@ -12,9 +12,10 @@ use Rattle.walk.specs.Walk.{Candidate, going, kept, layer}
 use Rattle.walk.specs.Input.{Input, Passes, offer}
 use Rattle.walk.specs.Kept.{Table}
 use Rattle.walk.proofs.Places.{Split, split-push}
-use Rattle.order.specs.declared.Cursor.{Cursor}
-use Rattle.order.specs.declared.Step.the-variants.{Candidate as Told, End}
-use Rattle.order.specs.Size.{Cand, cand, start}
+use Rattle.split.specs.declared.Cursor.{Cursor}
+use Rattle.split.specs.declared.Step.the-variants.{Candidate as Told, End}
+use Rattle.split.specs.Split.{Cand, cand}
+use Rattle.order.specs.Size.{start}
 use Rattle.order.specs.Ahead.{ahead, candidateAt, rest, first, cursorAfter}
 use Rattle.order.specs.Steps.{Rises, Steps}
 use Rattle.order.proofs.Cursors.{after-step}
@@ -23,12 +24,14 @@ use Rattle.order.proofs.Rest.{step-left, step-safe, end-left}
 use Rattle.rows.specs.Formulas.{nothing, Makes}
 use Rattle.table.specs.Slices.{Cols}
 use Rattle.table.specs.Formulas.{HoldsKept}
-use Rattle.candidate.specs.declared.Verdict.{Verdict}
-use Rattle.candidate.specs.declared.Verdict.the-variants.{Found, Dropped, Full, Kept}
-use Rattle.candidate.specs.Judge.{comes, Posed, Does}
-use Rattle.candidate.specs.declared.counts.Counts.{Counts}
-use Rattle.candidate.specs.Counting.{tallyOf, countedBy}
-use Rattle.candidate.proofs.Tallies.{counts-are-walks}
+use Rattle.counting.specs.declared.Fate.{Fate}
+use Rattle.counting.specs.declared.Fate.the-variants.{Found, Full}
+use Rattle.counting.specs.declared.Fate.the-variants.{Dropped, Kept}
+use Rattle.counting.specs.Counting.{comes}
+use Rattle.candidate.specs.Judge.{Posed, Does}
+use Rattle.counting.specs.declared.Counts.{Counts}
+use Rattle.counting.specs.Counting.{tallyOf, countedBy}
+use Rattle.counting.proofs.Tallies.{counts-are-walks}
 use Rattle.turns.specs.Costs.{inAll}
 use Rattle.turns.specs.Standing.{layerAt, sizeAt, todo}
 use Rattle.turns.specs.Inner.{endAfter}
@@ -55,7 +58,7 @@ pub record PointAt (i : Input) (t₀ t : Cols) (starts : List ℕ) (s : ℕ) (at
 -- ---- what a candidate leaves, where the walk goes on: the table as it was, or with this formula
 
 -- the counts are the walk's, where they don't reach the largest number
-pub comes-going : (v : Verdict) → endAfter v ≡ 0 → (x : Candidate (List ℕ)) (k : Table) (n : Counts) → n .kept ≡ length k → n .tried + 1 < 2 ^ 64 → n .kept ≤ n .tried
+pub comes-going : (v : Fate) → endAfter v ≡ 0 → (x : Candidate (List ℕ)) (k : Table) (n : Counts) → n .kept ≡ length k → n .tried + 1 < 2 ^ 64 → n .kept ≤ n .tried
     → n .dropped ≤ n .tried → comes v x k (tallyOf n) ≡ going (kept (comes v x k (tallyOf n))) (tallyOf (countedBy v n))
 comes-going Found e x k n c f l d = absurd (omega (arith, e))
 comes-going Dropped e x k n c f l d = ap (going k) (sym (counts-are-walks Dropped n x k c f l d .0))
@@ -94,7 +97,7 @@ module _ {i : Input} {t₀ t t′ : Cols} {k : Table} {starts : List ℕ} {s kep
       begins = λ u l. split-push nothing k u (start starts u) x (w .begins u l) (omega (arith, size));
     }
 
-  pub standing-after : (v : Verdict) → endAfter v ≡ 0 → (n : Counts) → n .kept ≡ kept₀ → n .kept + 1 < 2 ^ 64 → HoldsKept i (kept (comes v x k (tallyOf n))) t₀ t′
+  pub standing-after : (v : Fate) → endAfter v ≡ 0 → (n : Counts) → n .kept ≡ kept₀ → n .kept + 1 < 2 ^ 64 → HoldsKept i (kept (comes v x k (tallyOf n))) t₀ t′
       → Standing i t₀ t′ (kept (comes v x k (tallyOf n))) starts s (countedBy v n .kept)
   standing-after Found e n c f h = absurd (omega (arith, e))
   standing-after Dropped e n c f h = record { counted = c ∙ w .counted; holds = h; rising = w .rising; small = w .small; begins = w .begins }
@@ -146,18 +149,18 @@ module _ {i : Input} (ok : Passes i) {t₀ t : Cols} {k : Table} {starts : List 
     pub posed : Posed i k (record { code = code; left = a; right = b; size = s }) (make i k s (cand code (a .0) (b .0)))
     posed = record { node-is = refl; makes = makes; matrix-is = made-written i k makes }
 
-    module _ {t′ : Cols} (v : Verdict) (goes : endAfter v ≡ 0) (kept-fits : n .kept + 1 < 2 ^ 64)
+    module _ {t′ : Cols} (v : Fate) (goes : endAfter v ≡ 0) (kept-fits : n .kept + 1 < 2 ^ 64)
         (y : Does i (record { code = code; left = a; right = b; size = s }) t₀ t′ k (make i k s (cand code (a .0) (b .0))) v) where
       shorter : length (rest (layerAt i s starts) at) ≡ 1 + length (rest (layerAt i s starts) next)
       shorter = ap length (step-left step) ∙ omega arith
 
-      fewer : (u : Verdict) → endAfter u ≡ 0 → countedBy u n .dropped ≤ countedBy u n .tried
+      fewer : (u : Fate) → endAfter u ≡ 0 → countedBy u n .dropped ≤ countedBy u n .tried
       fewer Found e = absurd (omega (arith, e))
       fewer Dropped e = omega (arith, w .dropped)
       fewer Full e = absurd (omega (arith, e))
       fewer Kept e = omega (arith, w .dropped, w .tried, shorter)
 
-      more-tried : (u : Verdict) → countedBy u n .tried ≤ n .tried + 1
+      more-tried : (u : Fate) → countedBy u n .tried ≤ n .tried + 1
       more-tried Found = omega arith
       more-tried Dropped = omega arith
       more-tried Full = omega arith

@@ -10,10 +10,11 @@ use lib.Dec.{eqb}
 use borrow.Author.Tests.{ne-eqb}
 use Rattle.rules.specs.Lists.{count}
 use Rattle.walk.specs.Input.{Input}
-use Rattle.order.specs.Size.{cand, leaves, constantsIf}
+use Rattle.split.specs.Split.{cand}
+use Rattle.order.specs.Size.{leaves, constantsIf}
 use Rattle.order.specs.Ahead.{codesOf}
 use Rattle.order.specs.Steps.{listLong}
-use Rattle.order.proofs.Leaves.{length-count}
+use Rattle.starts.proofs.Numbers.{length-count}
 use Rattle.rows.proofs.Matrices.{length-map}
 use Rattle.state.specs.Row.{listEnd}
 use Rattle.turns.specs.Standing.{layerAt}

@@ -20,15 +20,16 @@ use Rattle.walk.specs.Input.{Input, Passes, offer, inputOf}
 use Rattle.walk.specs.Cut.{Cut}
 use Rattle.walk.specs.Kept.{Table, goOn}
 use Rattle.walk.proofs.Places.{Split}
-use Rattle.order.specs.declared.Cursor.{Cursor}
-use Rattle.order.specs.declared.Step.{Step}
-use Rattle.order.specs.declared.Step.the-variants.{Candidate as Told, End}
-use Rattle.order.proofs.Step.{the-type as step-type}
-use Rattle.order.specs.Size.{cand, Layer, start}
+use Rattle.split.specs.declared.Cursor.{Cursor}
+use Rattle.split.specs.declared.Step.{Step}
+use Rattle.split.specs.declared.Step.the-variants.{Candidate as Told, End}
+use Rattle.split.proofs.Step.{the-type as step-type}
+use Rattle.split.specs.Split.{cand}
+use Rattle.order.specs.Size.{Layer, start}
 use Rattle.order.specs.Ahead.{ahead, rest, first, cursorAfter}
-use Rattle.order.specs.Starts.{startsOf}
+use Rattle.starts.specs.Starts.{startsOf}
 use Rattle.order.specs.Steps.{listLong, Within, Steps}
-use Rattle.order.proofs.Counting.{starts-long, starts-rise, starts-within}
+use Rattle.starts.proofs.Counting.{starts-long, starts-rise, starts-within}
 use Rattle.order.proofs.Cursors.{first-within, cursor-same, left-same, rest-same}
 use Rattle.order.proofs.Few.{rest-few}
 use Rattle.order.proofs.Layers.{column-begins}
@@ -39,11 +40,13 @@ use Rattle.rows.proofs.Products.{place-end}
 use Rattle.table.specs.Slices.{Cols}
 use Rattle.table.specs.Formulas.{HoldsKept, RoomAt}
 use Rattle.checks.specs.Promises.{RoomThere}
-use Rattle.candidate.specs.declared.Verdict.{Verdict}
-use Rattle.candidate.specs.declared.Verdict.the-variants.{Found, Dropped, Full, Kept}
-use Rattle.candidate.specs.Judge.{comes, Placed, Does, Judged}
-use Rattle.candidate.specs.Counting.{tallyOf, oneMore, countedBy}
-use Rattle.candidate.specs.declared.counts.Counts.{Counts}
+use Rattle.counting.specs.declared.Fate.{Fate}
+use Rattle.counting.specs.declared.Fate.the-variants.{Found, Full}
+use Rattle.counting.specs.declared.Fate.the-variants.{Dropped, Kept}
+use Rattle.counting.specs.Counting.{comes}
+use Rattle.candidate.specs.Judge.{Placed, Does, Judged}
+use Rattle.counting.specs.Counting.{tallyOf, oneMore, countedBy}
+use Rattle.counting.specs.declared.Counts.{Counts}
 use Rattle.state.specs.declared.State as value
 use Rattle.turns.specs.Costs.{operators, perSize, inAll}
 use Rattle.turns.specs.Standing.{noNode, counts, startsIn, layerAt, todo, StandsIn}
@@ -182,7 +185,7 @@ module _ (i : Input) (t₀ : Cols) {t′ : Cols} (target : Cut (List ℕ)) (s j 
 
   -- at a candidate of the size over the table k
   module _ (k : Table) (n : Counts) (c : n .kept ≡ length k) (f : n .tried + 1 < 2 ^ 64) (node : Node) (x : Candidate (List ℕ)) (e : x .node ≡ nodeOf node) (z : node .size ≡ s) where
-    stands-over : (v : Verdict) → (endAfter v ≡ 0 → ⊥) → Does i node t₀ t′ k x v → (st : State (List ℕ)) → st ≡ comes v x k (tallyOf n)
+    stands-over : (v : Fate) → (endAfter v ≡ 0 → ⊥) → Does i node t₀ t′ k x v → (st : State (List ℕ)) → st ≡ comes v x k (tallyOf n)
         → target ≡ goOn i a (settled i s j st) → StandsIn i t₀ target (overState s n v node) t′
     stands-over Found g w st is t =
         subst (λ (y : Cut (List ℕ)). StandsIn i t₀ y (overState s n Found node) t′)
@@ -213,7 +216,7 @@ pub record Grown (i : Input) (n after : Counts) : Type 0 where
   pub kept-tried : after .kept ≤ after .tried
   pub tried : after .tried ≤ n .tried + 1
 
-grown : {i : Input} (room-in : i .room ≤ mostRoom) (n : Counts) (t t′ : Cols) (v : Verdict) → n .kept ≤ i .room → n .kept ≤ n .tried → Placed (i .room) (n .kept) t t′ v
+grown : {i : Input} (room-in : i .room ≤ mostRoom) (n : Counts) (t t′ : Cols) (v : Fate) → n .kept ≤ i .room → n .kept ≤ n .tried → Placed (i .room) (n .kept) t t′ v
     → Grown i n (countedBy v n)
 grown r n t t′ Found a b p = record { kept-in = a; kept-more = omega arith; kept-one = omega arith; kept-tried = omega arith; tried = omega arith }
 grown r n t t′ Dropped a b p = record { kept-in = a; kept-more = omega arith; kept-one = omega arith; kept-tried = omega arith; tried = omega arith }
@@ -392,7 +395,7 @@ module _ {r m bound room constants : ℕ} {marks lengths words unary binary : Li
           ∙ turn-one i left (left - 1) _ (omega arith)
           ∙ ap (goOn i (left - 1)) (one-step i s j k (tallyOf n) (make i k s (cand code (l .0) (q .0))) (next-is ok p (v .low) reached (v .begun .rises) step))
 
-      module _ {masks rows : List ℕ} {u : Cols} (ms : Passes i → Masks i masks) (long : mostSessions ≤ length rows) {d : Verdict}
+      module _ {masks rows : List ℕ} {u : Cols} (ms : Passes i → Masks i masks) (long : mostSessions ≤ length rows) {d : Fate}
           (judged : Judged r m room marks words masks node (n .kept) rows t′ u d) where
         more-counted : Grown i n (countedBy d n)
         more-counted = grown (a .room-in) n t′ u d (v .kept-in) (v .kept-tried) (judged .placed)

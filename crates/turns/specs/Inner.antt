@@ -8,14 +8,15 @@ use lib.ListN.{length, replicate}
 use lib.Dec.{eqb}
 use Rattle.rules.specs.Limits.{mostSessions}
 use Rattle.formula.specs.declared.kinds.Node.{Node}
-use Rattle.order.specs.declared.Cursor.{Cursor}
+use Rattle.split.specs.declared.Cursor.{Cursor}
 use Rattle.order.specs.Ahead.{first, leafCursor}
-use Rattle.order.specs.Starts.{startsOf}
-use Rattle.rows.specs.Rows.{MasksAnswer}
-use Rattle.candidate.specs.declared.Verdict.{Verdict}
-use Rattle.candidate.specs.declared.Verdict.the-variants.{Found, Dropped, Full, Kept}
-use Rattle.candidate.specs.declared.counts.Counts.{Counts}
-use Rattle.candidate.specs.Counting.{countedBy}
+use Rattle.starts.specs.Starts.{startsOf}
+use Rattle.masks.specs.Masks.{MasksAnswer}
+use Rattle.counting.specs.declared.Fate.{Fate}
+use Rattle.counting.specs.declared.Fate.the-variants.{Found, Full}
+use Rattle.counting.specs.declared.Fate.the-variants.{Dropped, Kept}
+use Rattle.counting.specs.declared.Counts.{Counts}
+use Rattle.counting.specs.Counting.{countedBy}
 use Rattle.state.specs.declared.State.{State}
 use Rattle.turns.specs.declared.Start.{Start}
 use Rattle.turns.specs.Standing.{noNode}
@@ -31,7 +32,7 @@ abbrev pub noneState : ℕ → Counts → State
 noneState s n = endState s n 2 noNode
 
 -- after a candidate: `end` is 0 where the walk goes on, and FOUND's root is the candidate
-abbrev pub endAfter : Verdict → ℕ
+abbrev pub endAfter : Fate → ℕ
 endAfter Found = 1
 endAfter Dropped = 0
 endAfter Full = 3
@@ -40,10 +41,10 @@ endAfter Kept = 0
 abbrev pub rootAt : ℕ → Node → Node
 rootAt end node = cond (eqb end 1) node noNode
 
-abbrev pub overState : ℕ → Counts → Verdict → Node → State
+abbrev pub overState : ℕ → Counts → Fate → Node → State
 overState s n v node = endState s (countedBy v n) (endAfter v) (rootAt (endAfter v) node)
 
-abbrev pub afterState : ℕ → Counts → Cursor → Verdict → Node → State
+abbrev pub afterState : ℕ → Counts → Cursor → Fate → Node → State
 afterState s n next v node = cond (eqb (endAfter v) 0) (moreState s next (countedBy v n)) (overState s n v node)
 
 -- where the size after that of a state begins, and the state there

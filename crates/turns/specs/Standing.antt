@@ -10,13 +10,13 @@ use Rattle.walk.specs.Walk.{found, none, full, Tally, layer}
 use Rattle.walk.specs.Input.{Input, offer}
 use Rattle.walk.specs.Cut.{Cut, more, over}
 use Rattle.walk.specs.Kept.{Table}
-use Rattle.order.specs.declared.Cursor.{Cursor}
+use Rattle.split.specs.declared.Cursor.{Cursor}
 use Rattle.order.specs.Size.{Layer, layerOf}
 use Rattle.order.specs.Ahead.{ahead, rest, first, leafCursor, cursorAfter}
-use Rattle.order.specs.Starts.{startsOf}
+use Rattle.starts.specs.Starts.{startsOf}
 use Rattle.rows.specs.Formulas.{nothing, matrixAt, Fine}
 use Rattle.table.specs.Slices.{Cols, tableOver}
-use Rattle.candidate.specs.declared.counts.Counts.{Counts}
+use Rattle.counting.specs.declared.Counts.{Counts}
 use Rattle.state.specs.declared.State.{State}
 use Rattle.turns.specs.Costs.{perSize, inAll}
 

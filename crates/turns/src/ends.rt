@@ -1,10 +1,10 @@
-// The states that the loop answers: before a candidate, after the last one, and after one by its verdict.
-use candidate::Verdict;
-use candidate::counting::count;
-use candidate::counts::Counts;
+// The states that the loop answers: before a candidate, after the last one, and after one by its fate.
+use counting::Counts;
+use counting::Fate;
+use counting::count;
 use formula::kinds::Node;
-use order::Cursor;
 use rules::kinds::Place;
+use split::Cursor;
 use state::State;
 ghost use mathlib.Core.Path.{_≡_};
 ghost use Rattle.turns.specs.Standing.{noNode};
@@ -61,15 +61,15 @@ pub(crate) fn none(size: usize, counts: Counts) -> State
     end_of(size, counts, 2, no_node())
 }
 
-// What a verdict says of the walk's end: nothing yet, FOUND or FULL.
-fn end_after(verdict: Verdict) -> u64
-    ensures { λ r. ⌜ r ≡ endAfter verdict ⌝ }
+// What a fate says of the walk's end: nothing yet, FOUND or FULL.
+fn end_after(fate: Fate) -> u64
+    ensures { λ r. ⌜ r ≡ endAfter fate ⌝ }
 {
-    match verdict {
-        Verdict::Found => 1,
-        Verdict::Dropped => 0,
-        Verdict::Full => 3,
-        Verdict::Kept => 0,
+    match fate {
+        Fate::Found => 1,
+        Fate::Dropped => 0,
+        Fate::Full => 3,
+        Fate::Kept => 0,
     }
 }
 
@@ -84,17 +84,11 @@ fn root_at(end: u64, node: Node) -> Node
 }
 
 // The state after a candidate, which is counted: before the next one, or at the walk's end.
-pub(crate) fn after(
-    size: usize,
-    counts: Counts,
-    next: Cursor,
-    verdict: Verdict,
-    node: Node,
-) -> State
-    ensures { λ r. ⌜ r ≡ afterState size counts next verdict node ⌝ }
+pub(crate) fn after(size: usize, counts: Counts, next: Cursor, fate: Fate, node: Node) -> State
+    ensures { λ r. ⌜ r ≡ afterState size counts next fate node ⌝ }
 {
-    let counted = count(verdict, counts);
-    let end = end_after(verdict);
+    let counted = count(fate, counts);
+    let end = end_after(fate);
     if end == 0 {
         return more(size, next, counted);
     }

@@ -2,10 +2,10 @@
 mod ends;
 
 use formula::kinds::Node;
-use order::Cursor;
-use order::Step;
-use order::starts::COUNT;
-use order::starts::of_table;
+use split::Cursor;
+use split::Step;
+use starts::COUNT;
+use starts::of_table;
 use state::State;
 ghost use mathlib.Core.Path.{_≡_};
 ghost use mathlib.Core.Bool.{not};
@@ -45,7 +45,7 @@ fn masks_for(r: usize, lengths: &[u8]) -> [u64; rules::SESSIONS]
     ensures { λ masks. ⌜ Masked r (now (lengths .entry)) masks ⌝ }
 {
     let mut masks = [0u64; rules::SESSIONS];
-    rows::masks_of(r, lengths, &mut masks);
+    masks::masks_of(r, lengths, &mut masks);
     masks
 }
 
@@ -149,7 +149,7 @@ pub fn go_on(
             right: q,
             size: state.size as u8,
         };
-        let verdict = candidate::judge(
+        let fate = candidate::judge(
             r,
             m,
             room,
@@ -165,7 +165,7 @@ pub fn go_on(
             sizes,
             matrices,
         );
-        state = ends::after(state.size, state.counts, next, verdict, node);
+        state = ends::after(state.size, state.counts, next, fate, node);
         if state.end != 0 {
             return state;
         }

@@ -255,7 +255,7 @@ pub record SuperfluousBy {Mat : Type 0} (k before : List (Candidate Mat)) (c : C
   pub no-larger : getD k place c .node .size ≤ c .node .size
   pub earlier : getD k place c ∈ before
 
--- it was kept by then, so the comparison with what is kept so far answers that place (crate table, known-by)
+-- it was kept by then, so the comparison with what is kept so far answers that place (crate comparison, known-by)
 abbrev pub DroppedBy : Type 0
 DroppedBy = (i : Input) (e : Ending) (k : Table) (n : Tally) → search i ≡ ended e k n → (before : Table) (c : Candidate (List ℕ)) (d : Drops i before c)
     → (place : ℕ) × (place < length (d .so-far)) × SuperfluousBy k before c place

@@ -11,7 +11,7 @@ use Rattle.turns.specs.Standing.{todo}
 use Rattle.turns.specs.Inner.{endAfter, Masked}
 use Rattle.turns.proofs.Fitting.{pos-of-ne}
 use Rattle.turns.proofs.Rounds.{Loop, loop-start, stops-none, turn-size, less-size, stops-more, less-one, turn-goes-on, stops, ended-step, masked}
-use Rattle.turns.proofs.Verdicts.{after-end, after-more, after-over}
+use Rattle.turns.proofs.Fates.{after-end, after-more, after-over}
 use Rattle.turns.proofs.Cuts.{gone, not-gone}
 use Rattle.turns.proofs.go_on.Statement.{statement}
 use Rattle.turns.proofs.go_on.Tie as tie
