@@ -1,10 +1,9 @@
 -- `length` meets its contract, by the place below which the children stand.
 -- Assumes nothing.
-use mathlib.Core.Path.{_≡_}
 use mathlib.Core.Logic.{inl, inr}
 use native.Mathlib.Omega.{arith}
 use lib.ListN.{length}
-use Rattle.operators.proofs.Groups.{in-unary, in-binary, off-unary, off-binary}
+use Rattle.operators.proofs.Groups.{in-unary, in-binary, in-neither}
 use Rattle.formula.specs.Kinds.{nodeOf, nodes}
 use Rattle.names.specs.Names.{namesIn}
 use Rattle.formula.proofs.Faults.{left-under, right-under}
@@ -168,11 +167,10 @@ length-enum-told-3 : (t : ℕ) → length-lts.Need-enum-told-3 (calls t) (length
 length-enum-told-3 t c = search needs
 
 length-leaf-length-requires : (t : ℕ) → length-lts.Need-leaf-length-requires (calls t) (length-at t) length.Post
-length-leaf-length-requires t c κs = let f = c .before .before .operator-of in (
-  c .before .before .before .before .before .before .before .before .pre .1,
-  λ u. off-unary _ (f .result) (f .ensures) (λ g. let z : _≡_ {A = ℕ} 0 1 = cc (c .enum-told3 .given .1) in omega arith) (u .0) (u .1),
-  λ u. off-binary _ (f .result) (f .ensures) (λ g. let z : _≡_ {A = ℕ} 0 1 = cc (c .enum-told3 .given .1) in omega arith) (u .0) (u .1),
-)
+length-leaf-length-requires t c κs =
+    let f = c .before .before .operator-of in
+    let n = in-neither _ (f .result) (f .ensures) (c .enum-told3 .given .1) in
+    (c .before .before .before .before .before .before .before .before .pre .1, λ u. n .0 (u .0) (u .1), λ u. n .1 (u .0) (u .1))
 
 length-returns : (t : ℕ) → length-lts.Need-returns (calls t) (length-at t) length.Post
 length-returns t c = let s = c .before .before .before .before .before .before .before .before .before .before .before in

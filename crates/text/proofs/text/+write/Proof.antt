@@ -1,10 +1,9 @@
 -- `write` meets its contract, by the place below which the children stand.
 -- Assumes nothing.
-use mathlib.Core.Path.{_≡_}
 use mathlib.Core.Logic.{inl, inr}
 use native.Mathlib.Omega.{arith}
 use lib.ListN.{length}
-use Rattle.operators.proofs.Groups.{in-unary, in-binary, off-unary, off-binary}
+use Rattle.operators.proofs.Groups.{in-unary, in-binary, in-neither}
 use Rattle.formula.specs.Kinds.{nodeOf, nodes}
 use Rattle.names.specs.Names.{namesIn}
 use Rattle.formula.proofs.Faults.{left-under, right-under}
@@ -155,11 +154,10 @@ write-enum-told-3 : (t : ℕ) → write-lts.Need-enum-told-3 (calls t) (write-at
 write-enum-told-3 t c = search needs
 
 write-put-leaf-requires : (t : ℕ) → write-lts.Need-put-leaf-requires (calls t) (write-at t) write.Post
-write-put-leaf-requires t c κs = let f = c .before .before .before .operator-of in (
-  c .before .before .before .before .before .before .before .before .before .before .pre .1,
-  λ u. off-unary _ (f .result) (f .ensures) (λ g. let z : _≡_ {A = ℕ} 0 1 = cc (c .before .enum-told3 .given .1) in omega arith) (u .0) (u .1),
-  λ u. off-binary _ (f .result) (f .ensures) (λ g. let z : _≡_ {A = ℕ} 0 1 = cc (c .before .enum-told3 .given .1) in omega arith) (u .0) (u .1),
-)
+write-put-leaf-requires t c κs =
+    let f = c .before .before .before .operator-of in
+    let n = in-neither _ (f .result) (f .ensures) (c .before .enum-told3 .given .1) in
+    (c .before .before .before .before .before .before .before .before .before .before .pre .1, λ u. n .0 (u .0) (u .1), λ u. n .1 (u .0) (u .1))
 
 write-same-length : (t : ℕ) → write-lts.Need-same-length (calls t) (write-at t) write.Post
 write-same-length t c = search needs

@@ -1,9 +1,8 @@
 -- `eval` meets its contract, by the place below which the children stand: it falls with each call.
 -- Assumes nothing.
-use mathlib.Core.Path.{_≡_}
 use mathlib.Core.Logic.{inl, inr}
 use native.Mathlib.Omega.{arith}
-use Rattle.operators.proofs.Groups.{in-unary, in-binary, off-unary, off-binary}
+use Rattle.operators.proofs.Groups.{in-unary, in-binary, in-neither}
 use Rattle.formula.specs.Kinds.{nodeOf, nodes}
 use Rattle.formula.proofs.Faults.{left-under, right-under}
 use Rattle.verdict.proofs.Evaluation.{ready-at, word-of-unary, word-of-binary}
@@ -118,11 +117,10 @@ eval-enum-told-3 : (t : ℕ) → eval-lts.Need-enum-told-3 (calls t) (eval-at t)
 eval-enum-told-3 t c = search needs
 
 eval-leaf-requires : (t : ℕ) → eval-lts.Need-leaf-requires (calls t) (eval-at t) eval.Post
-eval-leaf-requires t c κs = let f = c .before .before .operator-of in (
-  c .before .before .before .before .before .before .before .before .pre .1,
-  λ u. off-unary _ (f .result) (f .ensures) (λ g. let z : _≡_ {A = ℕ} 0 1 = cc (c .enum-told3 .given .1) in omega arith) (u .0) (u .1),
-  λ u. off-binary _ (f .result) (f .ensures) (λ g. let z : _≡_ {A = ℕ} 0 1 = cc (c .enum-told3 .given .1) in omega arith) (u .0) (u .1),
-)
+eval-leaf-requires t c κs =
+    let f = c .before .before .operator-of in
+    let n = in-neither _ (f .result) (f .ensures) (c .enum-told3 .given .1) in
+    (c .before .before .before .before .before .before .before .before .pre .1, λ u. n .0 (u .0) (u .1), λ u. n .1 (u .0) (u .1))
 
 eval-returns : (t : ℕ) → eval-lts.Need-returns (calls t) (eval-at t) eval.Post
 eval-returns t c = let s = c .before .before .before .before .before .before .before .before .before .before .before .before in
