@@ -1,13 +1,14 @@
--- `put_before` meets its contract.
+-- `put_token` meets its contract.
 -- Assumes nothing.
 use mathlib.Core.Path.{sym}
 use mathlib.Core.List.{[], _∷_}
 use lib.ListN.{take}
 use lib.Seq.{length-take-le}
+use Rattle.text.specs.Text.{space}
 use Rattle.writing.proofs.Writing.{wrote-both}
 use borrow.Author.Needs.{needs}
-use Rattle.text.proofs.text.put_before.Statement.{statement}
-use Rattle.text.proofs.text.put_before.Tie as tie
+use Rattle.text.proofs.text.put_token.Statement.{statement}
+use Rattle.text.proofs.text.put_token.Tie as tie
 
 slice-aggregate-put : tie.Need-slice-aggregate-put
 slice-aggregate-put c = let s = c .before .before .before .before in sym (length-take-le (s .args .operator .bytes) (s .args .operator .token) (s .pre))
@@ -15,8 +16,8 @@ slice-aggregate-put c = let s = c .before .before .before .before in sym (length
 returns : tie.Need-returns
 returns c =
     let o = c .before .before .before .before .before .before .before .before .before .before .before .before .args .operator in
-    wrote-both (take (o .bytes) (o .token)) (32 ∷ 40 ∷ []) (c .before .before .before .before .before .before .before .put .ensures) (c .before .before .put2 .ensures)
+    wrote-both (take (o .bytes) (o .token)) (space ∷ []) (c .before .before .before .before .before .before .before .put .ensures) (c .before .before .put2 .ensures)
 
-pub put-before-spec : {M : Type 1} → statement M
-put-before-spec = tie.close (tie.spec
+pub put-token-spec : {M : Type 1} → statement M
+put-token-spec = tie.close (tie.spec
     (λ c. search needs) slice-aggregate-put (λ c κs. search needs) (λ c. search needs) (λ c κs. search needs) (λ c. search needs) returns)
