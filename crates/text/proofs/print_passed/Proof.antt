@@ -18,7 +18,8 @@ returns : tie.Need-returns
 returns c =
     let s = c .before .before .before .before .before .before .before .before .before .before in
     let a = s .args in
-    prints-three (a .names .now) (nodes (a .codes .now) (a .lefts .now) (a .rights .now) (a .sizes .now)) (nodeOf (a .root)) (a .room .now) (s .pre) refl (c .before .before .write .ensures) (c .if1 .taken)
+    prints-three (a .names .now) (nodes (a .codes .now) (a .lefts .now) (a .rights .now) (a .sizes .now)) (nodeOf (a .root)) (a .room .now) (s .pre) refl
+    (c .before .before .write .ensures) (c .if1 .taken)
 
 array-share-prefix-whole : tie.Need-array-share-prefix-whole
 array-share-prefix-whole c =
@@ -31,13 +32,15 @@ slice-aggregate-put c =
     let s = c .before .before .before .before .before .before .before .before .before .before .before .before in
     let a = s .args in
     sym (length-take-le (c .before .before .before .before .write .result) _
-    (text-ends (a .names .now) (nodes (a .codes .now) (a .lefts .now) (a .rights .now) (a .sizes .now)) (nodeOf (a .root)) (a .room .now) (s .pre) refl (c .before .before .before .before .write .ensures)))
+    (text-ends (a .names .now) (nodes (a .codes .now) (a .lefts .now) (a .rights .now) (a .sizes .now)) (nodeOf (a .root)) (a .room .now) (s .pre) refl
+    (c .before .before .before .before .write .ensures)))
 
 returns-2 : tie.Need-returns-2
 returns-2 c =
     let s = c .before .before .before .before .before .before .before .before .before .before .before .before .before .before .before in
     let a = s .args in
-    prints-text (a .names .now) (nodes (a .codes .now) (a .lefts .now) (a .rights .now) (a .sizes .now)) (nodeOf (a .root)) (a .room .now) (s .pre) refl (c .before .before .before .before .before .before .before .write .ensures) (c .before .before .before .before .before .if1 .left)
+    prints-text (a .names .now) (nodes (a .codes .now) (a .lefts .now) (a .rights .now) (a .sizes .now)) (nodeOf (a .root)) (a .room .now) (s .pre) refl
+    (c .before .before .before .before .before .before .before .write .ensures) (c .before .before .before .before .before .if1 .left)
     (c .before .before .put .ensures)
 
 pub print-passed-spec : {M : Type 1} → statement M
