@@ -7,9 +7,7 @@ use mathlib.Core.List.{List, [], _∷_, _++_, append-assoc}
 use Prim.Native.Nat.{ℕ, _≤_, _<_}
 use native.Mathlib.Omega.{arith}
 use lib.ListN.{length, getD}
-use Rattle.operators.specs.declared.Operator.{Operator}
 use Rattle.sequence.specs.Operators.{unaryToken}
-use Rattle.operators.specs.Table.{Listed}
 use Rattle.formula.specs.Formula.{leaf, unary, binary, proposition, constant, Formula}
 use Rattle.formula.specs.Nodes.{Node, nodeAt, Spells, codes}
 use Rattle.formula.proofs.Trees.{spells-size}
@@ -17,7 +15,7 @@ use Rattle.formula.specs.Rule.{IsUnary, IsBinary, propositionCode}
 use Rattle.text.specs.Text.{space, bracketed, text, leafText, mostText}
 use Rattle.names.specs.Names.{namesIn}
 use Rattle.writing.specs.Writing.{Wrote}
-use Rattle.text.specs.Inner.{Printable, Written, WrittenAt, spaced}
+use Rattle.text.specs.Inner.{Printable, Written, WrittenAt, spaced, TokenWritten, BetweenWritten}
 use Rattle.formula.proofs.Faults.{not-both, not-unary-leaf, not-binary-leaf, fits-small, left-fits, right-fits}
 use Rattle.formula.proofs.Spelled.{spelled}
 use Rattle.names.proofs.Starts.{short-names}
@@ -75,22 +73,22 @@ module _ (file : List ℕ) (k : List Node) where
     -- ---- operators
 
     -- what is written before the child, and the child
-    pub unary-written : (o : Operator) → Listed (nd .code) o → IsUnary (nd .code) → {l m n : List ℕ} {at a r : ℕ}
-        → Wrote l at (spaced o) m a → WrittenAt file k (nd .left) m a n r → Written file k nd l at n r
-    unary-written o ls u w v (leaf c) s = absurd (not-unary-leaf (nd .code) u (c, sym (s .0)))
-    unary-written o ls u w v (binary op x y) s = absurd (not-both (nd .code) u (op, sym (s .0)))
-    unary-written o ls u {l} {m} {n} {at} {a} {r} w v (unary op t) s =
+    pub unary-written : IsUnary (nd .code) → {l m n : List ℕ} {at a r : ℕ} → TokenWritten (nd .code) l at m a
+        → WrittenAt file k (nd .left) m a n r → Written file k nd l at n r
+    unary-written u w v (leaf c) s = absurd (not-unary-leaf (nd .code) u (c, sym (s .0)))
+    unary-written u w v (binary op x y) s = absurd (not-both (nd .code) u (op, sym (s .0)))
+    unary-written u {l} {m} {n} {at} {a} {r} (o, ls, w) v (unary op t) s =
         let b = bracketed (text (namesIn file) t) in
         let same : spaced o ++ b ≡ text (namesIn file) (unary op t) =
         ap (λ (y : List ℕ). (y ++ (space ∷ [])) ++ b) (unary-token o ls (op, sym (s .0)) .is) ∙ append-assoc (unaryToken op) (space ∷ []) b in
         subst (λ (y : List ℕ). Wrote l at y n r) same (wrote-both (spaced o) b w (v t (s .4)))
 
     -- the left child, what stands between, and the right child
-    pub binary-written : (o : Operator) → Listed (nd .code) o → IsBinary (nd .code) → {l0 l1 l2 l3 : List ℕ} {at a1 a2 r : ℕ}
-        → WrittenAt file k (nd .left) l0 at l1 a1 → Wrote l1 a1 (space ∷ spaced o) l2 a2 → WrittenAt file k (nd .right) l2 a2 l3 r → Written file k nd l0 at l3 r
-    binary-written o ls u v w z (leaf c) s = absurd (not-binary-leaf (nd .code) u (c, sym (s .0)))
-    binary-written o ls u v w z (unary op t) s = absurd (not-both (nd .code) (op, sym (s .0)) u)
-    binary-written o ls u {l0} {l1} {l2} {l3} {at} {a1} {a2} {r} v w z (binary op x y) s =
+    pub binary-written : IsBinary (nd .code) → {l0 l1 l2 l3 : List ℕ} {at a1 a2 r : ℕ}
+        → WrittenAt file k (nd .left) l0 at l1 a1 → BetweenWritten (nd .code) l1 a1 l2 a2 → WrittenAt file k (nd .right) l2 a2 l3 r → Written file k nd l0 at l3 r
+    binary-written u v w z (leaf c) s = absurd (not-binary-leaf (nd .code) u (c, sym (s .0)))
+    binary-written u v w z (unary op t) s = absurd (not-both (nd .code) (op, sym (s .0)) u)
+    binary-written u {l0} {l1} {l2} {l3} {at} {a1} {a2} {r} v (o, ls, w) z (binary op x y) s =
         let p = bracketed (text (namesIn file) x) in
         let q = bracketed (text (namesIn file) y) in
         let same : (p ++ (space ∷ spaced o)) ++ q ≡ text (namesIn file) (binary op x y) =

@@ -6,6 +6,7 @@ use mathlib.Core.List.{List, [], _∷_, _++_}
 use Prim.Native.Nat.{ℕ}
 use lib.ListN.{length, take}
 use Rattle.operators.specs.declared.Operator.{Operator}
+use Rattle.operators.specs.Table.{Listed}
 use Rattle.formula.specs.Formula.{Formula}
 use Rattle.formula.specs.Nodes.{Node, nodeAt, Spells, codes}
 use Rattle.formula.specs.Rule.{IsUnary, IsBinary, Broken}
@@ -43,6 +44,13 @@ LeafPrintable file node = (k : List Node) × Printable file k node × (IsUnary (
 abbrev pub LeafWritten : List ℕ → Node → List ℕ → ℕ → List ℕ → ℕ → Type 0
 LeafWritten file node old at new r = (k : List Node) → Written file k node old at new r
 
--- an operator's token and a space
+-- an operator's token and a space, by its row of the table
 abbrev pub spaced : Operator → List ℕ
 spaced o = take (o .bytes) (o .token) ++ (space ∷ [])
+
+abbrev pub TokenWritten : ℕ → List ℕ → ℕ → List ℕ → ℕ → Type 0
+TokenWritten code old at new r = (o : Operator) × Listed code o × Wrote old at (spaced o) new r
+
+-- and a space before it too
+abbrev pub BetweenWritten : ℕ → List ℕ → ℕ → List ℕ → ℕ → Type 0
+BetweenWritten code old at new r = (o : Operator) × Listed code o × Wrote old at (space ∷ spaced o) new r

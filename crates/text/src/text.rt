@@ -5,24 +5,22 @@ use formula::kinds::PROPOSITION;
 use formula::nodes::node_at;
 use names::lookup::letters;
 use operators::Group;
-use operators::Operator;
 use rules::kinds::Place;
 use rules::kinds::Proposition;
 use writing::put;
-ghost use Prim.Native.Nat.{_≤_, _<_};
-ghost use mathlib.Core.List.{[], _∷_};
+ghost use Prim.Native.Nat.{_<_};
+ghost use mathlib.Core.List.{[]};
 ghost use lib.ListN.{length, getD};
 ghost use Rattle.formula.specs.Kinds.{nodeOf, nodes};
 ghost use Rattle.names.specs.Names.{GoodNames, namesIn};
 ghost use Rattle.writing.specs.Writing.{Wrote};
-ghost use Rattle.text.specs.Text.{space};
-ghost use Rattle.text.specs.Inner.{Printable, Written, PrintableAt, WrittenAt, LeafPrintable, LeafWritten, spaced};
+ghost use Rattle.text.specs.Inner.{Printable, Written, PrintableAt, WrittenAt, LeafPrintable, LeafWritten, TokenWritten, BetweenWritten};
 
-// An operator's token, and the space after it.
-fn put_token(room: &mut [u8], at: usize, operator: Operator) -> usize
-    requires { ⌜ operator .bytes ≤ length (operator .token) ⌝ }
-    ensures { λ r. ⌜ Wrote (now (room .entry)) at (spaced operator) (now (room .exit)) r ⌝ }
+// The token of the operator with a code, and the space after it.
+fn put_token(room: &mut [u8], at: usize, code: u8) -> usize
+    ensures { λ r. ⌜ TokenWritten code (now (room .entry)) at (now (room .exit)) r ⌝ }
 {
+    let operator = operators::operator_of(code);
     let token = operator.token;
     let bytes = operator.bytes;
     let a = put(room, at, &token[..bytes]);
@@ -30,12 +28,11 @@ fn put_token(room: &mut [u8], at: usize, operator: Operator) -> usize
 }
 
 // The same between two children, where a space stands before it too.
-fn put_between(room: &mut [u8], at: usize, operator: Operator) -> usize
-    requires { ⌜ operator .bytes ≤ length (operator .token) ⌝ }
-    ensures { λ r. ⌜ Wrote (now (room .entry)) at (space ∷ spaced operator) (now (room .exit)) r ⌝ }
+fn put_between(room: &mut [u8], at: usize, code: u8) -> usize
+    ensures { λ r. ⌜ BetweenWritten code (now (room .entry)) at (now (room .exit)) r ⌝ }
 {
     let a = put(room, at, b" ");
-    put_token(room, a, operator)
+    put_token(room, a, code)
 }
 
 fn put_name(names: &[u8], p: usize, room: &mut [u8], at: usize) -> usize
@@ -98,16 +95,15 @@ pub(crate) fn write(
     ensures { λ r. ⌜ Written (now (names .entry)) (nodes (now (codes .entry)) (now (lefts .entry)) (now (rights .entry)) (now (sizes .entry)))
         (nodeOf node) (now (room .entry)) at (now (room .exit)) r ⌝ }
 {
-    let operator = operators::operator_of(node.code);
-    let group = operator.group;
+    let group = operators::operator_of(node.code).group;
     match group {
         Group::Unary => {
-            let a = put_token(room, at, operator);
+            let a = put_token(room, at, node.code);
             put_child(names, codes, lefts, rights, sizes, node.left, room, a)
         }
         Group::Binary => {
             let a = put_child(names, codes, lefts, rights, sizes, node.left, room, at);
-            let b = put_between(room, a, operator);
+            let b = put_between(room, a, node.code);
             put_child(names, codes, lefts, rights, sizes, node.right, room, b)
         }
         Group::Neither => put_leaf(names, node, room, at),

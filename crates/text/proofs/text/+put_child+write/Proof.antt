@@ -4,7 +4,6 @@ use mathlib.Core.Path.{sym, ap, subst}
 use mathlib.Core.Logic.{inl, inr}
 use native.Mathlib.Omega.{arith}
 use Rattle.operators.proofs.Groups.{in-unary, in-binary, in-neither}
-use Rattle.operators.proofs.Table.{token-fits}
 use Rattle.formula.specs.Nodes.{Node, nodeAt}
 use Rattle.formula.specs.Kinds.{nodeOf, nodes}
 use Rattle.text.specs.Inner.{Printable}
@@ -123,7 +122,7 @@ unary-returns : (t : ℕ) → write-lts.Need-returns (write-calls t) (write-at t
 unary-returns t c =
     let a = c .before .before .before .before .before .before .before .before .before .before .before .before .before .before .before .before .before .args in
     let f = c .before .before .before .before .before .before .before .before .before .before .operator-of in
-    unary-written (a .names .now) (nodes (a .codes .now) (a .lefts .now) (a .rights .now) (a .sizes .now)) (nodeOf (a .node)) (f .result) (f .ensures)
+    unary-written (a .names .now) (nodes (a .codes .now) (a .lefts .now) (a .rights .now) (a .sizes .now)) (nodeOf (a .node))
     (in-unary _ (f .result) (f .ensures) (c .before .before .before .before .before .before .before .before .enum-told .given .1))
     (c .before .before .before .before .before .before .put-token .ensures) (c .before .before .put-child .ensures)
 
@@ -131,7 +130,7 @@ binary-returns : (t : ℕ) → write-lts.Need-returns-2 (write-calls t) (write-a
 binary-returns t c =
     let a = c .before .before .before .before .before .before .before .before .before .before .before .before .before .before .before .before .before .before .before .before .before .args in
     let f = c .before .before .before .before .before .before .before .before .before .before .before .before .before .before .operator-of in
-    binary-written (a .names .now) (nodes (a .codes .now) (a .lefts .now) (a .rights .now) (a .sizes .now)) (nodeOf (a .node)) (f .result) (f .ensures)
+    binary-written (a .names .now) (nodes (a .codes .now) (a .lefts .now) (a .rights .now) (a .sizes .now)) (nodeOf (a .node))
     (in-binary _ (f .result) (f .ensures) (c .before .before .before .before .before .before .before .before .before .before .before .before .enum-told2 .given .1))
     (c .before .before .before .before .before .before .before .before .before .before .put-child2 .ensures) (c .before .before .before .before .before .before .put-between .ensures)
     (c .before .before .put-child3 .ensures)
@@ -142,7 +141,7 @@ pub +put-child+write-spec : {M : Type 1} → statement M
     (λ c. search needs) (λ c κs. search needs) (λ c. search needs) (λ c κs. search needs) (child-requires t) (λ c. search needs) (λ c κs. search needs)
     (λ c. search needs) (child-returns t))
     λ t. write-lts.spec (write-calls t) (write-at t) write.Post
-    (λ c κs. search needs) (λ c. search needs) (λ c κs. token-fits (c .before .before .before .operator-of .ensures)) (left-requires t) (λ c. search needs)
-    (one-requires t) (λ c κs. token-fits (c .before .before .before .before .before .before .before .operator-of .ensures)) (other-requires t)
+    (λ c κs. search needs) (λ c. search needs) (λ c κs. search needs) (left-requires t) (λ c. search needs)
+    (one-requires t) (λ c κs. search needs) (other-requires t)
     (λ c. search needs) (leaf-requires t) (λ c. search needs) (unary-returns t) (λ c. search needs) (binary-returns t) (λ c. search needs)
     (λ c. c .before .before .put-leaf .ensures _)

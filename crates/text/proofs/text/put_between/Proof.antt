@@ -10,9 +10,9 @@ use Rattle.text.proofs.text.put_between.Tie as tie
 
 returns : tie.Need-returns
 returns c =
-    wrote-both (space ∷ []) (spaced (c .before .before .before .before .before .before .before .before .before .before .args .operator))
-    (c .before .before .before .before .before .before .put .ensures) (c .before .before .put-token .ensures)
+    let t = c .before .before .put-token .ensures in
+    (t .0, t .1, wrote-both (space ∷ []) (spaced (t .0)) (c .before .before .before .before .before .before .put .ensures) (t .2))
 
 pub put-between-spec : {M : Type 1} → statement M
 put-between-spec = tie.close (tie.spec
-    (λ c. search needs) (λ c κs. search needs) (λ c κs. c .before .before .before .before .before .before .before .pre) (λ c. search needs) returns)
+    (λ c. search needs) (λ c κs. search needs) (λ c κs. search needs) (λ c. search needs) returns)
