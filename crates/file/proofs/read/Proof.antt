@@ -48,9 +48,9 @@ add-codes c =
 
 fill-bytes-requires : tie.Need-fill-bytes-requires
 fill-bytes-requires c κs =
-    let at-enough = c .before .before in
-    let k = told (at-enough .before) in
-    (omega arith, at-enough .enough .ensures .fits (c .before .if1 .taken) .0, omega (arith, k .room))
+    let at-if1 = c .before in
+    let k = told (at-if1 .before .before) in
+    (omega arith, at-if1 .before .enough .ensures .fits (at-if1 .if1 .taken) .0, omega (arith, k .room))
 
 add-fill-bytes : tie.Need-add-fill-bytes
 add-fill-bytes c =
@@ -61,15 +61,15 @@ add-fill-bytes c =
 
 fill-bytes-requires-2 : tie.Need-fill-bytes-requires-2
 fill-bytes-requires-2 c κs =
-    let at-enough = c .before .before .before .before .before .before in
-    let k = told (at-enough .before) in
-    (omega arith, at-enough .enough .ensures .fits (c .before .before .before .before .before .if1 .taken) .1, omega (arith, k .room))
+    let at-if1 = c .before .before .before .before .before in
+    let k = told (at-if1 .before .before) in
+    (omega arith, at-if1 .before .enough .ensures .fits (at-if1 .if1 .taken) .1, omega (arith, k .room))
 
 fill-words-requires : tie.Need-fill-words-requires
 fill-words-requires c κs =
-    let at-enough = c .before .before .before .before .before .before .before .before .before .before in
-    let k = told (at-enough .before) in
-    (at-enough .enough .ensures .fits (c .before .before .before .before .before .before .before .before .before .if1 .taken) .2, omega (arith, k .room))
+    let at-if1 = c .before .before .before .before .before .before .before .before .before in
+    let k = told (at-if1 .before .before) in
+    (at-if1 .before .enough .ensures .fits (at-if1 .if1 .taken) .2, omega (arith, k .room))
 
 add-fill-bytes-2 : tie.Need-add-fill-bytes-2
 add-fill-bytes-2 c =
@@ -80,9 +80,9 @@ add-fill-bytes-2 c =
 
 fill-bytes-requires-3 : tie.Need-fill-bytes-requires-3
 fill-bytes-requires-3 c κs =
-    let at-enough = c .before .before .before .before .before .before .before .before .before .before .before .before .before .before in
-    let k = told (at-enough .before) in
-    (omega arith, at-enough .enough .ensures .fits (c .before .before .before .before .before .before .before .before .before .before .before .before .before .if1 .taken) .3, omega (arith, k .room))
+    let at-if1 = c .before .before .before .before .before .before .before .before .before .before .before .before .before in
+    let k = told (at-if1 .before .before) in
+    (omega arith, at-if1 .before .enough .ensures .fits (at-if1 .if1 .taken) .3, omega (arith, k .room))
 
 add-fill-bytes-3 : tie.Need-add-fill-bytes-3
 add-fill-bytes-3 c =
@@ -100,9 +100,9 @@ add-fill-bytes-4 c =
 
 fill-bytes-requires-4 : tie.Need-fill-bytes-requires-4
 fill-bytes-requires-4 c κs =
-    let at-enough = c .before .before .before .before .before .before .before .before .before .before .before .before .before .before .before .before .before .before in
-    let k = told (at-enough .before) in
-    (omega arith, at-enough .enough .ensures .fits (c .before .before .before .before .before .before .before .before .before .before .before .before .before .before .before .before .before .if1 .taken) .4, omega (arith, k .room))
+    let at-if1 = c .before .before .before .before .before .before .before .before .before .before .before .before .before .before .before .before .before in
+    let k = told (at-if1 .before .before) in
+    (omega arith, at-if1 .before .enough .ensures .fits (at-if1 .if1 .taken) .4, omega (arith, k .room))
 
 returns : tie.Need-returns
 returns c =
