@@ -19,14 +19,15 @@ use Rattle.grammar.proofs.Peeks.{some}
 use Rattle.grammar.proofs.Passage as passage
 use Rattle.tokens.specs.declared.operator.Op.{Op}
 use Rattle.tokens.specs.declared.operator.Op.the-variants.{Is, Nothing, Cut}
-use Rattle.tokens.specs.declared.front.First.{First}
-use Rattle.tokens.specs.declared.front.First.the-variants.{Operator as PrefixOperator, Open, Word as LeafWord, Bad as NoOperand}
+use Rattle.operand.specs.declared.First.{First}
+use Rattle.operand.specs.declared.First.the-variants.{Operator as PrefixOperator, Open, Word as LeafWord, Bad as NoOperand}
 use Rattle.descent.specs.declared.Got.{Got}
 use Rattle.descent.specs.declared.Got.the-variants.{Val, Bad}
 use Rattle.descent.specs.declared.closing.End.{End}
 use Rattle.descent.specs.declared.closing.End.the-variants.{At, Bad as NoEnd}
 use Rattle.names.specs.Names.{namesIn, GoodNames}
-use Rattle.tokens.specs.Next.{PeekSaid, Operator, Fronts}
+use Rattle.tokens.specs.Next.{PeekSaid, Operator}
+use Rattle.operand.specs.Front.{Fronts}
 use Rattle.descent.specs.Packed.{codesBy, pack, packs, mostField}
 use Rattle.descent.specs.Inner.{LeafFields}
 use Rattle.descent.specs.Answers.{Closing, Infix, More, Prefix, Bracket, Ending, Fits, Whole}

@@ -11,7 +11,7 @@ use sections::sessions::sessions_section;
 ghost use mathlib.Core.Path.{_≡_};
 ghost use Prim.Native.Nat.{_+_, _<_};
 ghost use Rattle.file.specs.Reading.{said, after, lent, readOf};
-ghost use Rattle.file.specs.Inner.{tailOf, tailAt, answerOf};
+ghost use Rattle.file.specs.Inner.{tailOf, tailAt, answerOf, Enough};
 
 // Document 01's numbers for a file; for the contracts they are in sections' specs/Numbers.antt. The count is the file's own, since a later request raises
 // the library's alone.
@@ -116,6 +116,38 @@ fn judge(file: &[u8]) -> ReadAnswer
     }
 }
 
+// Whether slices of these lengths have room for r sessions, n words, u codes and v codes.
+fn enough(
+    marks: usize,
+    lengths: usize,
+    words: usize,
+    unary: usize,
+    binary: usize,
+    r: usize,
+    n: usize,
+    u: usize,
+    v: usize,
+) -> bool
+    ensures { λ b. ⌜ Enough marks lengths words unary binary r n u v b ⌝ }
+{
+    if marks < r {
+        return false;
+    }
+    if lengths < r {
+        return false;
+    }
+    if words < n {
+        return false;
+    }
+    if unary < u {
+        return false;
+    }
+    if binary < v {
+        return false;
+    }
+    true
+}
+
 // Reads a session file into lent slices: marks and lengths, one a session; words, m a session; the codes of each group. The whole file is judged before
 // anything is written: a broken one, or too little room, leaves all slices as they were. The names are not copied: they are the file's first bytes.
 pub fn read(
@@ -140,30 +172,28 @@ pub fn read(
             constants: _,
             bound: _,
         } => {
-            if marks.len() < r {
-                return ReadAnswer::Room;
+            if enough(
+                marks.len(),
+                lengths.len(),
+                words.len(),
+                unary.len(),
+                binary.len(),
+                r,
+                m * r,
+                u,
+                v,
+            ) {
+                let stride = 2 + 8 * m;
+                let at = names + 1;
+                let codes = at + r * stride;
+                fill_bytes(marks, file, at, stride, r);
+                fill_bytes(lengths, file, at + 1, stride, r);
+                fill_words(words, file, at, m, r);
+                fill_bytes(unary, file, codes + 1, 1, u);
+                fill_bytes(binary, file, codes + u + 2, 1, v);
+                return answer;
             }
-            if lengths.len() < r {
-                return ReadAnswer::Room;
-            }
-            if words.len() < m * r {
-                return ReadAnswer::Room;
-            }
-            if unary.len() < u {
-                return ReadAnswer::Room;
-            }
-            if binary.len() < v {
-                return ReadAnswer::Room;
-            }
-            let stride = 2 + 8 * m;
-            let at = names + 1;
-            let codes = at + r * stride;
-            fill_bytes(marks, file, at, stride, r);
-            fill_bytes(lengths, file, at + 1, stride, r);
-            fill_words(words, file, at, m, r);
-            fill_bytes(unary, file, codes + 1, 1, u);
-            fill_bytes(binary, file, codes + u + 2, 1, v);
-            answer
+            ReadAnswer::Room
         }
         ReadAnswer::Broken(o) => ReadAnswer::Broken(o),
         // the judging pass is lent no room, so that it never says this

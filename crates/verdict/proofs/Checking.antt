@@ -60,9 +60,8 @@ module _ (i : Recording) (k : List Node) (root : Node) where
       let w = c .words-there in
       omega (arith, suc-mul j (i .propositions), mul-comm (i .sessions) (i .propositions))
 
-  pub ready-for : Checkable i k root → (j from : ℕ) → j < i .sessions → from ≡ j * i .propositions → (below : ℕ) → below ≡ length k
-      → Ready (lengthOf i j) (i .words) from k below root
-  ready-for c j from h e below l =
+  pub ready-for : Checkable i k root → (j from : ℕ) → j < i .sessions → from ≡ j * i .propositions → Ready (lengthOf i j) (i .words) from k root
+  ready-for c j from h e =
       record {
         short = c .short j h;
         propositions = i .propositions;
@@ -70,8 +69,7 @@ module _ (i : Recording) (k : List Node) (root : Node) where
         there = words-room c j from h e;
         clear = λ p q. subst (λ (f : ℕ). Wf (lengthOf i j) (getD (i .words) (f + p) 0)) (sym e) (c .clear j p h q);
         all = c .all;
-        within = omega arith;
-        fits = subst (λ (b : ℕ). Fits (i .propositions) k b root) (sym l) (c .fits);
+        fits = c .fits;
       }
 
   -- ---- the sessions one after the other

@@ -1,13 +1,13 @@
-// What stands where an operand is awaited.
-use crate::bytes;
+// What stands where an operand is awaited: a prefix operator, an opening bracket or a leaf.
 use spelling::letter::is_letter;
 use spelling::letter::is_name_byte;
+use tokens::bytes;
 ghost use mathlib.Core.Path.{_≡_};
 ghost use mathlib.Core.Bool.{true};
 ghost use Prim.Native.Nat.{_≤_, _<_, _+_};
 ghost use lib.ListN.{length, getD};
 ghost use Rattle.names.specs.Names.{isLetter};
-ghost use Rattle.tokens.specs.Next.{Front, Fronts, Ran, Strong};
+ghost use Rattle.operand.specs.Front.{Front, Fronts, Ran, Strong};
 
 // A prefix operator, an opening bracket or a leaf, up to its end; or no operand.
 pub enum First {

@@ -3,11 +3,11 @@
 use mathlib.Core.Path.{sym, _∙_}
 use native.Mathlib.Omega.{arith}
 use Rattle.names.specs.Names.{isNameByte}
 use Rattle.tokens.proofs.Operators.{inside}
-use Rattle.tokens.proofs.Fronts.{of-byte, word-long, word-strong, word-next, word-finally, word-globally, word-until, word-release, word-leaf}
+use Rattle.operand.proofs.Fronts.{of-byte, word-long, word-strong, word-next, word-finally, word-globally, word-until, word-release, word-leaf}
 use borrow.Author.Needs.{needs}
-use Rattle.tokens.proofs.front.word.Statement.{statement}
-use Rattle.tokens.proofs.front.word.Tie as tie
+use Rattle.operand.proofs.word.Statement.{statement}
+use Rattle.operand.proofs.word.Tie as tie
 
 returns : tie.Need-returns
 returns c =

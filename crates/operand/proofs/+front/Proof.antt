@@ -5,18 +5,18 @@ use mathlib.Core.Path.{_≡_, sym, _∙_}
 use native.Mathlib.Omega.{arith}
 use lib.ListN.{length, getD}
 use Rattle.names.specs.Names.{isLetter}
-use Rattle.tokens.proofs.Fronts.{of-byte, front-past, front-inside, front-blank, front-bang, front-open, front-none}
+use Rattle.operand.proofs.Fronts.{of-byte, front-past, front-inside, front-blank, front-bang, front-open, front-none}
 use Prim.Native.Nat.{ℕ, _<_, _-_}
 use borrow.Fn.Kinds.{In}
 use borrow.Fn.PlainCycle.{Measures, is, falls, and}
-use Rattle.tokens.proofs.front.front.Reads as front
-use Rattle.tokens.proofs.front.front.Kinds as front-kinds
-use Rattle.tokens.proofs.front.+front.Lts-front as front-lts
+use Rattle.operand.proofs.front.Reads as front
+use Rattle.operand.proofs.front.Kinds as front-kinds
+use Rattle.operand.proofs.+front.Lts-front as front-lts
 use Rattle.tokens.proofs.bytes.byte.Reads as byte-reads
 use Rattle.spelling.proofs.letter.is_letter.Reads as is-letter-reads
-use Rattle.tokens.proofs.front.word.Reads as word-reads
-use Rattle.tokens.proofs.front.+front.{statement}
-use Rattle.tokens.proofs.front.+front.Tie.{close}
+use Rattle.operand.proofs.word.Reads as word-reads
+use Rattle.operand.proofs.+front.{statement}
+use Rattle.operand.proofs.+front.Tie.{close}
 
 abbrev μ-front : Measures 1 front-kinds.ps ℕ
 μ-front κs a = length (a .0 .now) - a .1 .0

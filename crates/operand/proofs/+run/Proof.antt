@@ -3,17 +3,17 @@
 use Rattle.names.specs.Names.{isNameByte}
 use borrow.Author.Needs.{needs}
 use native.Mathlib.Omega.{arith}
-use Rattle.tokens.proofs.Fronts.{of-byte, word-inside, run-full, run-stops, run-on}
+use Rattle.operand.proofs.Fronts.{of-byte, word-inside, run-full, run-stops, run-on}
 use Prim.Native.Nat.{ℕ, _<_, _+_, _-_}
 use borrow.Fn.Kinds.{In}
 use borrow.Fn.PlainCycle.{Measures, is, falls, and}
-use Rattle.tokens.proofs.front.run.Reads as run
-use Rattle.tokens.proofs.front.run.Kinds as run-kinds
-use Rattle.tokens.proofs.front.+run.Lts-run as run-lts
+use Rattle.operand.proofs.run.Reads as run
+use Rattle.operand.proofs.run.Kinds as run-kinds
+use Rattle.operand.proofs.+run.Lts-run as run-lts
 use Rattle.tokens.proofs.bytes.byte.Reads as byte-reads
 use Rattle.spelling.proofs.letter.is_name_byte.Reads as is-name-byte-reads
-use Rattle.tokens.proofs.front.+run.{statement}
-use Rattle.tokens.proofs.front.+run.Tie.{close}
+use Rattle.operand.proofs.+run.{statement}
+use Rattle.operand.proofs.+run.Tie.{close}
 
 abbrev μ-run : Measures 1 run-kinds.ps ℕ
 μ-run κs a = (a .1 .0 + 16) - a .1 .1 .0

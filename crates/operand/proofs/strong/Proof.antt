@@ -3,11 +3,11 @@
 use mathlib.Core.Path.{sym, _∙_}
 use Prim.Native.Nat.{_+_}
 use native.Mathlib.Omega.{arith}
 use Rattle.tokens.proofs.Operators.{inside}
-use Rattle.tokens.proofs.Fronts.{strong-is, strong-cut, strong-not}
+use Rattle.operand.proofs.Fronts.{strong-is, strong-cut, strong-not}
 use borrow.Author.Needs.{needs}
-use Rattle.tokens.proofs.front.strong.Statement.{statement}
-use Rattle.tokens.proofs.front.strong.Tie as tie
+use Rattle.operand.proofs.strong.Statement.{statement}
+use Rattle.operand.proofs.strong.Tie as tie
 
 add-byte : tie.Need-add-byte
 add-byte c =

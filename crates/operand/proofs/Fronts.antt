@@ -22,10 +22,10 @@ use Rattle.spelling.proofs.Same.{same-eq}
 use Rattle.grammar.proofs.Words.{KindIs, kind-is, kind-word, letter-word, ClassIs, class-is}
 use Rattle.grammar.proofs.Complete.{NoSquare}
 use Rattle.grammar.proofs.Passage as passage
-use Rattle.tokens.specs.declared.front.First.{First}
-use Rattle.tokens.specs.declared.front.First.the-variants.{Operator, Open, Word as LeafWord, Bad}
-use Rattle.tokens.specs.Next.{Front, Fronts, Ran, Strong}
+use Rattle.operand.specs.declared.First.{First}
+use Rattle.operand.specs.declared.First.the-variants.{Operator, Open, Word as LeafWord, Bad}
+use Rattle.operand.specs.Front.{Front, Fronts, Ran, Strong}
 use Rattle.tokens.proofs.Operators.{inside, head}
 
 -- what a test of a byte that was read says of the text
 pub of-byte : (f : ℕ → Bool) {t x : Bool} {b v : ℕ} → t ≡ f b → t ≡ x → b ≡ v → f v ≡ x
