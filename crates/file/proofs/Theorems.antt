@@ -2,7 +2,6 @@
 -- of session data and the search's own tests, a writer's bytes read back give the parts, and any two allowed results are equal.
 -- Assumes nothing.
 use mathlib.Core.Path.{_≡_, refl, sym, ap, _∙_}
-use mathlib.Core.Logic.{_↔_}
 use mathlib.Core.Bool.{true}
 use mathlib.Core.List.{List, [], _∷_, _++_, map, flatMap, List·Memᴰ, List·Memᴰ·head, List·Memᴰ·tail, Memᴰ·cast}
 use Prim.Native.Nat.{ℕ, zero, suc, _+_, _*_, _≤_, _<_}
@@ -26,33 +25,28 @@ use Rattle.file.specs.Reading.{said, Lent, lent, After, after, marksOf, 
 use Rattle.reading.proofs.Readers.{got-bad, got-value}
 use Rattle.reading.proofs.Ends.{each-at}
 use Rattle.names.proofs.Theorems.{names-accepts}
-use Rattle.file.proofs.Numbers.{Bytes}
+use Rattle.file.specs.Promises.{Bytes, AcceptsGood, RefusesOthers, BytesReadBack, OneReading}
 use Rattle.file.proofs.Whole.{passed-is-good, good-passes}
 use Rattle.file.proofs.Positions.{length-all-words}
 use Rattle.session.proofs.DataLaws.{is-0, inside, roomy, block}
 
 -- ---- the format
 
-module _ (file : List ℕ) (bytes : Bytes file) where
-  -- a byte string is read as parts exactly where it is the bytes of these parts, and they are good
-  pub accepts : (p : Parts) → (wholeFile file ≡ got p (length file)) ↔ (Good p × (fileBytes p ≡ file))
-  accepts p = (λ e. passed-is-good file bytes p (length file) e, λ t. good-passes file p (t .0) (t .1))
+pub accepts-good : AcceptsGood
+accepts-good file bytes p = (λ e. passed-is-good file bytes p (length file) e, λ t. good-passes file p (t .0) (t .1))
 
-  -- the reader refuses a byte string exactly where it is no good file
-  pub refuses : ((o : ℕ) × (wholeFile file ≡ bad o)) ↔ (GoodFile file → ⊥)
-  refuses = (λ e g. got-bad (sym (good-passes file (g .0) (g .1) (g .2)) ∙ e .1), λ n. go n (wholeFile file) refl)
-    where
-      go : (GoodFile file → ⊥) → (g : Got Parts) → wholeFile file ≡ g → (o : ℕ) × (wholeFile file ≡ bad o)
-      go n (bad o) e = (o, e)
-      go n (got p next) e = let t = passed-is-good file bytes p next e in absurd (n (p, t .0, t .1))
+pub refuses-others : RefusesOthers
+refuses-others file bytes = (λ e g. got-bad (sym (good-passes file (g .0) (g .1) (g .2)) ∙ e .1), λ n. go n (wholeFile file) refl)
+  where
+    go : (GoodFile file → ⊥) → (g : Got Parts) → wholeFile file ≡ g → (o : ℕ) × (wholeFile file ≡ bad o)
+    go n (bad o) e = (o, e)
+    go n (got p next) e = let t = passed-is-good file bytes p next e in absurd (n (p, t .0, t .1))
 
--- a writer's bytes, read back, give the parts
-pub round-trip : (p : Parts) → Good p → wholeFile (fileBytes p) ≡ got p (length (fileBytes p))
-round-trip p g = good-passes (fileBytes p) p g refl
+pub bytes-read-back : BytesReadBack
+bytes-read-back p g = good-passes (fileBytes p) p g refl
 
--- so a good file has one reading
-pub one-reading : (p q : Parts) → Good p → Good q → fileBytes p ≡ fileBytes q → p ≡ q
-one-reading p q g h e = got-value (sym (good-passes (fileBytes q) p g e) ∙ round-trip q h)
+pub one-reading : OneReading
+one-reading p q g h e = got-value (sym (good-passes (fileBytes q) p g e) ∙ bytes-read-back q h)
 
 -- ---- a names section
 
