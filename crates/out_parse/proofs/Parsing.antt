@@ -14,7 +14,7 @@ use Rattle.formula.specs.Formula.{size}
 use Rattle.formula.proofs.Trees.{size-pos}
 use Rattle.grammar.specs.Token.{Typed}
 use Rattle.grammar.specs.Grammar.{Reads}
-use Rattle.grammar.proofs.Theorems.{decided}
+use Rattle.grammar.proofs.Theorems.{formula-or-offset}
 use Rattle.reader.specs.declared.Parsed.{Parsed}
 use Rattle.reader.specs.declared.Parsed.the-variants.{Nodes, Broken, Stops, Unknown, Refused}
 use Rattle.reader.specs.Parsing.{Decides, Columns, columns, noFormula, saidParsed, Taken, Parses}
@@ -76,7 +76,7 @@ module _ (names text : List ℕ) where
 
       -- a text that 11 doesn't refuse is a formula
       some-tree : ((values : List ℕ) → noFormula names text lent .given values → ⊥) → NoRoom
-      some-tree z = ⊎-elim (λ t. needs-a-node (t .1)) (λ k. absurd (z (k .0 ∷ []) (k .0, refl, k .1))) (decided text)
+      some-tree z = ⊎-elim (λ t. needs-a-node (t .1)) (λ k. absurd (z (k .0 ∷ []) (k .0, refl, k .1))) (formula-or-offset text)
 
       from-short : (u : Columns) (s : Said) → Decides (parseRows names text lent old) (Taken names text lent u) s
           → Decides (reader.parseRows names text none) (Taken names text none none) s
