@@ -9,7 +9,7 @@ use Rattle.session.specs.Data.{dataRows}
 use Rattle.formula.specs.Kinds.{nodeOf, nodes}
 use Rattle.formula.specs.Rule.{brokenList}
 use Rattle.session.specs.Recording.{recording}
-use Rattle.formula.proofs.Tests.{decided-early}
+use Rattle.rules.proofs.Refusals.{decided-early}
 use Rattle.verdict.proofs.Checking.{decided-list, checkable, verdict-answers}
 use Rattle.verdict.proofs.check.Statement.{statement}
 use Rattle.verdict.proofs.check.Tie as tie

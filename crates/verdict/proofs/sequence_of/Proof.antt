@@ -14,7 +14,7 @@ use Rattle.session.specs.Recording.{recording}
 use Rattle.formula.specs.Kinds.{nodeOf, nodes}
 use Rattle.formula.specs.Rule.{brokenList}
 use Rattle.formula.proofs.Listed.{length-nodes}
-use Rattle.formula.proofs.Tests.{decided-early}
+use Rattle.rules.proofs.Refusals.{decided-early}
 use Rattle.verdict.proofs.Checking.{decided-list, checkable, ready-for}
 use Rattle.verdict.proofs.Sequencing.{sequence-on}
 use Rattle.verdict.proofs.sequence_of.Statement.{statement}
