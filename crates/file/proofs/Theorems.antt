@@ -20,6 +20,7 @@ use Rattle.names.specs.Names.{nameBytes, wholeNames}
 use Rattle.rules.specs.Lists.{Each}
 use Rattle.file.specs.Offence.{wholeFile}
 use Rattle.session.specs.Data.{dataRows}
+use Rattle.session.specs.Recording.{recording}
 use Rattle.rules.specs.Answers.{Said}
 use Rattle.file.specs.Reading.{said, Lent, lent, After, after, marksOf, lengthsOf, wordsOf, roomFor, readOf}
 use Rattle.reading.proofs.Readers.{got-bad, got-value}
@@ -90,7 +91,7 @@ module _ (m : ℕ) where
       (words-good ss (before ++ (s ∷ [])) (e .1) i (omega arith) p l)
 
 -- what the reader hands out passes the tests of session data, whatever stands after it in the lent slices
-pub handed-out-passes : (p : Parts) → Good p → (x y z : List ℕ) → Decided (dataRows (length (p .sessions)) (length (p .names)) (marksOf p ++ x) (lengthsOf p ++ y) (wordsOf p ++ z)) 0
+pub handed-out-passes : (p : Parts) → Good p → (x y z : List ℕ) → Decided (dataRows (recording (length (p .sessions)) (length (p .names)) (marksOf p ++ x) (lengthsOf p ++ y) (wordsOf p ++ z))) 0
 handed-out-passes p g x y z =
     is-0 r m (marksOf p ++ x) (lengthsOf p ++ y) (wordsOf p ++ z)
     (inside r m (g .someSessions) (g .fewSessions) (g .someNames) (g .fewNames))
@@ -120,7 +121,7 @@ handed-out-passes p g x y z =
 
 -- in the words of the contract: where `read` answers parts, the slices that it leaves pass
 pub read-passes : (file : List ℕ) → Bytes file → (l : Lent) (p : Parts) (next : ℕ) → wholeFile file ≡ got p next → roomFor p l ≡ true
-    → Decided (dataRows (length (p .sessions)) (length (p .names)) (readOf file l .left .marks) (readOf file l .left .lengths) (readOf file l .left .words)) 0
+    → Decided (dataRows (recording (length (p .sessions)) (length (p .names)) (readOf file l .left .marks) (readOf file l .left .lengths) (readOf file l .left .words))) 0
 read-passes file bytes l p next e room =
     let g = passed-is-good file bytes p next e .0 in
     rw (e, room) (handed-out-passes p g (drop (length (marksOf p)) (l .marks)) (drop (length (lengthsOf p)) (l .lengths)) (drop (length (wordsOf p)) (l .words)))

@@ -142,11 +142,11 @@ resumeRowsWith own i t budget st =
     ∷ settingWrong i
     ∷ budgetWrong budget
     ∷ (own
-    ++ (tooShort (i .recording .sessions) (i .recording .propositions) (i .recording .marks) (i .recording .lengths) (i .recording .words)
+    ++ (tooShort (i .recording)
     ∷ noRoom i t
-    ∷ tooLong (i .recording .sessions) (i .recording .propositions) (i .recording .marks) (i .recording .lengths) (i .recording .words)
-    ∷ bitAbove (i .recording .sessions) (i .recording .propositions) (i .recording .marks) (i .recording .lengths) (i .recording .words)
-    ∷ markWrong (i .recording .sessions) (i .recording .propositions) (i .recording .marks) (i .recording .lengths) (i .recording .words)
+    ∷ tooLong (i .recording)
+    ∷ bitAbove (i .recording)
+    ∷ markWrong (i .recording)
     ∷ codeWrong i
     ∷ stateWrong i st
     ∷ []))
