@@ -3,13 +3,10 @@ use libc::STDERR_FILENO;
 use libc::STDOUT_FILENO;
 use whole_input::Taken;
 
-// "searches with C = 200"
-const ROOM: usize = 200;
-
 // The answer goes out whole, or a line on standard error says that it didn't.
 fn answer(file: &[u8]) {
     let mut text = [0u8; 512];
-    let length = lines::of_file(file, ROOM, &mut text);
+    let length = lines::of_file(file, lines::BENCH_ROOM, &mut text);
     if !io::write_all(STDOUT_FILENO, &text[..length]) {
         io::write_all(
             STDERR_FILENO,

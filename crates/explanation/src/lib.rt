@@ -13,15 +13,12 @@ ghost use Rattle.walk.specs.Input.{inputOf};
 ghost use Rattle.explanation.specs.Explanation.{ExplanationOf};
 ghost use Rattle.explanation.specs.Inner.{Stands, OfGood, BenchSays, ToldOf, ReportOf};
 
-// "searches with C = 200", as at the bench
-const ROOM: usize = 200;
-
 // What the bench says, by the bench's own function.
 fn bench(file: &[u8], text: &mut [u8]) -> usize
     ensures { λ n. ⌜ Stands (BenchSays (now (file .entry))) (now (text .entry)) n (now (text .exit)) ⌝ }
 {
     let mut lines = [0u8; 512];
-    let length = lines::of_file(file, ROOM, &mut lines);
+    let length = lines::of_file(file, lines::BENCH_ROOM, &mut lines);
     writing::put(text, 0, &lines[..length])
 }
 
@@ -92,7 +89,7 @@ fn searched(
         r,
         m,
         bound,
-        ROOM,
+        lines::BENCH_ROOM,
         constants,
         marks,
         lengths,

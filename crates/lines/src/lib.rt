@@ -12,6 +12,9 @@ ghost use Rattle.walk.specs.Input.{inputOf};
 ghost use Rattle.lines.specs.Bench.{LinesOf};
 ghost use Rattle.lines.specs.Inner.{Showable, ShownBy, GivenBy, WrittenFor};
 
+// The bench's room, and that of what explains its answer: "searches with C = 200".
+pub const BENCH_ROOM: usize = 200;
+
 // The lines of a formula found: its counts, and its text.
 fn found(
     names: &[u8],
