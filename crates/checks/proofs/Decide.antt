@@ -10,6 +10,7 @@ use native.Mathlib.Decide.{decLe}
 use Rattle.rules.specs.Limits.{mostSessions, mostPropositions}
 use Rattle.rules.specs.Refusals.{Row, Decided}
 use Rattle.session.specs.Data.{outsideNumbers, tooShort, tooLong, bitAbove, markWrong, dataRows}
+use Rattle.session.specs.Recording.{recording}
 use Rattle.walk.specs.Input.{Input}
 use Rattle.table.specs.Slices.{Cols}
 use Rattle.checks.specs.Refusals.{settingWrong, noRoom, codeWrong, searchRows}
@@ -86,21 +87,21 @@ zero-none = refl
 
 -- ---- the search's rows
 
-module _ (i : Input) (t : Cols) (k : ℕ) (d : Decided (dataRows (i .recording .sessions) (i .recording .propositions) (i .recording .marks) (i .recording .lengths) (i .recording .words)) k) where
+module _ (i : Input) (t : Cols) (k : ℕ) (d : Decided (dataRows (i .recording)) k) where
   abbrev numbers : Row
   numbers = outsideNumbers (i .recording .sessions) (i .recording .propositions)
 
   abbrev short : Row
-  short = tooShort (i .recording .sessions) (i .recording .propositions) (i .recording .marks) (i .recording .lengths) (i .recording .words)
+  short = tooShort (i .recording)
 
   abbrev long : Row
-  long = tooLong (i .recording .sessions) (i .recording .propositions) (i .recording .marks) (i .recording .lengths) (i .recording .words)
+  long = tooLong (i .recording)
 
   abbrev bits : Row
-  bits = bitAbove (i .recording .sessions) (i .recording .propositions) (i .recording .marks) (i .recording .lengths) (i .recording .words)
+  bits = bitAbove (i .recording)
 
   abbrev marks : Row
-  marks = markWrong (i .recording .sessions) (i .recording .propositions) (i .recording .marks) (i .recording .lengths) (i .recording .words)
+  marks = markWrong (i .recording)
 
   abbrev rest : List Row
   rest = long ∷ bits ∷ marks ∷ []
@@ -178,7 +179,7 @@ numbers-in r m f = (
   le-of-not-lt λ h. f (inr (inr h)),
 )
 
-pub not-one-in : (r m : ℕ) (marks lengths words : List ℕ) (k : ℕ) → Decided (dataRows r m marks lengths words) k → (k ≡ 1 → ⊥) → r ≤ mostSessions
+pub not-one-in : (r m : ℕ) (marks lengths words : List ℕ) (k : ℕ) → Decided (dataRows (recording r m marks lengths words)) k → (k ≡ 1 → ⊥) → r ≤ mostSessions
 not-one-in r m marks lengths words k d one = numbers-in r m (later (outsideNumbers r m) _ k d one .0) .1
 
 -- where the whole list decides 0, no row is given

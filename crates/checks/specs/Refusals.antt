@@ -45,11 +45,11 @@ module _ (i : Input) where
       outsideNumbers (i .recording .sessions) (i .recording .propositions)
       ∷ settingWrong
       ∷ (own
-      ++ (tooShort (i .recording .sessions) (i .recording .propositions) (i .recording .marks) (i .recording .lengths) (i .recording .words)
+      ++ (tooShort (i .recording)
       ∷ noRoom t
-      ∷ tooLong (i .recording .sessions) (i .recording .propositions) (i .recording .marks) (i .recording .lengths) (i .recording .words)
-      ∷ bitAbove (i .recording .sessions) (i .recording .propositions) (i .recording .marks) (i .recording .lengths) (i .recording .words)
-      ∷ markWrong (i .recording .sessions) (i .recording .propositions) (i .recording .marks) (i .recording .lengths) (i .recording .words)
+      ∷ tooLong (i .recording)
+      ∷ bitAbove (i .recording)
+      ∷ markWrong (i .recording)
       ∷ codeWrong
       ∷ []))
 

@@ -10,7 +10,7 @@ use lib.Seq.{sets-eq}
 use Rattle.rules.specs.Answers.{Said}
 use Rattle.rules.specs.Refusals.{Decided}
 use Rattle.rules.proofs.Refusals.{decided-unique, decided-both, decided-not}
-use Rattle.session.specs.Recording.{Recording}
+use Rattle.session.specs.Recording.{Recording, recording}
 use Rattle.session.specs.Data.{dataRows}
 use Rattle.reading.specs.Reading.{Got, got, bad}
 use Rattle.file.specs.declared.ReadAnswer.{ReadAnswer}
@@ -34,7 +34,7 @@ use Rattle.search.specs.declared.SearchAnswer.the-variants.{Found, None, Full, 
 use Rattle.search.specs.Table.{Cols}
 use Rattle.search.specs.Search.{tallyOf, walkSaid, Searched}
 use Rattle.checks.specs.Refusals.{searchRows}
-use Rattle.lines.specs.Bench.{inputOf, Says, LinesOf}
+use Rattle.lines.specs.Bench.{benchRoom, inputOf, Says, LinesOf}
 use Rattle.lines.proofs.Searching.{Roomy, FoundAt, found-at, data-pass, in-room}
 use Rattle.lines.proofs.Answered.{lent, kept-nodes, part-is}
 use Rattle.lines.proofs.Handed.{Wide, Handed, broken-at, same, input}
@@ -43,7 +43,7 @@ use Rattle.report.specs.declared.Reported.the-variants.{Text, Refused as NotRep
 use Rattle.report.specs.Lines.{ReportText}
 use Rattle.report.specs.Report.{saidReport, shortText, reportRows, Reports}
 use Rattle.report.proofs.Length.{report-fits, longest-is}
-use Rattle.explanation.specs.Explanation.{benchRoom, Finds, Told, Explains, ExplanationOf}
+use Rattle.explanation.specs.Explanation.{Finds, Told, Explains, ExplanationOf}
 use Rattle.explanation.specs.Inner.{Stands, BenchSays, ToldOf, ReportOf}
 
 -- ---- the bench's lines
@@ -131,7 +131,7 @@ module _ (file : List ℕ) (j : Input) (p : Parts) (g : Good p) (s : j ≡ input
     found-passes =
         let r = inputOf p benchRoom .recording in
         let d : Decided (checkRows r (nodes (this .table)) (nodeOf root)) 0 =
-        decided-both (dataRows (length (p .sessions)) (length (p .names)) (marksOf p) (lengthsOf p) (wordsOf p))
+        decided-both (dataRows (recording (length (p .sessions)) (length (p .names)) (marksOf p) (lengthsOf p) (wordsOf p)))
         (brokenList (length (p .names)) (nodes (this .table)) (nodeOf root) ∷ []) 0 0 (lit< tt, (lit< tt, (lit< tt, (lit< tt, (lit< tt, tt)))))
         (data-pass p g benchRoom t roomy) (decided-not (brokenList (length (p .names)) (nodes (this .table)) (nodeOf root)) (this .whole)) in
         subst (λ (i : Input). Decided (checkRows (i .recording) (lent this) (nodeOf root)) 0) (sym s)

@@ -15,10 +15,10 @@ use Rattle.walk.specs.Kept.{Table, nodes}
 use Rattle.walk.proofs.Promises.{walk-ends}
 use Rattle.writing.specs.Writing.{Wrote}
 use Rattle.writing.proofs.Writing.{wrote-unique, wrote-length}
-use Rattle.lines.specs.Bench.{inputOf}
+use Rattle.lines.specs.Bench.{benchRoom, inputOf}
 use Rattle.lines.proofs.Unique.{says-one}
 use Rattle.report.proofs.Unique.{one-report}
-use Rattle.explanation.specs.Explanation.{benchRoom, Finds, Explains, ExplanationOf}
+use Rattle.explanation.specs.Explanation.{Finds, Explains, ExplanationOf}
 
 told-one : (p : Parts) (next : ℕ) (x y : List ℕ) (e : Ending) (k : Table) (n : Tally) → search (inputOf p benchRoom) ≡ ended e k n → Explains (got p next) x
     → Explains (got p next) y → x ≡ y

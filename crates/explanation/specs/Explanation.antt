@@ -11,12 +11,8 @@ use Rattle.walk.specs.Walk.{Tally, found, ended}
 use Rattle.walk.specs.Input.{Input, search}
 use Rattle.walk.specs.Kept.{Table, nodes}
 use Rattle.writing.specs.Writing.{Wrote}
-use Rattle.lines.specs.Bench.{inputOf, Says}
+use Rattle.lines.specs.Bench.{benchRoom, inputOf, Says}
 use Rattle.report.specs.Lines.{ReportText}
-
--- "searches with C = 200", as at the bench
-abbrev pub benchRoom : ℕ
-benchRoom = 200
 
 -- the search over this input finds a formula: its root, and the table that is kept
 abbrev pub Finds : Input → Node → Table → Type 0

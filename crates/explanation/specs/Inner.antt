@@ -9,9 +9,9 @@ use Rattle.file.specs.Offence.{wholeFile}
 use Rattle.formula.specs.Nodes.{Node}
 use Rattle.walk.specs.Input.{Input}
 use Rattle.writing.specs.Writing.{Wrote}
-use Rattle.lines.specs.Bench.{inputOf, Says}
+use Rattle.lines.specs.Bench.{benchRoom, inputOf, Says}
 use Rattle.report.specs.Lines.{ReportText}
-use Rattle.explanation.specs.Explanation.{benchRoom, Told}
+use Rattle.explanation.specs.Explanation.{Told}
 
 -- a list of which something holds is written from the start of the text on
 pub record Stands (says : List ℕ → Type 0) (old : List ℕ) (r : ℕ) (new : List ℕ) : Type 0 where

@@ -15,9 +15,10 @@ use lib.Seq.{take-nil, take-take, getD-take, drop-append-seam}
 use Rattle.words.specs.Word.{width}
 use Rattle.sections.specs.Numbers.{fileSessions, propositions, bound}
 use Rattle.names.specs.Names.{nameLength, letter, name, isTaken, notTaken, namesUpTo}
-use Rattle.file.specs.Format.{FileSession, Parts, fileBytes, Good}
+use Rattle.file.specs.Format.{FileSession, Parts, fileBytes}
 use Rattle.reading.specs.Reading.{got, bad, Reader, andThen, each, byte, within, counted, atEnd}
-use Rattle.file.specs.Offence.{number, eightBytes, session, allSessions, isUnary, isBinary, code, codes, Settings, settings, parts, wholeFile}
+use Rattle.file.specs.Offence.{number, eightBytes, session, allSessions, isUnary, isBinary, code, codes, Settings, settings, parts}
+use Rattle.file.specs.Promises.{CutShort, FirstExtra}
 use Rattle.reading.proofs.Readers.{got-bad, got-next, in-turn, byte-sound}
 use Rattle.reading.proofs.Steps.{byte-next}
 use Rattle.reading.proofs.Spans.{Spans}
@@ -165,8 +166,7 @@ module _ (file : List ℕ) (k : ℕ) (short : k ≤ length file) where
       cut-then settings (λ s _ next. got (all ns ss us bs s) next) cut-settings λ s.
       cut-done (all ns ss us bs s)
 
--- a good file cut short is refused at its length
-pub cut-short : (p : Parts) → Good p → (k : ℕ) → k < length (fileBytes p) → wholeFile (take k (fileBytes p)) ≡ bad k
+pub cut-short : CutShort
 unfolding atEnd
 cut-short p g k h =
     let file = fileBytes p in
@@ -174,8 +174,7 @@ cut-short p g k h =
     let c = cut-parts file k (omega arith) 0 p (length file) whole in
     rw (c .2 (omega arith) h)
 
--- and with anything after it at the first extra byte
-pub first-extra : (p : Parts) → Good p → (b : ℕ) (more : List ℕ) → wholeFile (fileBytes p ++ (b ∷ more)) ≡ bad (length (fileBytes p))
+pub first-extra : FirstExtra
 unfolding atEnd
 first-extra p g b more =
     let run = fileBytes p in

@@ -16,6 +16,7 @@ use Rattle.names.specs.Reserved.{reserved}
 use Rattle.names.specs.Names.{nameBytes, GoodName, name, namesUpTo}
 use Rattle.rules.specs.Lists.{Each}
 use Rattle.file.specs.Offence.{codes, isUnary, isBinary}
+use Rattle.file.specs.Promises.{mostFile, Largest, SomeLargest}
 use Rattle.reading.proofs.Lists.{ones}
 use Rattle.file.proofs.CodeLaws.{unary-good, good-unary, binary-good, good-binary}
 use Rattle.reading.proofs.Ends.{each-map}
@@ -33,7 +34,7 @@ unfolding Each flatMap
 names-size [] before e = omega arith
 names-size (n ∷ l) before e = omega (arith, length-append (nameBytes n) (flatMap nameBytes l), name-size before n (e .0), names-size l (before ++ (n ∷ [])) (e .1))
 
-pub largest : (p : Parts) → Good p → length (fileBytes p) ≤ 4450
+pub largest : Largest
 largest p g =
     let w : 2 + 8 * length (p .names) ≤ 130 = omega (arith, g .fewNames) in
     let s : length (p .sessions) * (2 + 8 * length (p .names)) ≤ 32 * 130 = mul-le-mul (g .fewSessions) w in
@@ -86,7 +87,7 @@ binary-there = refl
 pub biggest : Parts
 biggest = record { names = names; sessions = replicate 32 longest; unary = unary; binary = binary; constants = 1; bound = 31 }
 
-pub biggest-good : Good biggest
+biggest-good : Good biggest
 unfolding biggest names names-of unary binary
 biggest-good =
     record {
@@ -103,6 +104,9 @@ biggest-good =
       lowBound = lit≤ tt;
     }
 
-pub biggest-size : length (fileBytes biggest) ≡ 4450
+biggest-size : length (fileBytes biggest) ≡ mostFile
 unfolding biggest names names-of name-of unary binary flatMap
 biggest-size = sym (layout biggest (fileBytes biggest) biggest-good refl .room)
+
+pub some-largest : SomeLargest
+some-largest = (biggest, biggest-good, biggest-size)

@@ -15,6 +15,7 @@ use Rattle.names.specs.Names.{nameLength, letter, name, isTaken, notTaken, name
 use Rattle.rules.specs.Lists.{Each}
 use Rattle.reading.specs.Reading.{Got, got, bad, Reader, andThen, each, byte, within, counted, atEnd}
 use Rattle.file.specs.Offence.{number, eightBytes, session, allSessions, isUnary, isBinary, code, codes, settings, parts, wholeFile}
+use Rattle.file.specs.Promises.{mostFile}
 use Rattle.reading.proofs.Lists.{within-high}
 use Rattle.reading.proofs.Readers.{got-bad, byte-sound}
 use Rattle.sections.proofs.CodeLaws.{New, new-sound}
@@ -150,7 +151,7 @@ module _ (file : List ℕ) where
   sessions-upto m h at =
       higher (allSessions m file at) (counted-upto 1 fileSessions (λ _. session m) (2 + m * 8) (λ _. session-upto m) at) (omega arith)
 
-  pub parts-upto : Upto 4450 (parts file 0)
+  pub parts-upto : Upto mostFile (parts file 0)
   unfolding parts
   parts-upto =
       next-upto (namesUpTo propositions file 0) _ (names-upto 0) (omega arith) λ ns a e h.
@@ -170,8 +171,8 @@ module _ (file : List ℕ) where
       go false = u
 
   -- the offset of a refusal is at most 4,450, for every byte string
-  pub offset-small : (o : ℕ) → wholeFile file ≡ bad o → o ≤ 4450
-  offset-small o e = subst (Upto 4450) e (end-upto (parts file 0) 4450 parts-upto)
+  pub offset-small : (o : ℕ) → wholeFile file ≡ bad o → o ≤ mostFile
+  offset-small o e = subst (Upto mostFile) e (end-upto (parts file 0) mostFile parts-upto)
 
   -- and of a names section at most 273
   pub names-offset-small : (o : ℕ) → wholeNames file ≡ bad o → o ≤ 273

@@ -19,6 +19,9 @@ const PROPOSITIONS: usize = 16;
 
 const BOUND: usize = rules::BOUND;
 
+// "the largest good file is 4,450 bytes"
+pub const LARGEST: usize = 4450;
+
 // What a file is: its parts' numbers (sessions r, propositions m, the bytes of the names section, codes of each group, constants mark, bound B),
 // broken at an offset, or good with too little room lent.
 pub enum ReadAnswer {

@@ -47,10 +47,3 @@ module _ (m : ℕ) (k : List Node) where
         let g : Fits m k n root = subst (Judged m k n root) r i in
         decided-not (brokenList m k root)
         (fits-whole m k root (omega arith) (subst (AllFit m k) (sym e) f) (subst (λ (x : ℕ). Fits m k x root) (sym e) g))
-
--- a number that is decided stays, whatever comes after
-pub decided-early : (rows more : List Row) (a : ℕ) → Decided rows a → (a ≡ 0 → ⊥) → Decided (rows ++ more) a
-unfolding Decided
-decided-early [] more a d n = absurd (n d)
-decided-early (row ∷ rows) more a (inl p) n = inl p
-decided-early (row ∷ rows) more a (inr p) n = inr (p .0, decided-early rows more a (p .1) n)

@@ -13,6 +13,7 @@ use Rattle.sequence.specs.Operators.Binary.{or, and, until, release, implies, e
 use Rattle.sequence.specs.Operators.{unaryToken, binaryToken}
 use Rattle.names.specs.Names.{sameBytes}
 use Rattle.grammar.specs.Scan.{Sign, blank, bang, opener, closer, amp, bar, dash, less, other, Kind, wordy, square, sign, kind, Class, prefixed, leafy, neither, classify}
+use Rattle.grammar.specs.Promises.{OneSpelling}
 use Rattle.reading.proofs.Lists.{true-false}
 use Rattle.grammar.proofs.Words.{WordBytes, LetterFirst, KindIs, kind-is, kind-word, letter-word, class-name, letter-first}
 
@@ -143,5 +144,5 @@ lexed (token {ts} {text} t g a s) = by-token t g a (lexed s)
     by-token opens g a e = rw e
     by-token closes g a e = rw e
 
-pub one-spelling : {ts us : List Token} {text : List ℕ} → SpelledBy ts text → SpelledBy us text → ts ≡ us
+pub one-spelling : {ts us : List Token} {text : List ℕ} → OneSpelling ts us text
 one-spelling s r = let p = lexed s in let q = lexed r in cc

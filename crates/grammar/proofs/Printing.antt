@@ -13,6 +13,7 @@ use Rattle.text.specs.Text.{space, bracketed, leafText, text}
 use Rattle.grammar.specs.Token.{constant, Typed, Token, pre, mid, atom, opens, closes, Apart, SpelledBy, end, gap, token}
 use Rattle.grammar.specs.Grammar.{Derives, alone, prefix, bracket, between, Reads}
 use Rattle.grammar.specs.Naming.{atomOf, typed, GoodLeaf, AllNamed}
+use Rattle.grammar.specs.Promises.{Printed}
 use Rattle.grammar.proofs.Levels.{sides, lower}
 use Rattle.grammar.proofs.Sound.{plain}
 
@@ -66,7 +67,7 @@ module _ (names : List (List ℕ)) where
       )
       (wrap ls (text names l) (prints l (g .0)) (gap right))
 
-  pub printed : (t : Formula) → AllNamed names t → Reads (text names t) (typed names t)
-  printed t g =
-      let s : SpelledBy (tokens (typed names t)) (text names t) = rw append-nil at (rw append-nil at (prints t g [] [] tt end)) in
-      record { tokens = tokens (typed names t); spelt = s; derived = derives (typed names t) }
+pub printed : (names : List (List ℕ)) (t : Formula) → Printed names t
+printed names t g =
+    let s : SpelledBy (tokens (typed names t)) (text names t) = rw append-nil at (rw append-nil at (prints names t g [] [] tt end)) in
+    record { tokens = tokens (typed names t); spelt = s; derived = derives (typed names t) }

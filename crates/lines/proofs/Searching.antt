@@ -11,6 +11,7 @@ use Rattle.rules.specs.Limits.{mostRoom, Outside}
 use Rattle.rules.specs.Refusals.{Decided}
 use Rattle.rules.proofs.Refusals.{decided-unique}
 use Rattle.session.specs.Data.{dataRows}
+use Rattle.session.specs.Recording.{recording}
 use Rattle.file.specs.Format.{Parts, Good}
 use Rattle.file.specs.Reading.{marksOf, lengthsOf, wordsOf}
 use Rattle.file.proofs.Theorems.{handed-out-passes, unary-pass, binary-pass, unary-once, binary-once}
@@ -48,7 +49,7 @@ module _ (p : Parts) (g : Good p) (room : ℕ) (t : Cols) (roomy : Roomy t) wher
   i : Input
   i = inputOf p room
 
-  pub data-pass : Decided (dataRows (length (p .sessions)) (length (p .names)) (marksOf p) (lengthsOf p) (wordsOf p)) 0
+  pub data-pass : Decided (dataRows (recording (length (p .sessions)) (length (p .names)) (marksOf p) (lengthsOf p) (wordsOf p))) 0
   data-pass = simp append-nil at (handed-out-passes p g [] [] [])
 
   pub in-room : 1 ≤ room → room ≤ mostRoom → Decided (searchRows (inputOf p room) t) 0

@@ -19,6 +19,14 @@ use Rattle.text.specs.Text.{text}
 use Rattle.walk.specs.Input as walking
 use Rattle.line.specs.Line.{newline, foundLine, noneLine, fullLine, brokenLine, refusedLine}
 
+-- "searches with C = 200"
+abbrev pub benchRoom : ℕ
+benchRoom = 200
+
+-- room for whatever the lines say
+abbrev pub longestLines : ℕ
+longestLines = 512
+
 -- a file's parts, and a room, as the input of a search
 abbrev pub inputOf : Parts → ℕ → Input
 inputOf p room =

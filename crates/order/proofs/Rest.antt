@@ -59,10 +59,6 @@ module _ {g : Layer} {at : Cursor} where
   step-within {code} {left} {right} {next} (Steps.ends e d) r = let z : _≡_ {A = ℕ} 0 1 = cc in absurd (omega arith)
   step-within {code} {left} {right} {next} (Steps.takes here e d s w) r = let n : next ≡ after g here = cc in rw n (w r)
 
-  pub end-ahead : Steps g at End → ahead g at ≡ []
-  end-ahead (Steps.ends e d) = e
-  end-ahead (Steps.takes here e d s w) = let z : _≡_ {A = ℕ} 0 1 = cc in absurd (omega arith)
-
   pub end-left : Steps g at End → rest g at ≡ []
   unfolding rest
   end-left (Steps.ends e d) = rw e

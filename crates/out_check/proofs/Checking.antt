@@ -23,7 +23,7 @@ use Rattle.out_check.specs.Inner.{CheckUnanswered}
 
 module _ (r m : ℕ) where
   -- r is at least 1 where 1 is not given, so that no marks are too few
-  pub unanswered : (k : ℕ) → Decided (dataRows r m [] [] []) k → CheckUnanswered r m k
+  pub unanswered : (k : ℕ) → Decided (dataRows (recording r m [] [] [])) k → CheckUnanswered r m k
   unfolding Decided
   unanswered k (inl p) = inl p
   unanswered k (inr (p, inl s)) = inr (p, inl (tt, s .1))

@@ -15,7 +15,7 @@ use Rattle.names.specs.Names.{wholeNames, GoodNames, namesIn}
 use Rattle.grammar.specs.Token.{Typed}
 use Rattle.grammar.specs.Grammar.{Reads, Refused11}
 use Rattle.grammar.specs.Nodes.{nodesOf}
-use Rattle.grammar.proofs.Theorems.{one-tree, not-both}
+use Rattle.grammar.proofs.Theorems.{one-tree, formula-not-refused}
 use Rattle.reader.specs.declared.Parsed.{Parsed}
 use Rattle.reader.specs.declared.Parsed.the-variants.{Nodes, Broken, Stops, Unknown, Refused}
 use Rattle.descent.specs.declared.judge.Judged.{Judged}
@@ -53,7 +53,7 @@ module _ (file text : List ℕ) (old : Columns) where
   not-long h vs g = let l = g .1 in omega arith
 
   not-refused : {t : Typed} → Reads text t → Free (noFormula file text old)
-  not-refused {t} r vs g = not-both (t, r) (g .2)
+  not-refused {t} r vs g = formula-not-refused (t, r) (g .2)
 
   not-unknown : AllKnown file text → Free (unknownName file text old)
   not-unknown known vs g = known (g .0) (g .2 .here)

@@ -12,7 +12,7 @@ use lib.Seq.{sets, sets-eq}
 use Rattle.words.specs.Word.{width, At}
 use Rattle.rules.specs.Refusals.{Row, Decided}
 use Rattle.rules.specs.Answers.{Said, over}
-use Rattle.rules.proofs.Refusals.{Numbered, decided-unique, decided-both, decided-given, decided-not}
+use Rattle.rules.proofs.Refusals.{Numbered, decided-unique, decided-both, decided-given, decided-not, decided-early}
 use Rattle.writing.specs.Writing.{Wrote}
 use Rattle.writing.proofs.Writing.{wrote-both, wrote-whole}
 use Rattle.writing.proofs.Digits.{written-front}
@@ -26,7 +26,6 @@ use Rattle.verdict.specs.declared.Sequenced.the-variants as sequenced
 use Rattle.rules.specs.declared.kinds.Session.{Session}
 use Rattle.verdict.specs.declared.Verdict.{Verdict}
 use Rattle.verdict.specs.declared.Verdict.the-variants as verdict
-use Rattle.formula.proofs.Tests.{decided-early}
 use Rattle.summary.specs.declared.values.Summary.{Summary}
 use Rattle.report.specs.declared.Reported.{Reported}
 use Rattle.report.specs.declared.Reported.the-variants.{Text, Refused}

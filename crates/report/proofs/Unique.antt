@@ -27,32 +27,7 @@ use Rattle.report.specs.Lines.{NodeSays, PlaceLine, PlaceLines, SessionL
 use Rattle.report.specs.Lines.PlaceLine.{one, none}
 use Rattle.report.specs.Report.{saidReport, Reports}
 use Rattle.report.specs.Promises.{OneReport}
-
--- ---- values
-
-least-unique : (n : ℕ) (f : Reading) (a b : First) → LeastIn n f a → LeastIn n f b → a ≡ b
-least-unique n f Never Never p q = refl
-least-unique n f Never (Snapshot b) p q = absurd (p b (q .0) (q .1))
-least-unique n f (Snapshot a) Never p q = absurd (q a (p .0) (p .1))
-least-unique n f (Snapshot a) (Snapshot b) p q =
-    elim (decLt a b) [
-      | yes h ↦ absurd (q .2 a h (p .1))
-      | no h ↦ ⊎-elim (λ e. ap Snapshot (sym e)) (λ g. absurd (p .2 b g (q .1))) (eq-or-lt-of-le {n = b} {m = a} (omega arith))
-    ]
-
-count-unique : (n : ℕ) (f : Reading) (a b : ℕ) → CountIn n f a → CountIn n f b → a ≡ b
-count-unique zero f a b p q = p ∙ sym q
-count-unique (suc n) f a b (inl (h, (c, d, p))) (inl (k, (e, g, q))) = let s = count-unique n f c e p q in omega arith
-count-unique (suc n) f a b (inl (h, p)) (inr (k, q)) = absurd (k h)
-count-unique (suc n) f a b (inr (h, p)) (inl (k, q)) = absurd (h k)
-count-unique (suc n) f a b (inr (h, p)) (inr (k, q)) = count-unique n f a b p q
-
--- `summary_of`
-pub summed-unique : {n : ℕ} {f : Reading} (s t : Summary) → Summed n f s → Summed n f t → s ≡ t
-summed-unique {n} {f} s t a b =
-    ap (λ (x : First). record { holds = x; fails = s .fails; count = s .count }) (least-unique n f (s .holds) (t .holds) (a .holds) (b .holds))
-    ∙ ap (λ (x : First). record { holds = t .holds; fails = x; count = s .count }) (least-unique n _ (s .fails) (t .fails) (a .fails) (b .fails))
-    ∙ ap (λ (x : ℕ). record { holds = t .holds; fails = t .fails; count = x }) (count-unique n f (s .count) (t .count) (a .count) (b .count))
+use Rattle.summary.proofs.Unique.{summed-unique}
 
 -- ---- the text
 

@@ -1,4 +1,4 @@
--- The numbers of document 01 ("Numbers") that bound what the library takes, each under one name; in code they are the constants of src/lib.rt. The
+-- The numbers of document 01 ("Numbers"), and of the requests E2 and E7, that bound what the library takes, each under one name; in code they are the constants of src/lib.rt. The
 -- largest length is `width`, of `words`; the session file has limits of its own.
 -- Assumes nothing.
 use mathlib.Core.Logic.{_⊎_}
@@ -19,6 +19,14 @@ mostSize = 31
 -- "table room C 1 to 4,096 formulas", and "a node list of 0 to 4,096 nodes"
 abbrev pub mostRoom : ℕ
 mostRoom = 4096
+
+-- "12 if the text passes 4,096 bytes" (request E2)
+abbrev pub mostBytes : ℕ
+mostBytes = 4096
+
+-- "a budget of 0 to 1,000,000 candidates" (request E7)
+abbrev pub mostBudget : ℕ
+mostBudget = 1000000
 
 -- n is none of the numbers from lo to hi
 abbrev pub Outside : ℕ → ℕ → ℕ → Type 0

@@ -31,7 +31,8 @@ use Rattle.turns.specs.Standing.{startsIn, layerAt, stateAt, todo, StandsIn}
 use Rattle.turns.specs.Turns.{StateIn, GoAsks, GoDoes}
 use Rattle.turns.proofs.Rounds.{began, few-left}
 use Rattle.turns.proofs.Settling.{settled-more, turn-none, turn-over, begun-is}
-use Rattle.slices.specs.Slices.{freshState, StandsAt, stateWrong, mostBudget, resumeRows, advanceRows}
+use Rattle.rules.specs.Limits.{mostBudget}
+use Rattle.slices.specs.Slices.{freshState, StandsAt, stateWrong, resumeRows, advanceRows}
 use Rattle.slices.specs.Resume.{Went}
 use Rattle.slices.specs.Inner.{OneOrTwo}
 use Rattle.slices.proofs.Checks.{unary-few, binary-few}

@@ -6,6 +6,7 @@ use mathlib.Core.List.{List, [], _∷_, _++_}
 use Prim.Native.Nat.{ℕ, _<_}
 use lib.ListN.{length}
 use lib.Dec.{eqb}
+use Rattle.rules.specs.Limits.{mostBudget}
 use Rattle.rules.specs.Refusals.{Row}
 use Rattle.rules.specs.Answers.{Said}
 use Rattle.session.specs.Data.{outsideNumbers, tooShort, tooLong, bitAbove, markWrong}
@@ -50,9 +51,6 @@ StandsAt i t₀ n state t = StandsIn i t₀ (goOn i n (begun i)) state t
 -- ---- the refusals
 
 -- "a budget of 0 to 1,000,000 candidates (more is 2)"
-abbrev pub mostBudget : ℕ
-mostBudget = 1000000
-
 abbrev pub budgetWrong : ℕ → Row
 budgetWrong budget = record { number = 2; given = mostBudget < budget }
 
@@ -68,11 +66,11 @@ resumeRowsWith own i t budget st =
     ∷ settingWrong i
     ∷ budgetWrong budget
     ∷ (own
-    ++ (tooShort (i .recording .sessions) (i .recording .propositions) (i .recording .marks) (i .recording .lengths) (i .recording .words)
+    ++ (tooShort (i .recording)
     ∷ noRoom i t
-    ∷ tooLong (i .recording .sessions) (i .recording .propositions) (i .recording .marks) (i .recording .lengths) (i .recording .words)
-    ∷ bitAbove (i .recording .sessions) (i .recording .propositions) (i .recording .marks) (i .recording .lengths) (i .recording .words)
-    ∷ markWrong (i .recording .sessions) (i .recording .propositions) (i .recording .marks) (i .recording .lengths) (i .recording .words)
+    ∷ tooLong (i .recording)
+    ∷ bitAbove (i .recording)
+    ∷ markWrong (i .recording)
     ∷ codeWrong i
     ∷ stateWrong i st
     ∷ []))

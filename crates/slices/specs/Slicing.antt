@@ -17,7 +17,8 @@ use Rattle.table.specs.Slices.{Cols, tableOver}
 use Rattle.state.specs.declared.State as value
 use Rattle.turns.specs.Standing.{keptIn}
 use Rattle.slices.specs.Said.{walkSaid}
-use Rattle.slices.specs.Slices.{freshState, stateSaid, cutSaid, moreSaid, StandsAt, stateWrong, mostBudget}
+use Rattle.rules.specs.Limits.{mostBudget}
+use Rattle.slices.specs.Slices.{freshState, stateSaid, cutSaid, moreSaid, StandsAt, stateWrong}
 use Rattle.slices.specs.Resume.{numberOf, Called}
 
 -- "or a fresh one": a fresh state stands at count 0, whatever the slices hold

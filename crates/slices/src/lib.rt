@@ -12,9 +12,6 @@ ghost use Rattle.table.specs.Slices.{cols};
 ghost use Rattle.slices.specs.Slices.{freshState};
 ghost use Rattle.slices.specs.Resume.{Advanced, Called};
 
-// The most candidates of a call of `resume`.
-pub const BUDGET: u64 = 1000000;
-
 // The state after a call, which tells the answer; or a refusal, and then the state is the one that was handed in.
 pub enum Resumed {
     Goes(State),
@@ -150,7 +147,7 @@ pub fn resume(
         budget state answer
         (cols (now (codes .exit)) (now (lefts .exit)) (now (rights .exit)) (now (sizes .exit)) (now (matrices .exit))) ⌝ }
 {
-    if BUDGET < budget {
+    if rules::BUDGET < budget {
         return Resumed::Refused(good::one_or_two(r, m));
     }
     advance(

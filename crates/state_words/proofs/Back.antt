@@ -17,10 +17,6 @@ use Rattle.state_words.specs.Promises.{StateComesBack}
 
 -- ---- words that are written in order
 
-written-long : (vs : List ℕ) (a : ℕ) (words : List ℕ) → length (written (inOrder a vs) words) ≡ length words
-written-long [] a words = refl
-written-long (v ∷ vs) a words = written-long vs (suc a) (set words a v) ∙ length-set words a v
-
 stays-before : (vs : List ℕ) (a : ℕ) (words : List ℕ) (j : ℕ) → j < a → getD (written (inOrder a vs) words) j 0 ≡ getD words j 0
 stays-before [] a words j h = refl
 stays-before (v ∷ vs) a words j h = stays-before vs (suc a) (set words a v) j (omega arith) ∙ getD-set-other words a j v 0 (λ e. omega arith)

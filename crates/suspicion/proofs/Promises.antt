@@ -27,7 +27,7 @@ use Rattle.verdict.specs.declared.Verdict.the-variants.{Accepted, Disagrees, Re
 use Rattle.verdict.proofs.Checking.{decided-list}
 use Rattle.formula.proofs.Spelled.{one-formula}
 use Rattle.grammar.specs.Grammar.{Refused11}
-use Rattle.grammar.proofs.Theorems.{one-tree, decided}
+use Rattle.grammar.proofs.Theorems.{one-tree, formula-or-offset}
 use Rattle.reader.specs.declared.Parsed.{Parsed}
 use Rattle.reader.specs.declared.Parsed.the-variants.{Nodes, Broken, Stops, Unknown}
 use Rattle.reader.specs.declared.Parsed.the-variants as parsed
@@ -156,7 +156,7 @@ module _ (p : Parts) (g : Good p) (text : List ℕ) where
     unknown o (inr (_, inl a)) s = absurd (omega (arith, a .0))
     unknown o (inr (_, inr (_, inl a))) s = absurd (omega (arith, a .0))
     unknown o (inr (_, inr (_, inr (f, inl (_, (k, v, u)))))) s =
-        is-unknown o s (⊎-elim (λ h. h) (λ h. absurd (f (h .0 ∷ []) (h .0, refl, h .1))) (decided text))
+        is-unknown o s (⊎-elim (λ h. h) (λ h. absurd (f (h .0 ∷ []) (h .0, refl, h .1))) (formula-or-offset text))
         (subst (λ (names : List (List ℕ)). FirstUnknown names text o) names-are (subst (FirstUnknown (namesIn front) text) (sym (head-eq-of-cons-eq v)) u))
     unknown o (inr (_, inr (_, inr (_, inr (_, inl a))))) s = absurd (omega (arith, a .0))
     unknown o (inr (_, inr (_, inr (_, inr (_, inr (_, inl a)))))) s = absurd (omega (arith, a .0))

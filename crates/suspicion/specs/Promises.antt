@@ -53,7 +53,11 @@ pub record ShownFor (file text out : List ℕ) : Type 0 where
   pub good : (p : Parts) → Good p → fileBytes p ≡ file → Meant p text out
   pub broken : (GoodFile file → ⊥) → (o : ℕ) × (wholeFile file ≡ bad o) × (out ≡ refusedAtLine 8 o)
 
--- whatever is written for a text and a file, a list of bytes, means what it says; 8,248 bytes hold every answer
+-- so many bytes hold every answer
+abbrev pub longestAnswer : ℕ
+longestAnswer = 8248
+
+-- whatever is written for a text and a file, a list of bytes, means what it says
 abbrev pub SuspicionMeans : Type 0
-SuspicionMeans = (text file : List ℕ) → ((i : ℕ) → getD file i 0 < 256) → (old new : List ℕ) (r : ℕ) → 8248 ≤ length old → TypedLinesOf text file old new r
+SuspicionMeans = (text file : List ℕ) → ((i : ℕ) → getD file i 0 < 256) → (old new : List ℕ) (r : ℕ) → longestAnswer ≤ length old → TypedLinesOf text file old new r
     → ShownFor file text (take r new)

@@ -9,7 +9,7 @@ use lib.Dec.{lit<}
 use lib.ListN.{length, take, drop}
 use lib.Seq.{sets, sets-eq}
 use Rattle.rules.specs.Refusals.{Decided}
-use Rattle.rules.proofs.Refusals.{decided-none}
+use Rattle.rules.proofs.Refusals.{decided-none, decided-early}
 use Rattle.names.specs.declared.NamesAnswer.{NamesAnswer}
 use Rattle.names.specs.declared.NamesAnswer.the-variants.{Names, Broken as NamesBroken}
 use Rattle.reading.specs.Reading.{Got, got, bad, broken}
@@ -26,7 +26,6 @@ use Rattle.text.specs.Text.{text, mostText}
 use Rattle.text.specs.Print.{shortRoom, PrintAnswer, PrintsBy, Prints}
 use Rattle.text.specs.Inner.{Passed, Printable, Written}
 use Rattle.formula.proofs.Faults.{whole-fits}
-use Rattle.formula.proofs.Tests.{decided-early}
 use Rattle.text.proofs.Printing.{formula-of, text-bound}
 
 -- ---- the names

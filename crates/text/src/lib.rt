@@ -11,6 +11,9 @@ ghost use Rattle.text.specs.Inner.{Passed};
 // The most bytes that a text can have.
 const LONGEST: usize = 391;
 
+// "391 bytes suffice for any formula."
+pub const LONGEST: usize = 391;
+
 // What printing answers: the text's length, the offset at which the names section is broken, or a refusal.
 pub enum Printed {
     Text(usize),

@@ -83,7 +83,7 @@ module _ (i : Recording) (k : List Node) (root : Node) where
 
   -- ---- what the tests give
 
-  pub passed : Decided (dataRows (i .sessions) (i .propositions) (i .marks) (i .lengths) (i .words)) 0 → (Broken (i .propositions) k root → ⊥)
+  pub passed : Decided (dataRows i) 0 → (Broken (i .propositions) k root → ⊥)
       → Checkable i k root × (i .sessions ≤ mostSessions)
   passed d u =
       let a = decided-none _ _ (lit< tt, (lit< tt, (lit< tt, (lit< tt, (lit< tt, tt))))) d in
@@ -111,20 +111,20 @@ pub next-from : {from : ℕ} (j m : ℕ) → from ≡ j * m → from + m ≡ (j 
 next-from {from} j m e = subst (λ (x : ℕ). from + m ≡ x * m) (sym (add-one j)) (omega (arith, suc-mul j m))
 
 module _ (i : Recording) (k : List Node) (root : Node) where
-  pub data-numbered : Numbered (dataRows (i .sessions) (i .propositions) (i .marks) (i .lengths) (i .words))
+  pub data-numbered : Numbered (dataRows i)
   data-numbered = (lit< tt, (lit< tt, (lit< tt, (lit< tt, (lit< tt, tt)))))
 
-  pub decided-list : (a b : ℕ) → Decided (dataRows (i .sessions) (i .propositions) (i .marks) (i .lengths) (i .words)) a → a ≡ 0
+  pub decided-list : (a b : ℕ) → Decided (dataRows i) a → a ≡ 0
       → Decided (brokenList (i .propositions) k root ∷ []) b → Decided (checkRows i k root) b
   decided-list a b p e q =
       subst (λ (x : ℕ). Decided (checkRows i k root) (firstOf x b)) e
-      (decided-both (dataRows (i .sessions) (i .propositions) (i .marks) (i .lengths) (i .words)) (brokenList (i .propositions) k root ∷ []) a b data-numbered p q)
+      (decided-both (dataRows i) (brokenList (i .propositions) k root ∷ []) a b data-numbered p q)
 
   -- both tests passed
-  pub checkable : (a b : ℕ) → Decided (dataRows (i .sessions) (i .propositions) (i .marks) (i .lengths) (i .words)) a → a ≡ 0
+  pub checkable : (a b : ℕ) → Decided (dataRows i) a → a ≡ 0
       → Decided (brokenList (i .propositions) k root ∷ []) b → b ≡ 0 → Checkable i k root × (i .sessions ≤ mostSessions)
   checkable a b p e q f =
-      passed i k root (subst (Decided (dataRows (i .sessions) (i .propositions) (i .marks) (i .lengths) (i .words))) e p)
+      passed i k root (subst (Decided (dataRows i)) e p)
       (decided-none (brokenList (i .propositions) k root) [] (lit< tt, tt) (subst (Decided (brokenList (i .propositions) k root ∷ [])) f q) .0)
 
 -- ---- separation, session by session

@@ -27,10 +27,10 @@ abbrev pub checkRowsWith : List Row → Recording → List Node → Node → Lis
 checkRowsWith own i k root =
     outsideNumbers (i .sessions) (i .propositions)
     ∷ (own
-    ++ (tooShort (i .sessions) (i .propositions) (i .marks) (i .lengths) (i .words)
-    ∷ tooLong (i .sessions) (i .propositions) (i .marks) (i .lengths) (i .words)
-    ∷ bitAbove (i .sessions) (i .propositions) (i .marks) (i .lengths) (i .words)
-    ∷ markWrong (i .sessions) (i .propositions) (i .marks) (i .lengths) (i .words)
+    ++ (tooShort i
+    ∷ tooLong i
+    ∷ bitAbove i
+    ∷ markWrong i
     ∷ brokenList (i .propositions) k root
     ∷ []))
 

@@ -1,4 +1,4 @@
--- `search` meets its contract: a walk of its code by hand, since it has a slice of structs. `columns::search` is handed the matrices for good, and `put_back`
+-- `search` meets its contract: a walk of its code by hand, since it has a slice of structs. `nodes_out::search` is handed the matrices for good, and `put_back`
 -- the nodes. The walk is over any types of the answer and of what the search leaves: these are large, and nothing of them is needed but that values have them.
 -- Assumes nothing.
 use mathlib.Core.Path.{_≡_, refl}
@@ -230,7 +230,7 @@ module _ {M : Type 1} (𝓤 : URA M) (H : Heap 𝓤) (A : Atoms 𝓤) (W : Given
   abbrev Post : Val → SProp 𝓤
   Post = walkOf 𝓤 H A this.ended stayed (this.clauses 𝓤 H A mem run) .post (((κ₀, (κ₁, (κ₂, (κ₃, (κ₄, (κ₅, (κ₆, tt))))))), (q₀, (q₁, (q₂, (q₃, (q₄, (q₅, (q₆, tt))))))), tt, a, at), tt)
 
-  -- the call of `columns::search`
+  -- the call of `nodes_out::search`
   abbrev Args-w : Type 0
   Args-w = ℕ × (ℕ × (ℕ × (ℕ × (ℕ × (RefT (List ℕ) × (RefT (List ℕ) × (RefT (List ℕ) × (RefT (List ℕ) × (RefT (List ℕ) × (ℕ × (RefT (List ℕ) × (Unit {0}))))))))))))
 

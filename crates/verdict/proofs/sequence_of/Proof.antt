@@ -13,7 +13,7 @@ use Rattle.session.specs.Data.{dataRows}
 use Rattle.session.specs.Recording.{recording}
 use Rattle.formula.specs.Kinds.{nodeOf, nodes}
 use Rattle.formula.specs.Rule.{brokenList}
-use Rattle.formula.proofs.Tests.{decided-early}
+use Rattle.rules.proofs.Refusals.{decided-early}
 use Rattle.verdict.proofs.Checking.{decided-list, checkable, ready-for}
 use Rattle.verdict.proofs.Sequencing.{sequence-on}
 use Rattle.verdict.proofs.sequence_of.Statement.{statement}
@@ -24,7 +24,7 @@ returns c =
     let a = c .before .before .before .before .before .before .before .before .before .args in
     record {
       number =
-          decided-early (dataRows (a .r) (a .m) (a .marks .now) (a .lengths .now) (a .words .now))
+          decided-early (dataRows (recording (a .r) (a .m) (a .marks .now) (a .lengths .now) (a .words .now)))
           (brokenList (a .m) (nodes (a .codes .now) (a .lefts .now) (a .rights .now) (a .sizes .now)) (nodeOf (a .root)) ∷ []) (c .before .test .result) (c .before .test .ensures)
           (c .if1 .taken);
       carries = (let n = c .if1 .taken in omega arith);
