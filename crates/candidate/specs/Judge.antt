@@ -41,14 +41,14 @@ pub record Does (i : Input) (node : Node) (t₀ t′ : Cols) (k : Table) (x : Ca
   pub holds : (n : Tally) → HoldsKept i (kept (comes v x k n)) t₀ t′
 
 -- whatever it was handed: one is kept only at a place below C and below the most that any table has, and otherwise nothing is written
-abbrev pub Placed : ℕ → ℕ → Cols → Cols → Fate → Type 0
-Placed room count t t′ Found = t′ ≡ t
-Placed room count t t′ Dropped = t′ ≡ t
-Placed room count t t′ Full = t′ ≡ t
-Placed room count t t′ Kept = (count < room) × (count < mostRoom)
+abbrev pub KeptInRoom : ℕ → ℕ → Cols → Cols → Fate → Type 0
+KeptInRoom room count t t′ Found = t′ ≡ t
+KeptInRoom room count t t′ Dropped = t′ ≡ t
+KeptInRoom room count t t′ Full = t′ ≡ t
+KeptInRoom room count t t′ Kept = (count < room) × (count < mostRoom)
 
 pub record Judged (r m room : ℕ) (marks words masks : List ℕ) (node : Node) (count : ℕ) (rows : List ℕ) (t t′ : Cols) (v : Fate) : Type 0 where
-  pub placed : Placed room count t t′ v
+  pub placed : KeptInRoom room count t t′ v
   pub runs : (bound constants : ℕ) (lengths unary binary : List ℕ) (t₀ : Cols) (k : Table) (x : Candidate (List ℕ))
       → Over (inputOf r m bound room constants marks lengths words unary binary) masks node count rows t₀ t k x
       → Does (inputOf r m bound room constants marks lengths words unary binary) node t₀ t′ k x v

@@ -19,7 +19,7 @@ use Rattle.walk.proofs.Reading.{lawful}
 use Rattle.comparison.specs.declared.Known.{Known}
 use Rattle.comparison.specs.declared.Known.the-variants.{At, New}
 use Rattle.comparison.specs.Compare.{Same, KnownAsk, KnownAnswer}
-use Rattle.rows.specs.Formulas.{nothing, matrixAt, Stored}
+use Rattle.rows.specs.Formulas.{noCandidate, matrixAt, Stored}
 use Rattle.comparison.specs.Promises.{KnownIsKnown, KnownBy}
 
 module _ (i : Input) where
@@ -90,7 +90,7 @@ known-by i ok e k n q before c d matrices rows st h m a w = go a w
     matrix-of : (p : ℕ) → p < length (d .so-far) → getD k p c .matrix ≡ matrixAt (d .so-far) p
     matrix-of p l =
         ap (λ (x : Table). getD x p c .matrix) (longer .1)
-        ∙ ap (λ (x : Candidate (List ℕ)). x .matrix) (at-front (d .so-far) (longer .0) p c nothing l)
+        ∙ ap (λ (x : Candidate (List ℕ)). x .matrix) (at-front (d .so-far) (longer .0) p c noCandidate l)
 
     size : length k ≡ length (d .so-far) + length (longer .0)
     size = ap length (longer .1) ∙ length-append (d .so-far) (longer .0)

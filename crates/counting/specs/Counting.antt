@@ -4,7 +4,7 @@ use mathlib.Core.Path.{_≡_}
 use mathlib.Core.List.{List, [], _∷_, _++_}
 use Prim.Native.Nat.{ℕ, _+_, _-_, _^_, _≤_, _<_, min}
 use lib.ListN.{length}
-use Rattle.walk.specs.Walk.{Candidate, found, full, Tally, tally, oneTried, oneDropped, State, going, ended, kept, counted}
+use Rattle.walk.specs.Walk.{Candidate, found, full, Tally, tally, oneTried, oneDropped, WalkState, going, ended, kept, walkTally}
 use Rattle.walk.specs.Kept.{Table}
 use Rattle.counting.specs.declared.Counts.{Counts}
 use Rattle.counting.specs.declared.Fate.{Fate}
@@ -23,7 +23,7 @@ countedBy Kept n = record { tried = oneMore (n .tried); kept = oneMore (n .kept)
 
 -- "if its acceptance equals the marks, FOUND; else if its matrix equals a kept one in every row, dropped; else if C are kept, FULL at size s; else kept
 -- at the next place": what the walk that has kept k, with the tally n, comes to by each
-abbrev pub comes : Fate → Candidate (List ℕ) → Table → Tally → State (List ℕ)
+abbrev pub comes : Fate → Candidate (List ℕ) → Table → Tally → WalkState (List ℕ)
 comes Found x k n = ended (found (x .node)) k (oneTried n)
 comes Dropped x k n = going k (oneDropped (oneTried n))
 comes Full x k n = ended (full (x .node .size)) k (oneTried n)
@@ -36,4 +36,4 @@ tallyOf n = tally (n .tried) (n .dropped)
 -- they are the walk's: of a walk that has kept k, where no count has reached the largest number. Proved under its name in proofs/Tallies: counts-are-walks
 abbrev pub CountsAreWalks : Type 0
 CountsAreWalks = (v : Fate) (n : Counts) (x : Candidate (List ℕ)) (k : Table) → n .kept ≡ length k → n .tried + 1 < 2 ^ 64 → n .kept ≤ n .tried → n .dropped ≤ n .tried
-    → (tallyOf (countedBy v n) ≡ counted (comes v x k (tallyOf n))) × (countedBy v n .kept ≡ length (kept (comes v x k (tallyOf n))))
+    → (tallyOf (countedBy v n) ≡ walkTally (comes v x k (tallyOf n))) × (countedBy v n .kept ≡ length (kept (comes v x k (tallyOf n))))

@@ -11,14 +11,14 @@ use lib.ListN.{length, drop, length-map}
 use lib.Seq.{sets}
 use Rattle.file.specs.declared.ReadAnswer.{ReadAnswer}
 use Rattle.file.specs.declared.ReadAnswer.the-variants.{Parts as AllParts, Broken, Room}
-use Rattle.sections.specs.Numbers.{fileSessions, propositions}
+use Rattle.sections.specs.Numbers.{fileSessions, filePropositions}
 use Rattle.file.specs.Format.{Parts, Good}
 use Rattle.reading.specs.Reading.{section, Got, got, bad}
 use Rattle.names.specs.Names.{nameBytes}
 use Rattle.file.specs.Offence.{wholeFile}
-use Rattle.file.specs.Reading.{said, Lent, lent, after, marksOf, lengthsOf, wordsOf, roomFor, readOf}
+use Rattle.file.specs.Reading.{saidRead, Lent, lent, readAfter, marksOf, lengthsOf, wordsOf, roomFor, readOf}
 use Rattle.rules.specs.Answers.{over}
-use Rattle.file.specs.Inner.{numbersOf, answerOf, Enough, strided, sessionWords}
+use Rattle.file.specs.Inner.{numbersOf, readAnswerOf, Enough, strided, sessionWords}
 use Rattle.file.proofs.Numbers.{Bytes}
 use Rattle.file.proofs.Whole.{passed-is-good}
 use Rattle.file.proofs.Positions.{layout, filled, length-all-words}
@@ -38,7 +38,7 @@ module _ (file : List ℕ) where
     pub mark : parts .constants ≡ constants
     pub size : parts .bound ≡ bound
     pub few : r ≤ fileSessions
-    pub narrow : m ≤ propositions
+    pub narrow : m ≤ filePropositions
     pub room : a + 1 + r * (2 + 8 * m) + u + 2 + v + 3 ≡ length file
     pub marks : strided (2 + 8 * m) r (drop (a + 1) file) ≡ marksOf parts
     pub lengths : strided (2 + 8 * m) r (drop (a + 1 + 1) file) ≡ lengthsOf parts
@@ -80,7 +80,7 @@ module _ (file : List ℕ) where
           binary = l .binary;
         }
 
-    module _ (answer : ReadAnswer) (j : answer ≡ answerOf file) where
+    module _ (answer : ReadAnswer) (j : answer ≡ readAnswerOf file) where
       told : KnownOf answer
       told = subst KnownOf (sym j) (known-of (wholeFile file) refl)
 
@@ -102,12 +102,12 @@ module _ (file : List ℕ) where
     abbrev all : Lent
     all = lent marks lengths words unary binary
 
-    pub refused : {o : ℕ} → wholeFile file ≡ bad o → after (said (Broken o)) marks lengths words unary binary ≡ readOf file all
+    pub refused : {o : ℕ} → wholeFile file ≡ bad o → readAfter (saidRead (Broken o)) marks lengths words unary binary ≡ readOf file all
     refused e = rw e
 
     module _ {r m a u v constants bound : ℕ} (k : Known r m a u v constants bound) where
       pub no-room : {b : Bool} → Enough (length marks) (length lengths) (length words) (length unary) (length binary) r (m * r) u v b → b ≡ false
-          → after (said Room) marks lengths words unary binary ≡ readOf file all
+          → readAfter (saidRead Room) marks lengths words unary binary ≡ readOf file all
       no-room e h = rw (k .is, (let z : roomFor (k .parts) all ≡ false = rw (k .count, k .width, k .unaries, k .binaries) (e .lacks h) in z))
 
       module _ (hm : r ≤ length marks) (hl : r ≤ length lengths) (hw : m * r ≤ length words) (hu : u ≤ length unary) (hb : v ≤ length binary) where
@@ -142,7 +142,7 @@ module _ (file : List ℕ) where
         new-binary : sets binary 0 (strided 1 v (drop (a + 1 + r * (2 + 8 * m) + u + 2) file)) ≡ over (k .parts .binary) binary
         new-binary = ap (sets binary 0) (k .binary) ∙ filled (k .parts .binary) binary (omega (arith, k .binaries))
 
-        pub written : after (said (AllParts r m a u v constants bound))
+        pub written : readAfter (saidRead (AllParts r m a u v constants bound))
             (sets marks 0 (strided (2 + 8 * m) r (drop (a + 1) file)))
             (sets lengths 0 (strided (2 + 8 * m) r (drop (a + 1 + 1) file)))
             (sets words 0 (sessionWords m r (drop (a + 1) file)))

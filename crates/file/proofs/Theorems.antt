@@ -22,7 +22,7 @@ use Rattle.file.specs.Offence.{wholeFile}
 use Rattle.session.specs.Data.{dataRows}
 use Rattle.session.specs.Recording.{recording}
 use Rattle.rules.specs.Answers.{Said}
-use Rattle.file.specs.Reading.{said, Lent, lent, After, after, marksOf, lengthsOf, wordsOf, roomFor, readOf}
+use Rattle.file.specs.Reading.{saidRead, Lent, lent, After, readAfter, marksOf, lengthsOf, wordsOf, roomFor, readOf}
 use Rattle.reading.proofs.Readers.{got-bad, got-value}
 use Rattle.reading.proofs.Ends.{each-at}
 use Rattle.names.proofs.Theorems.{names-accepts}
@@ -148,7 +148,7 @@ binary-once p g i j h k e = each-at GoodBinary 0 (p .binary) [] (g .binary) j k 
 
 -- ---- any two allowed results are equal
 
-said-one : (a b : ReadAnswer) → said a ≡ said b → a ≡ b
+said-one : (a b : ReadAnswer) → saidRead a ≡ saidRead b → a ≡ b
 said-one (AllParts r m n u v c d) (AllParts r′ m′ n′ u′ v′ c′ d′) e =
     let t : r ∷ m ∷ n ∷ u ∷ v ∷ c ∷ d ∷ [] ≡ r′ ∷ m′ ∷ n′ ∷ u′ ∷ v′ ∷ c′ ∷ d′ ∷ [] = ap (λ (s : Said). s .values) e in
     cc
@@ -162,8 +162,9 @@ said-one Room (Broken o) e = let t : _≡_ {A = ℕ} 3 8 = ap (λ (s : Said). s 
 said-one Room Room e = refl
 
 -- `read`: the answer and the later contents of all five lent slices
-pub read-unique : (file : List ℕ) (l : Lent) (a b : ReadAnswer) (m n u v w m′ n′ u′ v′ w′ : List ℕ) → after (said a) m n u v w ≡ readOf file l → after (said b) m′ n′ u′ v′ w′ ≡ readOf file l
+pub read-unique : (file : List ℕ) (l : Lent) (a b : ReadAnswer) (m n u v w m′ n′ u′ v′ w′ : List ℕ) → readAfter (saidRead a) m n u v w ≡ readOf file l
+    → readAfter (saidRead b) m′ n′ u′ v′ w′ ≡ readOf file l
     → (a ≡ b) × (lent m n u v w ≡ lent m′ n′ u′ v′ w′)
 read-unique file l a b m n u v w m′ n′ u′ v′ w′ p q =
-    let e : after (said a) m n u v w ≡ after (said b) m′ n′ u′ v′ w′ = p ∙ sym q in
+    let e : readAfter (saidRead a) m n u v w ≡ readAfter (saidRead b) m′ n′ u′ v′ w′ = p ∙ sym q in
     (said-one a b (ap (λ (x : After). x .answer) e), ap (λ (x : After). x .left) e)

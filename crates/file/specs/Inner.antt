@@ -29,8 +29,8 @@ numbersOf (got p next) =
     AllParts (length (p .sessions)) (length (p .names)) (length (section nameBytes (p .names))) (length (p .unary)) (length (p .binary)) (p .constants) (p .bound)
 numbersOf (bad o) = FileBroken o
 
-abbrev pub answerOf : List ℕ → ReadAnswer
-answerOf file = numbersOf (wholeFile file)
+abbrev pub readAnswerOf : List ℕ → ReadAnswer
+readAnswerOf file = numbersOf (wholeFile file)
 
 -- ---- the room
 

@@ -10,9 +10,9 @@ use Rattle.formula.specs.Faultless.{Fits, AllFit}
 
 module _ (m : ℕ) (k : List Node) where
   -- what a test of one node says
-  abbrev pub Judged : ℕ → Node → Bool → Type 0
-  Judged below n true = Fits m k below n
-  Judged below n false = Fault m k below n
+  abbrev pub NodeJudged : ℕ → Node → Bool → Type 0
+  NodeJudged below n true = Fits m k below n
+  NodeJudged below n false = Fault m k below n
 
   -- what a test of the whole list says
   abbrev pub AllJudged : ℕ → Bool → Type 0
@@ -21,11 +21,11 @@ module _ (m : ℕ) (k : List Node) where
 
 -- a leaf's test looks at no other node
 abbrev pub LeafJudged : ℕ → Node → Bool → Type 0
-LeafJudged m n r = (k : List Node) (below : ℕ) → Judged m k below n r
+LeafJudged m n r = (k : List Node) (below : ℕ) → NodeJudged m k below n r
 
 -- an operator's looks at the sizes of its children, wherever they are listed
 abbrev pub UnaryJudged : ℕ → Node → ℕ → Bool → Type 0
-UnaryJudged below n l r = (m : ℕ) (k : List Node) → nodeAt k (n .left) .size ≡ l → Judged m k below n r
+UnaryJudged below n l r = (m : ℕ) (k : List Node) → nodeAt k (n .left) .size ≡ l → NodeJudged m k below n r
 
 abbrev pub BinaryJudged : ℕ → Node → ℕ → ℕ → Bool → Type 0
-BinaryJudged below n l r a = (m : ℕ) (k : List Node) → nodeAt k (n .left) .size ≡ l → nodeAt k (n .right) .size ≡ r → Judged m k below n a
+BinaryJudged below n l r a = (m : ℕ) (k : List Node) → nodeAt k (n .left) .size ≡ l → nodeAt k (n .right) .size ≡ r → NodeJudged m k below n a

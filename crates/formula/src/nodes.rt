@@ -10,7 +10,7 @@ ghost use Rattle.formula.specs.Nodes.{nodeAt};
 ghost use Rattle.rules.specs.Refusals.{Decided};
 ghost use Rattle.formula.specs.Kinds.{nodeOf, countOf, nodes};
 ghost use Rattle.formula.specs.Rule.{IsUnary, IsBinary, brokenList};
-ghost use Rattle.formula.specs.Inner.{Judged, AllJudged, LeafJudged, UnaryJudged, BinaryJudged};
+ghost use Rattle.formula.specs.Inner.{NodeJudged, AllJudged, LeafJudged, UnaryJudged, BinaryJudged};
 
 // How many nodes four slices have: as many as the shortest.
 pub fn count(codes: &[u8], lefts: &[u16], rights: &[u16], sizes: &[u8]) -> usize
@@ -141,7 +141,7 @@ fn node_good(
     below: usize,
     node: Node,
 ) -> bool
-    ensures { λ r. ⌜ Judged m (nodes (now (codes .entry)) (now (lefts .entry)) (now (rights .entry)) (now (sizes .entry))) below (nodeOf node) r ⌝ }
+    ensures { λ r. ⌜ NodeJudged m (nodes (now (codes .entry)) (now (lefts .entry)) (now (rights .entry)) (now (sizes .entry))) below (nodeOf node) r ⌝ }
 {
     let group = operators::operator_of(node.code).group;
     match group {

@@ -10,7 +10,7 @@ use Rattle.sequence.specs.Operators.{unaryToken, binaryToken}
 use Rattle.formula.specs.Formula.{leaf, unary, binary, Leaf, proposition, Formula}
 use Rattle.formula.specs.Formula as formula
 use Rattle.text.specs.Text.{space, bracketed, leafText, text}
-use Rattle.grammar.specs.Token.{constant, Typed, Token, pre, mid, atom, opens, closes, Apart, SpelledBy, end, gap, token}
+use Rattle.grammar.specs.Token.{constant, Typed, Token, pre, mid, atom, opens, closes, NoWordByte, SpelledBy, end, gap, token}
 use Rattle.grammar.specs.Grammar.{Derives, alone, prefix, bracket, between, Reads}
 use Rattle.grammar.specs.Naming.{atomOf, typed, GoodLeaf, AllNamed}
 use Rattle.grammar.specs.Promises.{Printed}
@@ -34,7 +34,7 @@ derives (binary o l r) = let s = sides o in lower (omega arith) (between o (lowe
 
 -- the text spells the tokens, before whatever begins with no word's byte
 abbrev Prints : List Token → List ℕ → Type 0
-Prints ts text = (us : List Token) (more : List ℕ) → Apart more → SpelledBy us more → SpelledBy (ts ++ us) (text ++ more)
+Prints ts text = (us : List Token) (more : List ℕ) → NoWordByte more → SpelledBy us more → SpelledBy (ts ++ us) (text ++ more)
 
 -- in brackets, before anything
 wrap : (ts : List Token) (text : List ℕ) → Prints ts text → {us : List Token} {more : List ℕ} → SpelledBy us more → SpelledBy (inBrackets ts ++ us) (bracketed text ++ more)

@@ -11,19 +11,19 @@ use borrow.Author.Tests.{lt-ltb, le-ltb, ne-eqb, eq-eqb}
 use lib.Dec.{eqb}
 use lib.ListN.{length, take, drop, getD, length-append, drop-of-length-le, List·getD-eq-default}
 use Rattle.sequence.specs.Operators.{Unary, unaryCode}
-use Rattle.grammar.specs.Token.{Atom, pre, Apart}
+use Rattle.grammar.specs.Token.{Atom, pre, NoWordByte}
 use Rattle.sequence.specs.Operators.Unary.{not, weakNext, strongNext, finally, globally}
 use Rattle.names.specs.Names.{isLetter, isNameByte, sameBytes}
 use Rattle.grammar.specs.Scan.{blank, bang, opener, closer, amp, bar, dash, less, other, Kind, wordy, square, sign, kind, Class, prefixed, leafy, neither, classify, ready, word}
-use Rattle.grammar.specs.Scan.{rest, dead, onReady, step, finish}
-use Rattle.grammar.specs.Passing.{Passes, Stops}
+use Rattle.grammar.specs.Scan.{rest, dead, onReady, scanStep, scanEnd}
+use Rattle.grammar.specs.Passing.{ScanPasses, Stops}
 use Rattle.reading.proofs.Lists.{true-false}
 use Rattle.spelling.proofs.Same.{same-eq}
 use Rattle.grammar.proofs.Words.{KindIs, kind-is, kind-word, letter-word, ClassIs, class-is}
 use Rattle.grammar.proofs.Complete.{NoSquare}
 use Rattle.grammar.proofs.Passage as passage
-use Rattle.operand.specs.declared.First.{First}
-use Rattle.operand.specs.declared.First.the-variants.{Operator, Open, Word as LeafWord, Bad}
+use Rattle.operand.specs.declared.Awaited.{Awaited}
+use Rattle.operand.specs.declared.Awaited.the-variants.{Operator, Open, Word as LeafWord, Bad}
 use Rattle.operand.specs.Front.{Front, Fronts, Ran, Strong}
 use Rattle.tokens.proofs.Operators.{inside, head}
 
@@ -63,7 +63,7 @@ module _ (text : List ℕ) where
     run-stops f e = record { forward = omega arith; within = g; short = f; stops = λ l. e; grows = λ v n. ([], rw append-nil n, (λ d. rw append-nil (passage.pass-none text g)), none-taken) }
 
     pub run-on : {r : ℕ} → i - start < 16 → isNameByte (getD text i 0) ≡ true → Ran text start (i + 1) r → Ran text start i r
-    unfolding step
+    unfolding scanStep
     run-on {r} f e s = record {
       forward = omega (arith, s .forward);
       within = s .within;
@@ -76,7 +76,7 @@ module _ (text : List ℕ) where
             b ∷ k .0,
             rw (append-assoc v (b ∷ []) (k .0)) at (k .1),
             (λ d.
-                let p : Passes text (word v d) i [] (word (v ++ (b ∷ [])) d) (i + 1) = passage.pass-byte text (word-inside i e) (rw (kind-word b e, lt-ltb (length v) 16 (omega arith))) in
+                let p : ScanPasses text (word v d) i [] (word (v ++ (b ∷ [])) d) (i + 1) = passage.pass-byte text (word-inside i e) (rw (kind-word b e, lt-ltb (length v) 16 (omega arith))) in
                 rw (append-assoc v (b ∷ []) (k .0)) at (passage.pass-then text p (k .2 d))),
             one-taken i r (word-inside i e) (s .forward) (k .3),
           );
@@ -86,7 +86,7 @@ module _ (text : List ℕ) where
 
   -- a byte that must come and does not
   rest-stops : (at c : ℕ) (cs : List ℕ) (d : ℕ) → at ≤ length text → (getD text at 0 ≡ c → ⊥) → Stops text (rest c cs (pre strongNext) d) at at
-  unfolding step finish
+  unfolding scanStep scanEnd
   rest-stops at c cs d h n = elim (decLt at (length text)) [
     | yes g ↦ passage.stop-byte text g (rw (ne-eqb (getD text at 0) c n))
     | no g ↦ passage.stop-end text (omega arith) refl
@@ -94,12 +94,12 @@ module _ (text : List ℕ) where
 
   module _ (at : ℕ) where
     module _ (e : getD text at 0 ≡ 33) where
-      bang-passes : (d : ℕ) → Passes text (rest 33 (93 ∷ []) (pre strongNext) d) at [] (rest 93 [] (pre strongNext) d) (at + 1)
-      unfolding step
+      bang-passes : (d : ℕ) → ScanPasses text (rest 33 (93 ∷ []) (pre strongNext) d) at [] (rest 93 [] (pre strongNext) d) (at + 1)
+      unfolding scanStep
       bang-passes d = passage.pass-byte text (inside text at 32 e) (rw e)
 
       pub strong-is : getD text (at + 1) 0 ≡ 93 → Strong text at (Operator (at + 2) 2)
-      unfolding step
+      unfolding scanStep
       strong-is f =
           let n : at + 2 ≡ (at + 1) + 1 = omega arith in
           (omega arith, (λ d. rw n (passage.pass-then text (bang-passes d) (passage.pass-byte text (inside text (at + 1) 92 f) (rw f)))), refl)
@@ -112,8 +112,8 @@ module _ (text : List ℕ) where
 
   -- ---- word
 
-  square-byte : (d : ℕ) {end : ℕ} → getD text end 0 ≡ 91 → Passes text (word (88 ∷ []) d) end [] (rest 33 (93 ∷ []) (pre strongNext) d) (end + 1)
-  unfolding step kind
+  square-byte : (d : ℕ) {end : ℕ} → getD text end 0 ≡ 91 → ScanPasses text (word (88 ∷ []) d) end [] (rest 33 (93 ∷ []) (pre strongNext) d) (end + 1)
+  unfolding scanStep kind
   square-byte d {end} q = passage.pass-byte text (inside text end 90 q) (rw q)
 
   -- the classes of a word that begins with b
@@ -131,18 +131,18 @@ module _ (text : List ℕ) where
       by-class neither e (inr p) = absurd (n (cc) .4 (cc))
 
   module _ (at b : ℕ) (h : at < length text) (e : getD text at 0 ≡ b) (l : isLetter b ≡ true) {end : ℕ} (r : Ran text at (at + 1) end) where
-    letter-passes : (d : ℕ) → Passes text (ready d) at [] (word (b ∷ []) d) (at + 1)
-    unfolding step
+    letter-passes : (d : ℕ) → ScanPasses text (ready d) at [] (word (b ∷ []) d) (at + 1)
+    unfolding scanStep
     letter-passes d = passage.pass-byte text h (rw (e, kind-word b (letter-word b l), l))
 
     -- the whole word
-    ran : (x : List ℕ) × (at + length (b ∷ x) ≡ end) × ((d : ℕ) → Passes text (ready d) at [] (word (b ∷ x) d) end) × (take (end - at) (drop at text) ≡ b ∷ x)
+    ran : (x : List ℕ) × (at + length (b ∷ x) ≡ end) × ((d : ℕ) → ScanPasses text (ready d) at [] (word (b ∷ x) d) end) × (take (end - at) (drop at text) ≡ b ∷ x)
     ran =
         let g = r .grows (b ∷ []) (omega arith) in
         (g .0, g .1, (λ d. passage.pass-then text (letter-passes d) (g .2 d)), one-taken at end h (r .forward) (g .3) ∙ ap (λ (v : ℕ). v ∷ g .0) e)
 
     pub word-long : isNameByte (getD text end 0) ≡ true → Fronts text at (Bad end)
-    unfolding step
+    unfolding scanStep
     word-long w d =
         let g = ran in
         let full : at + 16 ≤ end = elim (decLt end (at + 16)) [ yes s ↦ absurd (true-false w (r .stops s)) | no s ↦ omega arith ] in
@@ -150,7 +150,7 @@ module _ (text : List ℕ) where
 
     module _ (w : isNameByte (getD text end 0) ≡ false) where
       -- no word goes on
-      apart : Apart (drop end text)
+      apart : NoWordByte (drop end text)
       apart = elim (decLt end (length text)) [ yes s ↦ rw (head text s refl) w | no s ↦ rw (drop-of-length-le text {i = end} (omega arith)) tt ]
 
       pub word-leaf : ((end ≡ at + 1) → (b ≡ 88 → ⊥) × (b ≡ 70 → ⊥) × (b ≡ 71 → ⊥) × (b ≡ 85 → ⊥) × (b ≡ 82 → ⊥)) → Fronts text at (LeafWord end at)
@@ -168,7 +168,7 @@ module _ (text : List ℕ) where
         short [] q = refl
         short (a ∷ x) q = absurd (omega arith)
 
-        single : (d : ℕ) → Passes text (ready d) at [] (word (b ∷ []) d) end
+        single : (d : ℕ) → ScanPasses text (ready d) at [] (word (b ∷ []) d) end
         single d = let g = ran in let z = short (g .0) (g .1) in rw z at (g .2 d)
 
         clear : (getD text end 0 ≡ 91 → ⊥) → NoSquare (drop end text)
@@ -205,13 +205,13 @@ module _ (text : List ℕ) where
         unfolding classify
         word-release q = word-neither (rw q)
 
-        pub word-strong : b ≡ 88 → getD text end 0 ≡ 91 → (f : First) → Strong text (end + 1) f → Fronts text at f
+        pub word-strong : b ≡ 88 → getD text end 0 ≡ 91 → (f : Awaited) → Strong text (end + 1) f → Fronts text at f
         word-strong x q f s = by-answer f s
           where
-            square-passes : (d : ℕ) → Passes text (ready d) at [] (rest 33 (93 ∷ []) (pre strongNext) d) (end + 1)
+            square-passes : (d : ℕ) → ScanPasses text (ready d) at [] (rest 33 (93 ∷ []) (pre strongNext) d) (end + 1)
             square-passes d = passage.pass-then text (single d) (rw x (square-byte d q))
 
-            by-answer : (f : First) → Strong text (end + 1) f → Fronts text at f
+            by-answer : (f : Awaited) → Strong text (end + 1) f → Fronts text at f
             by-answer (Operator next code) s = (omega (arith, s .0, r .forward), strongNext, (λ d. passage.pass-then text (square-passes d) (s .1 d)), s .2)
             by-answer (Open next) s = absurd s
             by-answer (LeafWord next start) s = absurd s
@@ -221,36 +221,36 @@ module _ (text : List ℕ) where
 
   module _ (at : ℕ) where
     front-end : at ≤ length text → length text ≤ at → Fronts text at (Bad at)
-    unfolding finish
+    unfolding scanEnd
     front-end h g d = passage.stop-end text (omega arith) refl
 
     pub front-past : length text ≤ at → Front text at (Bad at)
     front-past g = ((λ h. front-end h g), λ _. refl)
 
-    pub front-inside : {f : First} → at < length text → Fronts text at f → Front text at f
+    pub front-inside : {f : Awaited} → at < length text → Fronts text at f → Front text at f
     front-inside h x = ((λ _. x), λ g. absurd (omega (arith, h, g)))
 
     module _ (h : at < length text) where
-      blank-passes : getD text at 0 ≡ 32 → (d : ℕ) → Passes text (ready d) at [] (ready d) (at + 1)
-      unfolding step kind
+      blank-passes : getD text at 0 ≡ 32 → (d : ℕ) → ScanPasses text (ready d) at [] (ready d) (at + 1)
+      unfolding scanStep kind
       blank-passes e d = passage.pass-byte text h (rw e)
 
-      pub front-blank : getD text at 0 ≡ 32 → (f : First) → Fronts text (at + 1) f → Fronts text at f
+      pub front-blank : getD text at 0 ≡ 32 → (f : Awaited) → Fronts text (at + 1) f → Fronts text at f
       front-blank e (Operator next code) s = (omega (arith, s .0), s .1, (λ d. passage.pass-then text (blank-passes e d) (s .2 d)), s .3)
       front-blank e (Open next) s = (omega (arith, s .0), λ d. passage.pass-then text (blank-passes e d) (s .1 d))
       front-blank e (LeafWord next start) s = (omega (arith, s .0), s .1, (λ d. passage.pass-then text (blank-passes e d) (s .2 d)), s .3)
       front-blank e (Bad k) s = λ d. passage.pass-stop text (blank-passes e d) (s d)
 
       pub front-bang : getD text at 0 ≡ 33 → Fronts text at (Operator (at + 1) 0)
-      unfolding step kind
+      unfolding scanStep kind
       front-bang e = (omega arith, not, (λ d. passage.pass-byte text h (rw e)), refl)
 
       pub front-open : getD text at 0 ≡ 40 → Fronts text at (Open (at + 1))
-      unfolding step kind
+      unfolding scanStep kind
       front-open e = (omega arith, λ d. passage.pass-byte text h (rw e))
 
       pub front-none : (getD text at 0 ≡ 32 → ⊥) → (getD text at 0 ≡ 33 → ⊥) → (getD text at 0 ≡ 40 → ⊥) → isLetter (getD text at 0) ≡ false → Fronts text at (Bad at)
-      unfolding step
+      unfolding scanStep
       front-none n1 n2 n3 l d = passage.stop-byte text h (by-kind (kind b) (kind-is b))
         where
           b : ℕ

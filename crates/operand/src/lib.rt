@@ -10,7 +10,7 @@ ghost use Rattle.names.specs.Names.{isLetter};
 ghost use Rattle.operand.specs.Front.{Front, Fronts, Ran, Strong};
 
 // A prefix operator, an opening bracket or a leaf, up to its end; or no operand.
-pub enum First {
+pub enum Awaited {
     Operator { next: usize, code: u8 },
     Open(usize),
     Word { next: usize, start: usize },
@@ -33,7 +33,7 @@ fn run(text: &[u8], start: usize, i: usize) -> usize
 }
 
 // `!]`, behind `X[`.
-fn strong(text: &[u8], at: usize) -> First
+fn strong(text: &[u8], at: usize) -> Awaited
     requires { ⌜ at ≤ length (now text) ⌝ }
     ensures { λ r. ⌜ Strong (now (text .entry)) at r ⌝ }
 {
@@ -41,78 +41,78 @@ fn strong(text: &[u8], at: usize) -> First
     if b == b'!' {
         let c = bytes::byte(text, at + 1);
         if c == b']' {
-            return First::Operator {
+            return Awaited::Operator {
                 next: at + 2,
                 code: 2,
             };
         }
-        return First::Bad(at + 1);
+        return Awaited::Bad(at + 1);
     }
-    First::Bad(at)
+    Awaited::Bad(at)
 }
 
 // A word that begins here, with the letter b.
-fn word(text: &[u8], at: usize, b: u8) -> First
+fn word(text: &[u8], at: usize, b: u8) -> Awaited
     requires { ⌜ (at < length (now text)) × (getD (now text) at 0 ≡ b) × (isLetter b ≡ true) ⌝ }
     ensures { λ r. ⌜ Fronts (now (text .entry)) at r ⌝ }
 {
     let end = run(text, at, at + 1);
     let c = bytes::byte(text, end);
     if is_name_byte(c) {
-        return First::Bad(end);
+        return Awaited::Bad(end);
     }
     if end == at + 1 {
         if b == b'X' {
             if c == b'[' {
                 return strong(text, end + 1);
             }
-            return First::Operator { next: end, code: 1 };
+            return Awaited::Operator { next: end, code: 1 };
         }
         if b == b'F' {
-            return First::Operator { next: end, code: 3 };
+            return Awaited::Operator { next: end, code: 3 };
         }
         if b == b'G' {
-            return First::Operator { next: end, code: 4 };
+            return Awaited::Operator { next: end, code: 4 };
         }
         if b == b'U' {
-            return First::Bad(end);
+            return Awaited::Bad(end);
         }
         if b == b'R' {
-            return First::Bad(end);
+            return Awaited::Bad(end);
         }
-        return First::Word {
+        return Awaited::Word {
             next: end,
             start: at,
         };
     }
-    First::Word {
+    Awaited::Word {
         next: end,
         start: at,
     }
 }
 
 // The operand's first token behind the spaces.
-pub fn front(text: &[u8], at: usize) -> First
+pub fn front(text: &[u8], at: usize) -> Awaited
     ensures { λ r. ⌜ Front (now (text .entry)) at r ⌝ }
 {
     if text.len() <= at {
-        return First::Bad(at);
+        return Awaited::Bad(at);
     }
     let b = bytes::byte(text, at);
     if b == b' ' {
         return front(text, at + 1);
     }
     if b == b'!' {
-        return First::Operator {
+        return Awaited::Operator {
             next: at + 1,
             code: 0,
         };
     }
     if b == b'(' {
-        return First::Open(at + 1);
+        return Awaited::Open(at + 1);
     }
     if is_letter(b) {
         return word(text, at, b);
     }
-    First::Bad(at)
+    Awaited::Bad(at)
 }

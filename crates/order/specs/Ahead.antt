@@ -8,15 +8,15 @@ use lib.Dec.{eqb, ltb}
 use Rattle.rules.specs.Lists.{each}
 use Rattle.split.specs.declared.Cursor.{Cursor}
 use Rattle.split.specs.Split.{cursor, resume, column, partFrom, candIn, afterIn, Cand, cand, range}
-use Rattle.order.specs.Size.{Layer, leaves, start}
+use Rattle.order.specs.Size.{Layer, leafCands, firstPlace}
 
 abbrev pub leafCursor : ℕ → Cursor
 leafCursor o = cursor 0 0 0 o false
 
 -- split 0 has the unary operators, the others the binary ones
-abbrev pub codesOf : List ℕ → List ℕ → ℕ → List ℕ
-codesOf unary binary zero = unary
-codesOf unary binary (suc i) = binary
+abbrev pub splitCodes : List ℕ → List ℕ → ℕ → List ℕ
+splitCodes unary binary zero = unary
+splitCodes unary binary (suc i) = binary
 
 -- the places of each split: in split 0 the left ones are of size s-1, and the right field is 0; in split i they are of sizes i and s-1-i
 module _ (s : ℕ) (starts : List ℕ) where
@@ -25,35 +25,35 @@ module _ (s : ℕ) (starts : List ℕ) where
   leftSize (suc i) = suc i
 
   abbrev pub leftStart : ℕ → ℕ
-  leftStart i = start starts (leftSize i)
+  leftStart i = firstPlace starts (leftSize i)
 
   abbrev pub leftEnd : ℕ → ℕ
-  leftEnd i = start starts (leftSize i + 1)
+  leftEnd i = firstPlace starts (leftSize i + 1)
 
   abbrev pub rightStart : ℕ → ℕ
   rightStart zero = 0
-  rightStart (suc i) = start starts (s - 1 - suc i)
+  rightStart (suc i) = firstPlace starts (s - 1 - suc i)
 
   abbrev pub rightEnd : ℕ → ℕ
   rightEnd zero = 1
-  rightEnd (suc i) = start starts (s - 1 - suc i + 1)
+  rightEnd (suc i) = firstPlace starts (s - 1 - suc i + 1)
 
 -- of the leaves: at size 1 the position in their list stands in the operator's field
 unfoldable pub leavesAhead : ℕ → ℕ → Cursor → List Cursor
-leavesAhead m constants at = map leafCursor (range (at .operator) (length (leaves m constants)))
+leavesAhead m constants at = map leafCursor (range (at .operator) (length (leafCands m constants)))
 
 abbrev pub leafAt : ℕ → ℕ → Cursor → Cand
-leafAt m constants at = getD (leaves m constants) (at .operator) (cand 0 0 0)
+leafAt m constants at = getD (leafCands m constants) (at .operator) (cand 0 0 0)
 
 abbrev pub afterLeaf : Cursor → Cursor
 afterLeaf at = leafCursor (at .operator + 1)
 
 module _ (g : Layer) where
   abbrev pub codesIn : ℕ → List ℕ
-  codesIn i = codesOf (g .unary) (g .binary) i
+  codesIn i = splitCodes (g .unary) (g .binary) i
 
-  abbrev pub part : ℕ → List Cursor
-  part i =
+  abbrev pub splitCursors : ℕ → List Cursor
+  splitCursors i =
       each (range (leftStart (g .size) (g .starts) i) (leftEnd (g .size) (g .starts) i))
       (column (codesIn i) i (rightStart (g .size) (g .starts) i) (rightEnd (g .size) (g .starts) i))
 
@@ -62,7 +62,7 @@ module _ (g : Layer) where
 
   -- split 0 is "first every kept formula of size s-1 .., and for each the unary operators"; "Then i from 1 while i < ceil(s/2)"
   unfoldable pub partsAhead : Cursor → List Cursor
-  partsAhead at = resume (partAhead at) part (at .split) ((g .size + 1) / 2)
+  partsAhead at = resume (partAhead at) splitCursors (at .split) ((g .size + 1) / 2)
 
   -- THE CURSORS AHEAD, from any cursor on; none where `starts` does not reach the size
   unfoldable pub ahead : Cursor → List Cursor
@@ -72,8 +72,8 @@ module _ (g : Layer) where
   unfoldable pub candidateAt : Cursor → Cand
   candidateAt at = cond (eqb (g .size) 1) (leafAt (g .propositions) (g .constants) at) (candIn (codesIn (at .split)) at)
 
-  unfoldable pub after : Cursor → Cursor
-  after at = cond (eqb (g .size) 1) (afterLeaf at) (afterIn (codesIn (at .split)) at)
+  unfoldable pub nextCursor : Cursor → Cursor
+  nextCursor at = cond (eqb (g .size) 1) (afterLeaf at) (afterIn (codesIn (at .split)) at)
 
   -- THE CANDIDATES LEFT; those left at the first cursor are the size's (`rest-first`, in proofs/)
   unfoldable pub rest : Cursor → List Cand
@@ -86,4 +86,4 @@ first starts s = cursor 0 (cond (ltb 1 s) (getD starts (s - 1) 0) 0) 0 0 false
 -- the cursor after j candidates of the size: its first one, or the cursor after the last of those j
 unfoldable pub cursorAfter : Layer → ℕ → Cursor
 cursorAfter g zero = first (g .starts) (g .size)
-cursorAfter g (suc j) = after g (getD (ahead g (first (g .starts) (g .size))) j (leafCursor 0))
+cursorAfter g (suc j) = nextCursor g (getD (ahead g (first (g .starts) (g .size))) j (leafCursor 0))

@@ -7,17 +7,17 @@ use lib.ListN.{length}
 use Rattle.split.specs.declared.Cursor.{Cursor}
 use Rattle.split.specs.declared.Part.{Part}
 use Rattle.split.specs.declared.Step.{Step}
-use Rattle.split.specs.Split.{cursor, candIn, afterIn, Takes, Stands}
-use Rattle.order.specs.Size.{Layer, layerOf, leaves, start}
+use Rattle.split.specs.Split.{cursor, candIn, afterIn, Takes, CursorStands}
+use Rattle.order.specs.Size.{Layer, layerOf, leafCands, firstPlace}
 use Rattle.order.specs.Ahead.{codesIn, leftEnd, rightStart, rightEnd, leavesAhead, leafAt, afterLeaf, partsAhead}
 
 -- ---- the leaves
 
-pub record LeafIn (m constants : ℕ) (at : Cursor) : Type 0 where
-  pub operator-in : at .operator < length (leaves m constants)
+pub record LeafAhead (m constants : ℕ) (at : Cursor) : Type 0 where
+  pub operator-in : at .operator < length (leafCands m constants)
 
 abbrev pub InLeaves : ℕ → ℕ → Cursor → Step → Type 0
-InLeaves m constants = Takes (leavesAhead m constants) (leafAt m constants) afterLeaf (LeafIn m constants)
+InLeaves m constants = Takes (leavesAhead m constants) (leafAt m constants) afterLeaf (LeafAhead m constants)
 
 -- ---- the splits
 
@@ -26,14 +26,14 @@ abbrev pub partOf : List ℕ → ℕ → ℕ → Part
 partOf starts s i = record { end = leftEnd s starts i; from = rightStart s starts i; to = rightEnd s starts i }
 
 abbrev pub partStart : List ℕ → ℕ → ℕ → Cursor
-partStart starts s i = cursor i (start starts i) (start starts (s - 1 - i)) 0 false
+partStart starts s i = cursor i (firstPlace starts i) (firstPlace starts (s - 1 - i)) 0 false
 
-pub record StandsIn (g : Layer) (at : Cursor) : Type 0 where
+pub record CursorStandsIn (g : Layer) (at : Cursor) : Type 0 where
   pub split-in : at .split < (g .size + 1) / 2
-  pub stands : Stands (at .split) (codesIn g (at .split)) (leftEnd (g .size) (g .starts) (at .split)) (rightEnd (g .size) (g .starts) (at .split)) at
+  pub stands : CursorStands (at .split) (codesIn g (at .split)) (leftEnd (g .size) (g .starts) (at .split)) (rightEnd (g .size) (g .starts) (at .split)) at
 
 abbrev pub PartsTake : Layer → Cursor → Step → Type 0
-PartsTake g = Takes (partsAhead g) (λ at. candIn (codesIn g (at .split)) at) (λ at. afterIn (codesIn g (at .split)) at) (StandsIn g)
+PartsTake g = Takes (partsAhead g) (λ at. candIn (codesIn g (at .split)) at) (λ at. afterIn (codesIn g (at .split)) at) (CursorStandsIn g)
 
 -- whatever the leaves
 pub record InParts (starts : List ℕ) (s : ℕ) (unary binary : List ℕ) (at : Cursor) (step : Step) : Type 0 where

@@ -12,7 +12,7 @@ ghost use Prim.Native.Nat.{_≤_, _<_};
 ghost use lib.ListN.{length};
 ghost use Rattle.split.specs.Split.{InPart};
 ghost use Rattle.order.specs.Size.{layerOf};
-ghost use Rattle.order.specs.Ahead.{leafCursor, codesOf, first};
+ghost use Rattle.order.specs.Ahead.{leafCursor, splitCodes, first};
 ghost use Rattle.order.specs.Steps.{Steps};
 ghost use Rattle.order.specs.Inner.{InLeaves, partOf, partStart, InParts};
 
@@ -100,7 +100,7 @@ fn part_start(starts: &[u16], s: usize, i: usize) -> Cursor
 
 // The cursor's split.
 fn split_step(at: Cursor, part: Part, unary: &[u8], binary: &[u8]) -> Step
-    ensures { λ step. ⌜ InPart (codesOf (now (unary .entry)) (now (binary .entry)) (at .split)) part at step ⌝ }
+    ensures { λ step. ⌜ InPart (splitCodes (now (unary .entry)) (now (binary .entry)) (at .split)) part at step ⌝ }
 {
     if at.split == 0 {
         return split::part_step(at, part, unary);

@@ -31,7 +31,7 @@ fn refusal(r: usize, place: usize, matrices: usize, words: usize, out: usize) ->
     if rules::SESSIONS < r {
         return 1;
     }
-    if out < out::WORDS {
+    if out < out::OUT_WORDS {
         return 3;
     }
     if words < r {

@@ -22,7 +22,7 @@ use Rattle.reader.specs.Parsing as reader
 use Rattle.reader.proofs.Unique.{parse-unique}
 use Rattle.reader.proofs.Offsets.{within-11, within-13, at-most}
 use Rattle.out.specs.Out.{outWords, numberWith, written, returnedOf, saidWords}
-use Rattle.out_parse.specs.Parse.{parseRows, ParseDone}
+use Rattle.out_parse.specs.Parse.{outParseRows, ParseDone}
 
 -- no room at all
 abbrev none : Columns
@@ -64,7 +64,7 @@ module _ (names text : List ℕ) where
 
     module _ (h : length old < outWords) where
       to-short : (m u : Columns) (s : Said) → Decides (reader.parseRows names text none) (Taken names text none m) s
-          → Decides (parseRows names text lent old) (Taken names text lent u) s
+          → Decides (outParseRows names text lent old) (Taken names text lent u) s
       unfolding Decides
       to-short m c s (inl a) = inl a
       to-short m c s (inr (x, inl a)) = inr (x, inl a)
@@ -78,7 +78,7 @@ module _ (names text : List ℕ) where
       some-tree : ((values : List ℕ) → noFormula names text lent .given values → ⊥) → NoRoom
       some-tree z = ⊎-elim (λ t. needs-a-node (t .1)) (λ k. absurd (z (k .0 ∷ []) (k .0, refl, k .1))) (formula-or-offset text)
 
-      from-short : (u : Columns) (s : Said) → Decides (parseRows names text lent old) (Taken names text lent u) s
+      from-short : (u : Columns) (s : Said) → Decides (outParseRows names text lent old) (Taken names text lent u) s
           → Decides (reader.parseRows names text none) (Taken names text none none) s
       unfolding Decides
       from-short c s (inl a) = inl a
@@ -90,7 +90,7 @@ module _ (names text : List ℕ) where
           inr (x, inr (y, inr (z, inr (u, inr (v, inl (e, (f, some-tree z)))))))
       from-short c s (inr (x, inr (y, inr (z, inr (u, inr (v, inr (w, _))))))) = absurd (w [] (refl, h))
 
-      short-refuses : (u : Columns) (s : Said) → Decides (parseRows names text lent old) (Taken names text lent u) s → s .number ≡ 0 → ⊥
+      short-refuses : (u : Columns) (s : Said) → Decides (outParseRows names text lent old) (Taken names text lent u) s → s .number ≡ 0 → ⊥
       unfolding Decides
       short-refuses c s (inl a) e = omega (arith, a .0)
       short-refuses c s (inr (x, inl a)) e = omega (arith, a .0)
@@ -116,7 +116,7 @@ module _ (names text : List ℕ) where
     -- ---- `out` is long enough
 
     module _ (h : outWords ≤ length old) (u : Columns) where
-      to-long : (s : Said) → Decides (reader.parseRows names text lent) (Taken names text lent u) s → Decides (parseRows names text lent old) (Taken names text lent u) s
+      to-long : (s : Said) → Decides (reader.parseRows names text lent) (Taken names text lent u) s → Decides (outParseRows names text lent old) (Taken names text lent u) s
       unfolding Decides
       to-long s (inl a) = inl a
       to-long s (inr (x, inl a)) = inr (x, inl a)
@@ -125,7 +125,7 @@ module _ (names text : List ℕ) where
       to-long s (inr (x, inr (y, inr (z, inr (v, inl a))))) = inr (x, inr (y, inr (z, inr (v, inl a))))
       to-long s (inr (x, inr (y, inr (z, inr (v, inr (w, d)))))) = inr (x, inr (y, inr (z, inr (v, inr (w, inr (λ vs g. omega (arith, g .1), d))))))
 
-      from-long : (s : Said) → Decides (parseRows names text lent old) (Taken names text lent u) s → Decides (reader.parseRows names text lent) (Taken names text lent u) s
+      from-long : (s : Said) → Decides (outParseRows names text lent old) (Taken names text lent u) s → Decides (reader.parseRows names text lent) (Taken names text lent u) s
       unfolding Decides
       from-long s (inl a) = inl a
       from-long s (inr (x, inl a)) = inr (x, inl a)

@@ -20,7 +20,7 @@ use Rattle.sequence.specs.declared.CharSeq.{CharSeq}
 use Rattle.session.specs.Recording.{Recording, lengthOf}
 use Rattle.formula.specs.Nodes.{Node, nodeAt}
 use Rattle.verdict.specs.Check.{checkRows, saidVerdict, CheckAnswer}
-use Rattle.verdict.specs.Sequences.{SequenceAnswer, Carries}
+use Rattle.verdict.specs.Sequences.{SequenceAnswer, SequencedCarries}
 use Rattle.verdict.specs.declared.Sequenced.{Sequenced}
 use Rattle.verdict.specs.declared.Sequenced.the-variants as sequenced
 use Rattle.rules.specs.declared.kinds.Session.{Session}
@@ -35,7 +35,7 @@ use Rattle.report.specs.Lines.{NodeSays, PlaceLine, PlaceLines, SessionL
 use Rattle.report.specs.Lines.PlaceLine.{one, none}
 use Rattle.report.specs.Report.{saidReport, shortText, reportRows, Reports}
 use Rattle.report.specs.Promises.{longestReport}
-use Rattle.report.specs.Inner.{Marked, MarksUnder, WrotePlace, WrotePlaces, WroteSession, WroteSessions}
+use Rattle.report.specs.Inner.{PlaceMarked, MarksUnder, WrotePlace, WrotePlaces, WroteSession, WroteSessions}
 use Rattle.summary.proofs.Firsts.{summed-same}
 use Rattle.report.proofs.Unique.{one-report}
 use Rattle.report.proofs.Length.{report-fits, longest-is}
@@ -71,7 +71,7 @@ nothing-wrote : (l : List ℕ) (at : ℕ) → Wrote l at [] l at
 nothing-wrote l at = record { next = omega arith; holds = refl }
 
 module _ (i : Recording) (k : List Node) (marks : List ℕ) (j : ℕ) where
-  pub no-line : (p : ℕ) (l : List ℕ) (at : ℕ) → (Marked marks p → ⊥) → WrotePlace i k marks j p l at l at
+  pub no-line : (p : ℕ) (l : List ℕ) (at : ℕ) → (PlaceMarked marks p → ⊥) → WrotePlace i k marks j p l at l at
   no-line p l at u = ([], none u refl, nothing-wrote l at)
 
   pub no-places : (l : List ℕ) (at : ℕ) → WrotePlaces i k marks j 0 l at l at

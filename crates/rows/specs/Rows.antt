@@ -5,7 +5,7 @@ use mathlib.Core.Bool.{Bool, true, false}
 use mathlib.Core.List.{List}
 use Prim.Native.Nat.{ℕ, _+_, _*_, _≤_, _<_}
 use lib.ListN.{length, getD}
-use Rattle.words.specs.Masked.{Placed}
+use Rattle.words.specs.Masked.{PlacesOn}
 use Rattle.words.specs.Word.{width, At, Means}
 use Rattle.sequence.specs.Operators.{Unary, Binary, unaryCode, binaryCode}
 use Rattle.sequence.specs.Masked.{unaryMasked, binaryMasked}
@@ -18,11 +18,11 @@ use Rattle.loops.specs.Loops.{Filled, Told}
 module _ (r m : ℕ) (masks words matrices : List ℕ) (code left right : ℕ) where
   -- what it reads is there: "The matrices lie in a lent slice of words, r per place; the propositions' words lie m per session". The code is an
   -- operator's or a leaf's; a field that it has no use for is not looked at
-  pub data Reads : Type 0 where
-    unary : (op : Unary) → unaryCode op ≡ code → left * r + r ≤ length matrices → Reads
-    binary : (op : Binary) → binaryCode op ≡ code → left * r + r ≤ length matrices → right * r + r ≤ length matrices → Reads
-    proposition : leafCode (Leaf.proposition left) ≡ code → m ≤ mostPropositions → left < m → m * r ≤ length words → Reads
-    constant : (b : Bool) → leafCode (Leaf.constant b) ≡ code → Reads
+  pub data ReadThere : Type 0 where
+    unary : (op : Unary) → unaryCode op ≡ code → left * r + r ≤ length matrices → ReadThere
+    binary : (op : Binary) → binaryCode op ≡ code → left * r + r ≤ length matrices → right * r + r ≤ length matrices → ReadThere
+    proposition : leafCode (Leaf.proposition left) ≡ code → m ≤ mostPropositions → left < m → m * r ≤ length words → ReadThere
+    constant : (b : Bool) → leafCode (Leaf.constant b) ≡ code → ReadThere
 
   -- its word of session j: the operator's over the session's mask and the children's words; the proposition's as it was recorded; no place for
   -- false, and every place for true
@@ -32,13 +32,13 @@ module _ (r m : ℕ) (masks words matrices : List ℕ) (code left right : ℕ) w
         → Means width w (binaryMasked op (At (getD masks j 0)) (At (getD matrices (left * r + j) 0)) (At (getD matrices (right * r + j) 0))) → RowIs j w
     proposition : leafCode (Leaf.proposition left) ≡ code → w ≡ getD words (j * m + left) 0 → RowIs j w
     none : leafCode (Leaf.constant false) ≡ code → w ≡ 0 → RowIs j w
-    all : leafCode (Leaf.constant true) ≡ code → Means width w (Placed (At (getD masks j 0))) → RowIs j w
+    all : leafCode (Leaf.constant true) ≡ code → Means width w (PlacesOn (At (getD masks j 0))) → RowIs j w
 
   pub record RowsAsk (rows : List ℕ) : Type 0 where
     pub sessions-in : r ≤ mostSessions
     pub masks-there : r ≤ length masks
     pub rows-there : r ≤ length rows
-    pub reads : Reads
+    pub reads : ReadThere
 
   -- "A formula's matrix is one word per session"
   abbrev pub RowsAnswer : List ℕ → List ℕ → Bool → Type 0

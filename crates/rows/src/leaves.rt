@@ -7,16 +7,16 @@ use rules::kinds::Proposition;
 ghost use mathlib.Core.Path.{_≡_};
 ghost use Prim.Native.Nat.{_+_, _*_, _≤_, _<_};
 ghost use lib.ListN.{length, getD};
-ghost use Rattle.words.specs.Masked.{Placed};
+ghost use Rattle.words.specs.Masked.{PlacesOn};
 ghost use Rattle.words.specs.Word.{width, At, Means};
-ghost use Rattle.rules.specs.Limits.{mostPropositions};
+ghost use Rattle.rules.specs.Limits.{mostPropositions, WordForEach};
 ghost use Rattle.formula.specs.Rule.{IsUnary, IsBinary};
 ghost use Rattle.loops.specs.Loops.{Filled};
-ghost use Rattle.rows.specs.Inner.{Long, LeafAnswer};
+ghost use Rattle.rows.specs.Inner.{LeafAnswer};
 
 // A proposition's words, which lie m per session.
 fn proposition_rows(r: usize, m: usize, words: &[u64], p: Proposition, rows: &mut [u64])
-    requires { ⌜ (m ≤ mostPropositions) × (p .0 < m) × (m * r ≤ length (now words)) × Long r (now rows) ⌝ }
+    requires { ⌜ (m ≤ mostPropositions) × (p .0 < m) × (m * r ≤ length (now words)) × WordForEach r (now rows) ⌝ }
     ensures { λ u. ⌜ Filled r (now (rows .entry)) (λ j w. w ≡ getD (now (words .entry)) (j * m + p .0) 0) (now (rows .exit)) ⌝ }
 {
     let mut j: usize = 0;
@@ -29,7 +29,7 @@ fn proposition_rows(r: usize, m: usize, words: &[u64], p: Proposition, rows: &mu
 }
 
 fn false_rows(r: usize, rows: &mut [u64])
-    requires { ⌜ Long r (now rows) ⌝ }
+    requires { ⌜ WordForEach r (now rows) ⌝ }
     ensures { λ u. ⌜ Filled r (now (rows .entry)) (λ j w. w ≡ 0) (now (rows .exit)) ⌝ }
 {
     let mut j: usize = 0;
@@ -40,8 +40,8 @@ fn false_rows(r: usize, rows: &mut [u64])
 }
 
 fn true_rows(r: usize, masks: &[u64], rows: &mut [u64])
-    requires { ⌜ Long r (now masks) × Long r (now rows) ⌝ }
-    ensures { λ u. ⌜ Filled r (now (rows .entry)) (λ j w. Means width w (Placed (At (getD (now (masks .entry)) j 0)))) (now (rows .exit)) ⌝ }
+    requires { ⌜ WordForEach r (now masks) × WordForEach r (now rows) ⌝ }
+    ensures { λ u. ⌜ Filled r (now (rows .entry)) (λ j w. Means width w (PlacesOn (At (getD (now (masks .entry)) j 0)))) (now (rows .exit)) ⌝ }
 {
     let mut j: usize = 0;
     while j < r {
@@ -60,7 +60,7 @@ pub(crate) fn rows_of(
     left: Place,
     rows: &mut [u64],
 ) -> bool
-    requires { ⌜ Long r (now masks) × Long r (now rows) × (IsUnary code → ⊥) × (IsBinary code → ⊥) ⌝ }
+    requires { ⌜ WordForEach r (now masks) × WordForEach r (now rows) × (IsUnary code → ⊥) × (IsBinary code → ⊥) ⌝ }
     ensures { λ b. ⌜ LeafAnswer r m (now (masks .entry)) (now (words .entry)) code (left .0) (now (rows .entry)) (now (rows .exit)) b ⌝ }
 {
     if code == PROPOSITION {

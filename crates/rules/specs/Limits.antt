@@ -1,8 +1,10 @@
 -- The numbers of document 01 ("Numbers"), and of the requests E2 and E7, that bound what the library takes, each under one name; in code they are the constants of src/lib.rt. The
 -- largest length is `width`, of `words`; the session file has limits of its own.
 -- Assumes nothing.
+use mathlib.Core.List.{List}
+use lib.ListN.{length}
 use mathlib.Core.Logic.{_⊎_}
-use Prim.Native.Nat.{ℕ, _<_}
+use Prim.Native.Nat.{ℕ, _<_, _≤_}
 
 -- "sessions r 1 to 32"
 abbrev pub mostSessions : ℕ
@@ -31,3 +33,8 @@ mostBudget = 1000000
 -- n is none of the numbers from lo to hi
 abbrev pub Outside : ℕ → ℕ → ℕ → Type 0
 Outside lo hi n = (n < lo) ⊎ (hi < n)
+
+-- r is within its numbers, and a slice has a word for each of r sessions
+pub record WordForEach (r : ℕ) (slice : List ℕ) : Type 0 where
+  pub sessions-in : r ≤ mostSessions
+  pub there : r ≤ length slice

@@ -17,6 +17,6 @@ abbrev pub SizeFits : Resumed → Type 0
 SizeFits (slices.Goes st) = st .size < 256
 SizeFits (slices.Refused k) = Unit {0}
 
-abbrev pub answerOf : Resumed → SearchAnswer
-answerOf (slices.Goes st) = endOf st
-answerOf (slices.Refused k) = Refused k
+abbrev pub searchAnswerOf : Resumed → SearchAnswer
+searchAnswerOf (slices.Goes st) = endOf st
+searchAnswerOf (slices.Refused k) = Refused k

@@ -9,9 +9,5 @@ abbrev pub fileSessions : ℕ
 fileSessions = 32
 
 -- "propositions m 1 to 16"
-abbrev pub propositions : ℕ
-propositions = 16
-
--- "size bound B 1 to 31"
-abbrev pub bound : ℕ
-bound = mostSize
+abbrev pub filePropositions : ℕ
+filePropositions = 16

@@ -10,15 +10,16 @@ use lib.ListN.{length, getD}
 use Rattle.sequence.specs.Operators.{Unary, Binary, unaryCode, binaryCode}
 use Rattle.sequence.proofs.Groups.{unary-below, binary-between}
 use Rattle.settings.specs.Settings.{GroupIs, GoodCodes}
-use Rattle.settings.specs.Inner.{Told, SeenIn}
+use Rattle.settings.specs.Inner.{SeenIn}
+use Rattle.rules.specs.Answers.{Tested}
 
 -- ---- groups
 
-pub group-unary : (u : Bool) (c : ℕ) (op : Unary) → unaryCode op ≡ c → Told (GroupIs u c) u
+pub group-unary : (u : Bool) (c : ℕ) (op : Unary) → unaryCode op ≡ c → Tested (GroupIs u c) u
 group-unary true c op e = (op, e)
 group-unary false c op e = λ w. omega (arith, unary-below op, e, binary-between (w .0) .0, w .1)
 
-pub group-binary : (u : Bool) (c : ℕ) (op : Binary) → binaryCode op ≡ c → Told (GroupIs u c) (not u)
+pub group-binary : (u : Bool) (c : ℕ) (op : Binary) → binaryCode op ≡ c → Tested (GroupIs u c) (not u)
 group-binary true c op e = λ w. omega (arith, unary-below (w .0), w .1, binary-between op .0, e)
 group-binary false c op e = (op, e)
 

@@ -6,11 +6,6 @@ use mathlib.Core.List.{List}
 use Prim.Native.Nat.{ℕ, _<_}
 use lib.ListN.{getD}
 
--- a fact, or its refutation
-abbrev pub Told : Type 0 → Bool → Type 0
-Told fact true = fact
-Told fact false = fact → ⊥
-
 -- the code stands at one of the first n positions
 abbrev pub SeenIn : List ℕ → ℕ → ℕ → Type 0
 SeenIn codes n code = (o : ℕ) × (o < n) × (getD codes o 0 ≡ code)

@@ -4,10 +4,11 @@ use operators::operator_of;
 ghost use Prim.Native.Nat.{_≤_};
 ghost use lib.ListN.{length};
 ghost use Rattle.settings.specs.Settings.{GroupIs, CodesTold, SettingsTold};
-ghost use Rattle.settings.specs.Inner.{Told, SeenIn};
+ghost use Rattle.settings.specs.Inner.{SeenIn};
+ghost use Rattle.rules.specs.Answers.{Tested};
 
 fn in_group(code: u8, unary: bool) -> bool
-    ensures { λ b. ⌜ Told (GroupIs unary code) b ⌝ }
+    ensures { λ b. ⌜ Tested (GroupIs unary code) b ⌝ }
 {
     let group = operator_of(code).group;
     match group {
@@ -20,7 +21,7 @@ fn in_group(code: u8, unary: bool) -> bool
 // Whether the code stands at one of the first n positions.
 fn seen(codes: &[u8], n: usize, code: u8) -> bool
     requires { ⌜ n ≤ length (now codes) ⌝ }
-    ensures { λ b. ⌜ Told (SeenIn (now (codes .entry)) n code) b ⌝ }
+    ensures { λ b. ⌜ Tested (SeenIn (now (codes .entry)) n code) b ⌝ }
 {
     let mut i: usize = 0;
     while i < n {

@@ -3,7 +3,7 @@
 use mathlib.Core.List.{List, [], _∷_}
 use Prim.Native.Nat.{ℕ}
 use Rattle.rules.specs.Answers.{Said}
-use Rattle.walk.specs.Walk.{Ending, found, full, none, State, going, ended}
+use Rattle.walk.specs.Walk.{Ending, found, full, none, WalkState, going, ended}
 use Rattle.formula.specs.Nodes.{Node}
 use Rattle.counting.specs.declared.Counts.{Counts}
 pub use Rattle.counting.specs.Counting.{tallyOf}
@@ -27,6 +27,6 @@ endSaid (found root) n = foundSaid root n
 endSaid none n = noneSaid n
 endSaid (full size) n = fullSaid size n
 
-abbrev pub walkSaid : State (List ℕ) → Said
+abbrev pub walkSaid : WalkState (List ℕ) → Said
 walkSaid (going k n) = noneSaid (counts k n)
 walkSaid (ended e k n) = endSaid e (counts k n)

@@ -10,7 +10,7 @@ use Rattle.rules.specs.Limits.{mostBudget}
 use Rattle.rules.specs.Refusals.{Row}
 use Rattle.rules.specs.Answers.{Said}
 use Rattle.session.specs.Data.{outsideNumbers, tooShort, tooLong, bitAbove, markWrong}
-use Rattle.formula.specs.Kinds.{nodeOf}
+use Rattle.formula.specs.Kinds.{nodeOf, noNode}
 use Rattle.walk.specs.Input.{Input}
 use Rattle.walk.specs.Cut.{Cut, more, over}
 use Rattle.walk.specs.Kept.{begun, goOn}
@@ -20,7 +20,7 @@ use Rattle.counting.specs.declared.Counts.{Counts}
 use Rattle.table.specs.Slices.{Cols}
 use Rattle.state.specs.declared.State.{State}
 use Rattle.state.specs.Row as row
-use Rattle.turns.specs.Standing.{noNode, StandsIn}
+use Rattle.turns.specs.Standing.{StandsIn}
 use Rattle.slices.specs.Said.{counts, foundSaid, noneSaid, fullSaid, endSaid}
 
 -- ---- the state

@@ -100,7 +100,7 @@ pub data Takes (F : Cursor → List Cursor) (cand : Cursor → Cand) (after : Cu
   takes : (here : Cursor) → F at ≡ here ∷ F (after here) → step ≡ told (cand here) (after here) → P here → Takes F cand after P at step
 
 -- where the next one stands
-pub record Stands (i : ℕ) (codes : List ℕ) (end to : ℕ) (at : Cursor) : Type 0 where
+pub record CursorStands (i : ℕ) (codes : List ℕ) (end to : ℕ) (at : Cursor) : Type 0 where
   pub split-is : at .split ≡ i
   pub left-in : at .left < end
   pub right-in : at .right < to
@@ -109,4 +109,4 @@ pub record Stands (i : ℕ) (codes : List ℕ) (end to : ℕ) (at : Cursor) : Ty
 
 abbrev pub InPart : List ℕ → Part → Cursor → Step → Type 0
 InPart codes part at =
-    Takes (partFrom codes (part .end) (part .from) (part .to)) (candIn codes) (afterIn codes) (Stands (at .split) codes (part .end) (part .to)) at
+    Takes (partFrom codes (part .end) (part .from) (part .to)) (candIn codes) (afterIn codes) (CursorStands (at .split) codes (part .end) (part .to)) at

@@ -14,7 +14,7 @@ use borrow.Author.Tests.{lt-ltb, le-ltb, eq-eqb, ne-eqb}
 use Rattle.rules.specs.Limits.{mostSize}
 use Rattle.rules.specs.Lists.{count}
 use Rattle.starts.specs.Starts.{below, startsOf}
-use Rattle.starts.specs.Inner.{exactly, Counted}
+use Rattle.starts.specs.Inner.{exactly, SizesCounted}
 use Rattle.starts.proofs.Numbers.{length-count, getD-map-count}
 
 exactly-more : (t x : ℕ) (xs : List ℕ) → exactly t (xs ++ (x ∷ [])) ≡ exactly t xs + cond (eqb x t) 1 0
@@ -65,7 +65,7 @@ below-next t (x ∷ xs) = elim (decLe t x) [
 
 module _ (sizes : List ℕ) where
   -- none is counted
-  pub counted-none : Counted sizes 0 (replicate {A = ℕ} 33 0)
+  pub counted-none : SizesCounted sizes 0 (replicate {A = ℕ} 33 0)
   unfolding exactly
   counted-none = record {
     long = length-replicate {A = ℕ} 33 0;
@@ -73,7 +73,7 @@ module _ (sizes : List ℕ) where
     some = λ t h. getD-replicate {A = ℕ} 33 (suc t) 0 0 (omega arith);
   }
 
-  module _ {p : ℕ} {counts : List ℕ} (w : Counted sizes p counts) (h : p < length sizes) where
+  module _ {p : ℕ} {counts : List ℕ} (w : SizesCounted sizes p counts) (h : p < length sizes) where
     more : (t : ℕ) → exactly t (take (p + 1) sizes) ≡ exactly t (take p sizes) + cond (eqb (getD sizes p 0) t) 1 0
     more t = rw (add-one p, take-suc sizes p 0 h) (exactly-more t (getD sizes p 0) (take p sizes))
 
@@ -83,7 +83,7 @@ module _ (sizes : List ℕ) where
 
     -- one more is counted; or it is too large for any
     pub counted-more : getD sizes p 0 < mostSize + 1
-        → Counted sizes (p + 1) (set counts (getD sizes p 0 + 1) (getD counts (getD sizes p 0 + 1) 0 + 1))
+        → SizesCounted sizes (p + 1) (set counts (getD sizes p 0 + 1) (getD counts (getD sizes p 0 + 1) 0 + 1))
     counted-more k = record {
       long = length-set counts _ _ ∙ w .long;
       none = getD-set-other counts _ 0 _ 0 (λ e. omega arith) ∙ w .none;
@@ -108,7 +108,7 @@ module _ (sizes : List ℕ) where
             getD-set-other counts _ (suc t) _ 0 (λ d. e (omega arith)) ∙ w .some t l
             ∙ sym (more t ∙ rw (ne-eqb (getD sizes p 0) t e) (omega arith))
 
-    pub counted-out : mostSize + 1 ≤ getD sizes p 0 → Counted sizes (p + 1) counts
+    pub counted-out : mostSize + 1 ≤ getD sizes p 0 → SizesCounted sizes (p + 1) counts
     counted-out k = record {
       long = w .long;
       none = w .none;
@@ -122,7 +122,7 @@ pub record Summed (xs : List ℕ) (t : ℕ) (starts : List ℕ) : Type 0 where
   pub ahead : (u : ℕ) → t ≤ suc u → u ≤ mostSize → getD starts (suc u) 0 ≡ exactly u xs
 
 module _ (sizes : List ℕ) (n : ℕ) where
-  pub summed-none : {counts : List ℕ} → Counted sizes n counts → Summed (take n sizes) 1 counts
+  pub summed-none : {counts : List ℕ} → SizesCounted sizes n counts → Summed (take n sizes) 1 counts
   summed-none {counts} w = record {
     long = w .long;
     before = λ u h. (let e : u ≡ 0 = omega arith in ap (λ (v : ℕ). getD counts v 0) e ∙ w .none ∙ sym (ap (λ (v : ℕ). below v (take n sizes)) e ∙ below-zero (take n sizes)));

@@ -14,7 +14,7 @@ exactly t [] = 0
 exactly t (x ∷ xs) = cond (eqb x t) (suc (exactly t xs)) (exactly t xs)
 
 -- of the first n sizes, how many are one below each position
-pub record Counted (sizes : List ℕ) (n : ℕ) (counts : List ℕ) : Type 0 where
+pub record SizesCounted (sizes : List ℕ) (n : ℕ) (counts : List ℕ) : Type 0 where
   pub long : length counts ≡ mostSize + 2
   pub none : getD counts 0 0 ≡ 0
   pub some : (t : ℕ) → t ≤ mostSize → getD counts (suc t) 0 ≡ exactly t (take n sizes)

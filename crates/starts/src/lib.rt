@@ -3,7 +3,7 @@ ghost use mathlib.Core.Path.{_≡_};
 ghost use Prim.Native.Nat.{_≤_, min};
 ghost use lib.ListN.{length};
 ghost use Rattle.starts.specs.Starts.{startsOf};
-ghost use Rattle.starts.specs.Inner.{Counted};
+ghost use Rattle.starts.specs.Inner.{SizesCounted};
 
 // At t stands the number of kept formulas of size below t, for t from 0 to BOUND + 1: those of size t are the places from the one at t to the one at t + 1.
 pub const COUNT: usize = rules::BOUND + 2;
@@ -11,7 +11,7 @@ pub const COUNT: usize = rules::BOUND + 2;
 // Of the first n sizes: how many are one below each position.
 fn counts(sizes: &[u8], n: u16) -> [u16; COUNT]
     requires { ⌜ n ≤ length (now sizes) ⌝ }
-    ensures { λ r. ⌜ Counted (now (sizes .entry)) n r ⌝ }
+    ensures { λ r. ⌜ SizesCounted (now (sizes .entry)) n r ⌝ }
 {
     let mut counts = [0u16; COUNT];
     let mut p: u16 = 0;

@@ -8,7 +8,8 @@ use native.Mathlib.Decide.{decLe}
 use lib.Dec.{ltb}
 use borrow.Author.Tests.{lt-ltb, le-ltb}
 use Rattle.state.specs.declared.State.{State}
-use Rattle.state.specs.Row.{listEnd, stateWrong, StateIn, Told}
+use Rattle.state.specs.Row.{listEnd, stateWrong, StateIn}
+use Rattle.rules.specs.Answers.{Tested}
 
 at-most : {a b : ℕ} → (b < a → ⊥) → a ≤ b
 at-most {a} {b} h = elim (decLe a b) [ yes l ↦ l | no l ↦ absurd (h (lt-of-not-le l)) ]
@@ -56,7 +57,7 @@ module _ (m constants unary binary : ℕ) {bound room : ℕ} {st : State} (w : O
 
   pub position-tells : (a b : ℕ) → (a < b → listEnd m constants unary binary (st .size) (st .at .split) < st .at .operator)
       → (b ≤ a → st .at .operator ≤ listEnd m constants unary binary (st .size) (st .at .split))
-      → Told (stateWrong m bound room constants unary binary st .given) (ltb a b)
+      → Tested (stateWrong m bound room constants unary binary st .given) (ltb a b)
   position-tells a b f g = elim (decLe (suc a) b) [
     | yes h ↦ rw (lt-ltb a b h) (inr (inr (inr (inr (inr (f h))))))
     | no h ↦ rw (le-ltb a b (omega arith)) (position-passes (g (omega arith)))

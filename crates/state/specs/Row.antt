@@ -34,8 +34,3 @@ module _ (m bound room constants unary binary : ℕ) where
     pub left-in : st .at .left ≤ st .counts .kept
     pub right-in : st .at .right ≤ st .counts .kept
     pub operator-in : st .at .operator ≤ listEnd m constants unary binary (st .size) (st .at .split)
-
--- a fact, or its refutation
-abbrev pub Told : Type 0 → Bool → Type 0
-Told fact true = fact
-Told fact false = fact → ⊥

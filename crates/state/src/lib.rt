@@ -2,7 +2,8 @@
 use counting::Counts;
 use formula::kinds::Node;
 use split::Cursor;
-ghost use Rattle.state.specs.Row.{stateWrong, Told};
+ghost use Rattle.state.specs.Row.{stateWrong};
+ghost use Rattle.rules.specs.Answers.{Tested};
 
 // The size, the cursor before its next candidate and the counts: with the table it is all that the next call needs to go on. `end` is 0 while the walk goes
 // on; at its end 1 FOUND, 2 NONE, 3 FULL, and `root` is FOUND's root node.
@@ -25,7 +26,7 @@ pub fn wrong(
     binary: usize,
     state: State,
 ) -> bool
-    ensures { λ b. ⌜ Told (stateWrong m bound room constants unary binary state .given) b ⌝ }
+    ensures { λ b. ⌜ Tested (stateWrong m bound room constants unary binary state .given) b ⌝ }
 {
     let kept = state.counts.kept;
     if room < kept {

@@ -11,7 +11,7 @@ use lib.ListN.{length, getD, set, length-set}
 use lib.Seq.{getD-set-same, getD-set-other}
 use Rattle.state.specs.declared.State.{State}
 use Rattle.out.specs.Out.{written, inOrder}
-use Rattle.state_words.specs.Words.{stateWords, mark, marked, endRead, wordsOf, stateRead, Narrow}
+use Rattle.state_words.specs.Words.{stateWords, mark, marked, endRead, wordsOfState, stateRead, Narrow}
 use Rattle.state_words.specs.Written.{stateOver}
 use Rattle.state_words.specs.Promises.{StateComesBack}
 
@@ -47,8 +47,8 @@ low-16 : (n : ℕ) → n < 65536 → n % 65536 ≡ n
 low-16 n h = omega arith
 
 module _ (s : State) (words : List ℕ) (h : stateWords ≤ length words) where
-  at : (j : ℕ) → j < 16 → getD (stateOver s words) (0 + j) 0 ≡ getD (wordsOf s) j 0
-  at j l = stands-there (wordsOf s) 0 words j h l
+  at : (j : ℕ) → j < 16 → getD (stateOver s words) (0 + j) 0 ≡ getD (wordsOfState s) j 0
+  at j l = stands-there (wordsOfState s) 0 words j h l
 
 -- any state comes back but for an end above 3
 pub comes-back : (s : State) (words : List ℕ) → stateWords ≤ length words → Narrow (s .root) → stateRead (stateOver s words)

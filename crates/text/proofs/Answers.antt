@@ -15,7 +15,7 @@ use Rattle.names.specs.declared.NamesAnswer.the-variants.{Names, Broken as Name
 use Rattle.reading.specs.Reading.{Got, got, bad, broken}
 use Rattle.names.specs.Names.{wholeNames, listed, namesIn, GoodNames}
 use Rattle.rules.specs.Answers.{Said, over}
-use Rattle.names.specs.Judged.{saidNames, namesOf, namesSaid}
+use Rattle.names.specs.Judged.{saidNames, saidOfNames, namesSaid}
 use Rattle.writing.specs.Writing.{Wrote}
 use Rattle.writing.proofs.Writing.{wrote-whole}
 use Rattle.writing.proofs.Digits.{written-front}
@@ -23,8 +23,8 @@ use Rattle.formula.specs.Formula.{Formula}
 use Rattle.formula.specs.Nodes.{Node, Spells, codes}
 use Rattle.formula.specs.Rule.{brokenList}
 use Rattle.text.specs.Text.{text, mostText}
-use Rattle.text.specs.Print.{shortRoom, PrintAnswer, PrintsBy, Prints}
-use Rattle.text.specs.Inner.{Passed, Printable, Written}
+use Rattle.text.specs.Print.{shortTextRoom, PrintAnswer, PrintsBy, Prints}
+use Rattle.text.specs.Inner.{Passed, Printable, TextWritten}
 use Rattle.formula.proofs.Faults.{whole-fits}
 use Rattle.text.proofs.Printing.{formula-of, text-bound}
 
@@ -34,7 +34,7 @@ module _ (file : List ℕ) (r : NamesAnswer) (e : saidNames r ≡ namesSaid file
   pub names-good : {m : ℕ} → r ≡ Names m → GoodNames file × (m ≡ length (namesIn file))
   names-good {m} q = go (wholeNames file) refl (ap saidNames (sym q) ∙ e)
     where
-      go : (g : Got (List (List ℕ))) → wholeNames file ≡ g → saidNames (Names m) ≡ namesOf g → GoodNames file × (m ≡ length (namesIn file))
+      go : (g : Got (List (List ℕ))) → wholeNames file ≡ g → saidNames (Names m) ≡ saidOfNames g → GoodNames file × (m ≡ length (namesIn file))
       go (got names next) w h =
           let n : namesIn file ≡ names = ap listed w in
           let z : m ≡ length names = head-eq-of-cons-eq (ap (λ (s : Said). s .values) h) in
@@ -44,7 +44,7 @@ module _ (file : List ℕ) (r : NamesAnswer) (e : saidNames r ≡ namesSaid file
   pub names-broken : {o : ℕ} → r ≡ NamesBroken o → wholeNames file ≡ bad o
   names-broken {o} q = go (wholeNames file) refl (ap saidNames (sym q) ∙ e)
     where
-      go : (g : Got (List (List ℕ))) → wholeNames file ≡ g → saidNames (NamesBroken o) ≡ namesOf g → wholeNames file ≡ bad o
+      go : (g : Got (List (List ℕ))) → wholeNames file ≡ g → saidNames (NamesBroken o) ≡ saidOfNames g → wholeNames file ≡ bad o
       go (got names next) w h = let z : _≡_ {A = ℕ} 8 0 = ap (λ (s : Said). s .number) h in absurd (omega arith)
       go (bad p) w h = w ∙ ap bad (sym (head-eq-of-cons-eq (ap (λ (s : Said). s .values) h)))
 
@@ -63,7 +63,7 @@ module _ (file : List ℕ) (g : GoodNames file) (k : List Node) (root : Node) (o
 
     pub prints-nine : (b : ℕ) → Decided (brokenList m k root ∷ []) b → (b ≡ 0 → ⊥) → Prints file k root old (record { number = b; values = [] }) old
     prints-nine b d h = prints (record { number = b; values = [] }) old record {
-      number = decided-early (brokenList (length (namesIn file)) k root ∷ []) (shortRoom (namesIn file) k root old ∷ []) b (this b d) h;
+      number = decided-early (brokenList (length (namesIn file)) k root ∷ []) (shortTextRoom (namesIn file) k root old ∷ []) b (this b d) h;
       refused = λ z. (refl, refl);
       passed = λ z. absurd (h z);
     }
@@ -80,7 +80,7 @@ module _ (file : List ℕ) (k : List Node) (root : Node) (old : List ℕ) (p : P
   pub printable : Printable file k root
   printable = let w = whole-fits (length (namesIn file)) k root (p .whole) in record { good = p .good; all = w .0; fits = w .1 }
 
-  module _ {room whole : List ℕ} {n : ℕ} (long : length room ≡ mostText) (w : Written file k root room 0 whole n) where
+  module _ {room whole : List ℕ} {n : ℕ} (long : length room ≡ mostText) (w : TextWritten file k root room 0 whole n) where
     -- whatever formula the root spells, its text stands at the start
     pub whole-text : (t : Formula) → Spells codes k root t → (n ≤ length whole) × (take n whole ≡ text (namesIn file) t) × (n ≡ length (text (namesIn file) t))
     whole-text t s =

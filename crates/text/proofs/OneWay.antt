@@ -18,7 +18,8 @@ use Rattle.rules.specs.Lists.{Each}
 use Rattle.formula.specs.Formula.{leaf, unary, binary, Leaf, proposition, constant, Formula}
 use Rattle.reading.proofs.Lists.{true-false}
 use Rattle.reading.proofs.Ends.{each-at, end-sound}
-use Rattle.names.specs.Names.{propositions, isNameByte, isLetter, fitsName, GoodName, namesUpTo, namesIn, GoodNames}
+use Rattle.names.specs.Names.{isNameByte, isLetter, fitsName, GoodName, namesUpTo, namesIn, GoodNames}
+use Rattle.rules.specs.Limits.{mostPropositions}
 use Rattle.names.proofs.NameLaws.{names-sound}
 use Rattle.text.specs.Text.{text, leafText}
 use Rattle.text.specs.Tokens.{Named}
@@ -196,5 +197,5 @@ module _ (names : List (List ℕ)) (good : Each GoodName [] names) where
 
 pub read-one-way : ReadOneWay
 read-one-way file g t u h k e =
-    let good = names-sound file propositions 0 (end-sound file (namesUpTo propositions file 0) (g .1) .0) .fits in
+    let good = names-sound file mostPropositions 0 (end-sound file (namesUpTo mostPropositions file 0) (g .1) .0) .fits in
     same (namesIn file) good t u h k [] [] (ap (λ (x : List ℕ). x ++ (41 ∷ [])) e) .0

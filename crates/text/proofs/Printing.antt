@@ -15,7 +15,7 @@ use Rattle.formula.specs.Rule.{IsUnary, IsBinary, propositionCode}
 use Rattle.text.specs.Text.{space, bracketed, text, leafText, mostText}
 use Rattle.names.specs.Names.{namesIn}
 use Rattle.writing.specs.Writing.{Wrote}
-use Rattle.text.specs.Inner.{Printable, Written, WrittenAt, spaced, TokenWritten, BetweenWritten}
+use Rattle.text.specs.Inner.{Printable, TextWritten, WrittenAt, spaced, TokenWritten, BetweenWritten}
 use Rattle.formula.proofs.Faults.{not-both, not-unary-leaf, not-binary-leaf, fits-small, left-fits, right-fits}
 use Rattle.formula.proofs.Spelled.{spelled}
 use Rattle.names.proofs.Starts.{short-names}
@@ -67,14 +67,14 @@ module _ (file : List ℕ) (k : List Node) where
 
     -- where its text is known, its bytes are
     pub known-written : {bytes : List ℕ} → ((t : Formula) → Spells codes k nd t → text (namesIn file) t ≡ bytes)
-        → {old new : List ℕ} {at r : ℕ} → Wrote old at bytes new r → Written file k nd old at new r
+        → {old new : List ℕ} {at r : ℕ} → Wrote old at bytes new r → TextWritten file k nd old at new r
     known-written is {old} {new} {at} {r} w t s = subst (λ (u : List ℕ). Wrote old at u new r) (sym (is t s)) w
 
     -- ---- operators
 
     -- what is written before the child, and the child
     pub unary-written : IsUnary (nd .code) → {l m n : List ℕ} {at a r : ℕ} → TokenWritten (nd .code) l at m a
-        → WrittenAt file k (nd .left) m a n r → Written file k nd l at n r
+        → WrittenAt file k (nd .left) m a n r → TextWritten file k nd l at n r
     unary-written u w v (leaf c) s = absurd (not-unary-leaf (nd .code) u (c, sym (s .0)))
     unary-written u w v (binary op x y) s = absurd (not-both (nd .code) u (op, sym (s .0)))
     unary-written u {l} {m} {n} {at} {a} {r} (o, ls, w) v (unary op t) s =
@@ -85,7 +85,7 @@ module _ (file : List ℕ) (k : List Node) where
 
     -- the left child, what stands between, and the right child
     pub binary-written : IsBinary (nd .code) → {l0 l1 l2 l3 : List ℕ} {at a1 a2 r : ℕ}
-        → WrittenAt file k (nd .left) l0 at l1 a1 → BetweenWritten (nd .code) l1 a1 l2 a2 → WrittenAt file k (nd .right) l2 a2 l3 r → Written file k nd l0 at l3 r
+        → WrittenAt file k (nd .left) l0 at l1 a1 → BetweenWritten (nd .code) l1 a1 l2 a2 → WrittenAt file k (nd .right) l2 a2 l3 r → TextWritten file k nd l0 at l3 r
     binary-written u v w z (leaf c) s = absurd (not-binary-leaf (nd .code) u (c, sym (s .0)))
     binary-written u v w z (unary op t) s = absurd (not-both (nd .code) (op, sym (s .0)) u)
     binary-written u {l0} {l1} {l2} {l3} {at} {a1} {a2} {r} v (o, ls, w) z (binary op x y) s =
@@ -97,7 +97,7 @@ module _ (file : List ℕ) (k : List Node) where
 
   -- a child in its brackets
   pub child-written : (p : ℕ) {nd : Node} → nd ≡ nodeAt k p → {l0 l1 l2 l3 : List ℕ} {at a b r : ℕ}
-      → Wrote l0 at (40 ∷ []) l1 a → Written file k nd l1 a l2 b → Wrote l2 b (41 ∷ []) l3 r → WrittenAt file k p l0 at l3 r
+      → Wrote l0 at (40 ∷ []) l1 a → TextWritten file k nd l1 a l2 b → Wrote l2 b (41 ∷ []) l3 r → WrittenAt file k p l0 at l3 r
   child-written p e w v z t s =
       let x = text (namesIn file) t in
       wrote-both ((40 ∷ []) ++ x) (41 ∷ []) (wrote-both (40 ∷ []) x w (v t (subst (λ (c : Node). Spells codes k c t) (sym e) s))) z

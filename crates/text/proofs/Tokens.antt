@@ -19,7 +19,8 @@ use Rattle.formula.specs.Formula.{leaf, unary, binary, proposition, constant, F
 use Rattle.reading.proofs.Lists.{true-false}
 use Rattle.reading.proofs.Ends.{each-at, end-sound}
 use Rattle.names.specs.Reserved.{reserved}
-use Rattle.names.specs.Names.{propositions, GoodName, namesUpTo, namesIn, GoodNames}
+use Rattle.names.specs.Names.{GoodName, namesUpTo, namesIn, GoodNames}
+use Rattle.rules.specs.Limits.{mostPropositions}
 use Rattle.names.proofs.NameLaws.{names-sound}
 use Rattle.text.specs.Text.{leafText}
 use Rattle.text.specs.Tokens.{IsToken, IsWord, namesOf}
@@ -144,5 +145,5 @@ module _ (names : List (List ℕ)) (good : Each GoodName [] names) where
 
 pub no-name-is-a-token : NoNameIsAToken
 no-name-is-a-token file g t w =
-    let good = names-sound file propositions 0 (end-sound file (namesUpTo propositions file 0) (g .1) .0) in
+    let good = names-sound file mostPropositions 0 (end-sound file (namesUpTo mostPropositions file 0) (g .1) .0) in
     no-name-is-token (namesIn file) (good .fits) t w

@@ -27,8 +27,8 @@ pub record Printable (file : List ℕ) (k : List Node) (node : Node) : Type 0 wh
   pub fits : Fits (length (namesIn file)) k (length k) node
 
 -- the text of whatever formula the node spells is written
-abbrev pub Written : List ℕ → List Node → Node → List ℕ → ℕ → List ℕ → ℕ → Type 0
-Written file k node old at new r = (t : Formula) → Spells codes k node t → Wrote old at (text (namesIn file) t) new r
+abbrev pub TextWritten : List ℕ → List Node → Node → List ℕ → ℕ → List ℕ → ℕ → Type 0
+TextWritten file k node old at new r = (t : Formula) → Spells codes k node t → Wrote old at (text (namesIn file) t) new r
 
 -- the same of the node at a place, whose text stands in brackets
 abbrev pub PrintableAt : List ℕ → List Node → ℕ → Type 0
@@ -42,7 +42,7 @@ abbrev pub LeafPrintable : List ℕ → Node → Type 0
 LeafPrintable file node = (k : List Node) × Printable file k node × (IsUnary (node .code) → ⊥) × (IsBinary (node .code) → ⊥)
 
 abbrev pub LeafWritten : List ℕ → Node → List ℕ → ℕ → List ℕ → ℕ → Type 0
-LeafWritten file node old at new r = (k : List Node) → Written file k node old at new r
+LeafWritten file node old at new r = (k : List Node) → TextWritten file k node old at new r
 
 -- an operator's token and a space, by its row of the table
 abbrev pub spaced : Operator → List ℕ

@@ -14,7 +14,7 @@ ghost use lib.ListN.{length, getD};
 ghost use Rattle.formula.specs.Kinds.{nodeOf, nodes};
 ghost use Rattle.names.specs.Names.{GoodNames, namesIn};
 ghost use Rattle.writing.specs.Writing.{Wrote};
-ghost use Rattle.text.specs.Inner.{Printable, Written, PrintableAt, WrittenAt, LeafPrintable, LeafWritten, TokenWritten, BetweenWritten};
+ghost use Rattle.text.specs.Inner.{Printable, TextWritten, PrintableAt, WrittenAt, LeafPrintable, LeafWritten, TokenWritten, BetweenWritten};
 
 // The token of the operator with a code, and the space after it.
 fn put_token(room: &mut [u8], at: usize, code: u8) -> usize
@@ -92,7 +92,7 @@ pub(crate) fn write(
     at: usize,
 ) -> usize
     requires { ⌜ Printable (now names) (nodes (now codes) (now lefts) (now rights) (now sizes)) (nodeOf node) ⌝ }
-    ensures { λ r. ⌜ Written (now (names .entry)) (nodes (now (codes .entry)) (now (lefts .entry)) (now (rights .entry)) (now (sizes .entry)))
+    ensures { λ r. ⌜ TextWritten (now (names .entry)) (nodes (now (codes .entry)) (now (lefts .entry)) (now (rights .entry)) (now (sizes .entry)))
         (nodeOf node) (now (room .entry)) at (now (room .exit)) r ⌝ }
 {
     let group = operators::operator_of(node.code).group;

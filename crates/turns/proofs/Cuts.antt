@@ -15,7 +15,7 @@ use Rattle.walk.specs.Kept.{Table, goOn}
 use Rattle.order.specs.Ahead.{ahead, first, cursorAfter}
 use Rattle.starts.specs.Starts.{startsOf, below}
 use Rattle.order.proofs.Layers.{column-begins}
-use Rattle.rows.specs.Formulas.{nothing}
+use Rattle.rows.specs.Formulas.{noCandidate}
 use Rattle.rows.proofs.Matrices.{length-map}
 use Rattle.table.specs.Slices.{Cols, tableOver}
 use Rattle.checks.specs.Promises.{RoomThere}
@@ -48,7 +48,7 @@ module _ (i : Input) (t₀ t : Cols) (s j : ℕ) (k : Table) (n : Tally) (w : On
       holds = record { fine = w .fine; are = h };
       rising = w .rising;
       small = w .small;
-      begins = λ u l. column-begins nothing k (t .sizes) (length k) (w .rising) sizes-are u (omega (arith, w .size-in, ok .bound-in));
+      begins = λ u l. column-begins noCandidate k (t .sizes) (length k) (w .rising) sizes-are u (omega (arith, w .size-in, ok .bound-in));
     };
     cursor = ap (λ (x : List ℕ). cursorAfter (layerAt i s x) j) (sym same);
     left = subst (λ (x : List ℕ). ahead (layerAt i s x) (cursorAfter (layerAt i s (startsIn k)) j) ≡ drop j (ahead (layerAt i s x) (first x s))) (sym same) (w .left);

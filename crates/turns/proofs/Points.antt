@@ -15,13 +15,13 @@ use Rattle.walk.proofs.Places.{Split, split-push}
 use Rattle.split.specs.declared.Cursor.{Cursor}
 use Rattle.split.specs.declared.Step.the-variants.{Candidate as Told, End}
 use Rattle.split.specs.Split.{Cand, cand}
-use Rattle.order.specs.Size.{start}
+use Rattle.order.specs.Size.{firstPlace}
 use Rattle.order.specs.Ahead.{ahead, candidateAt, rest, first, cursorAfter}
 use Rattle.order.specs.Steps.{Rises, Steps}
 use Rattle.order.proofs.Cursors.{after-step}
 use Rattle.order.proofs.Layers.{first-layer}
 use Rattle.order.proofs.Rest.{step-left, step-safe, end-left}
-use Rattle.rows.specs.Formulas.{nothing, Makes}
+use Rattle.rows.specs.Formulas.{noCandidate, Makes}
 use Rattle.table.specs.Slices.{Cols}
 use Rattle.table.specs.Formulas.{HoldsKept}
 use Rattle.counting.specs.declared.Fate.{Fate}
@@ -45,7 +45,7 @@ pub record Standing (i : Input) (t₀ t : Cols) (k : Table) (starts : List ℕ) 
   pub holds : HoldsKept i k t₀ t
   pub rising : (p q : ℕ) → p ≤ q → q < length k → sizeAt k p ≤ sizeAt k q
   pub small : (p : ℕ) → p < length k → sizeAt k p ≤ s
-  pub begins : (u : ℕ) → u ≤ s → Split nothing k u (start starts u)
+  pub begins : (u : ℕ) → u ≤ s → Split noCandidate k u (firstPlace starts u)
 
 -- the cursor is the one after j candidates of the size, and there were no more candidates than all sizes have
 pub record PointAt (i : Input) (t₀ t : Cols) (starts : List ℕ) (s : ℕ) (at : Cursor) (n : Counts) (k : Table) (j : ℕ) : Type 0 where
@@ -72,12 +72,12 @@ module _ {i : Input} {t₀ t t′ : Cols} {k : Table} {starts : List ℕ} {s kep
     more = length-append k (x ∷ [])
 
     old-size : (p : ℕ) → p < length k → sizeAt (k ++ (x ∷ [])) p ≡ sizeAt k p
-    old-size p l = ap (λ (c : Candidate (List ℕ)). c .node .size) (List·getD-append k (x ∷ []) nothing p l)
+    old-size p l = ap (λ (c : Candidate (List ℕ)). c .node .size) (List·getD-append k (x ∷ []) noCandidate p l)
 
     new-size : (p : ℕ) → length k ≤ p → p < length (k ++ (x ∷ [])) → sizeAt (k ++ (x ∷ [])) p ≡ s
     new-size p l m =
         let e : p ≡ length k = omega (arith, more) in
-        ap (λ (q : ℕ). sizeAt (k ++ (x ∷ [])) q) e ∙ ap (λ (c : Candidate (List ℕ)). c .node .size) (getD-append-seam k x [] nothing) ∙ size
+        ap (λ (q : ℕ). sizeAt (k ++ (x ∷ [])) q) e ∙ ap (λ (c : Candidate (List ℕ)). c .node .size) (getD-append-seam k x [] noCandidate) ∙ size
 
     standing-more : Standing i t₀ t′ (k ++ (x ∷ [])) starts s kept′
     standing-more = record {
@@ -94,7 +94,7 @@ module _ {i : Input} {t₀ t t′ : Cols} {k : Table} {starts : List ℕ} {s kep
         | yes z ↦ omega (arith, old-size p z, w .small p z)
         | no z ↦ omega (arith, new-size p (omega arith) a)
       ];
-      begins = λ u l. split-push nothing k u (start starts u) x (w .begins u l) (omega (arith, size));
+      begins = λ u l. split-push noCandidate k u (firstPlace starts u) x (w .begins u l) (omega (arith, size));
     }
 
   pub standing-after : (v : Fate) → endAfter v ≡ 0 → (n : Counts) → n .kept ≡ kept₀ → n .kept + 1 < 2 ^ 64 → HoldsKept i (kept (comes v x k (tallyOf n))) t₀ t′
@@ -115,7 +115,7 @@ drop-map f (x ∷ l) (suc j) = drop-map f l j
 module _ {i : Input} (ok : Passes i) {t₀ t : Cols} {k : Table} {starts : List ℕ} {s j : ℕ} {at : Cursor} {n : Counts} (w : PointAt i t₀ t starts s at n k j)
     (low : 1 ≤ s) (reached : s < length starts) where
   layer-is : map (make i k s) (rest (layerAt i s starts) (first starts s)) ≡ layer (offer i) s k
-  layer-is = first-layer (offer i) nothing k (layerAt i s starts) (offered i ok s starts k) (λ u a b. w .stands .begins u b) low reached
+  layer-is = first-layer (offer i) noCandidate k (layerAt i s starts) (offered i ok s starts k) (λ u a b. w .stands .begins u b) low reached
 
   pub layer-left : drop j (layer (offer i) s k) ≡ map (make i k s) (rest (layerAt i s starts) at)
   unfolding rest

@@ -13,9 +13,9 @@ use denote.Enum.Declared.{tagOf}
 use Rattle.rules.specs.Limits.{mostSessions, mostSize, mostRoom}
 use Rattle.rules.specs.declared.kinds.Place.{Place}
 use Rattle.formula.specs.declared.kinds.Node.{Node}
-use Rattle.formula.specs.Kinds.{nodeOf}
+use Rattle.formula.specs.Kinds.{nodeOf, noNode}
 use Rattle.formula.specs.Nodes as nodes
-use Rattle.walk.specs.Walk.{Candidate, none, found, full, oneTried, State, going, ended, kept, layer, consider}
+use Rattle.walk.specs.Walk.{Candidate, none, found, full, oneTried, WalkState, going, ended, kept, layer, consider}
 use Rattle.walk.specs.Input.{Input, Passes, offer, inputOf}
 use Rattle.walk.specs.Cut.{Cut}
 use Rattle.walk.specs.Kept.{Table, goOn}
@@ -25,16 +25,16 @@ use Rattle.split.specs.declared.Step.{Step}
 use Rattle.split.specs.declared.Step.the-variants.{Candidate as Told, End}
 use Rattle.split.proofs.Step.{the-type as step-type}
 use Rattle.split.specs.Split.{cand}
-use Rattle.order.specs.Size.{Layer, start}
+use Rattle.order.specs.Size.{Layer, firstPlace}
 use Rattle.order.specs.Ahead.{ahead, rest, first, cursorAfter}
 use Rattle.starts.specs.Starts.{startsOf}
-use Rattle.order.specs.Steps.{listLong, Within, Steps}
+use Rattle.order.specs.Steps.{listLong, CursorWithin, Steps}
 use Rattle.starts.proofs.Counting.{starts-long, starts-rise, starts-within}
 use Rattle.order.proofs.Cursors.{first-within, cursor-same, left-same, rest-same}
 use Rattle.order.proofs.Few.{rest-few}
 use Rattle.order.proofs.Layers.{column-begins}
 use Rattle.order.proofs.Rest.{step-left, end-left, step-within}
-use Rattle.rows.specs.Formulas.{nothing, Masks}
+use Rattle.rows.specs.Formulas.{noCandidate, Masks}
 use Rattle.rows.proofs.Matrices.{length-map, masks-made}
 use Rattle.rows.proofs.Products.{place-end}
 use Rattle.table.specs.Slices.{Cols}
@@ -44,16 +44,16 @@ use Rattle.counting.specs.declared.Fate.{Fate}
 use Rattle.counting.specs.declared.Fate.the-variants.{Found, Full}
 use Rattle.counting.specs.declared.Fate.the-variants.{Dropped, Kept}
 use Rattle.counting.specs.Counting.{comes}
-use Rattle.candidate.specs.Judge.{Placed, Does, Judged}
+use Rattle.candidate.specs.Judge.{KeptInRoom, Does, Judged}
 use Rattle.counting.specs.Counting.{tallyOf, oneMore, countedBy}
 use Rattle.counting.specs.declared.Counts.{Counts}
 use Rattle.state.specs.declared.State as value
 use Rattle.turns.specs.Costs.{operators, perSize, inAll}
-use Rattle.turns.specs.Standing.{noNode, counts, startsIn, layerAt, todo, StandsIn}
+use Rattle.turns.specs.Standing.{counts, startsIn, layerAt, todo, StandsIn}
 use Rattle.turns.specs.Turns.{StateIn, GoAsks}
 use Rattle.turns.specs.Inner.{moreState, endState, noneState, endAfter, overState, Masked}
 use Rattle.turns.proofs.Making.{make}
-use Rattle.turns.proofs.Settling.{settled, settled-over, settled-more, settled-next, settled-none, one-step, turn-one, turn-none, turn-over}
+use Rattle.turns.proofs.Settling.{settledCut, settled-over, settled-more, settled-next, settled-none, one-step, turn-one, turn-none, turn-over}
 use Rattle.turns.proofs.Points.{Standing, PointAt, comes-going, none-left, some-left, next-is, posed, turn-stands}
 use Rattle.turns.proofs.Positions.{list-end}
 
@@ -67,8 +67,8 @@ pub record SameLengths (t t′ : Cols) : Type 0 where
 -- where a size begins, whatever the table
 pub record Began (starts : List ℕ) (s : ℕ) : Type 0 where
   pub long : length starts ≡ mostSize + 2
-  pub few : (u : ℕ) → start starts u ≤ mostRoom
-  pub rises : (u : ℕ) → u ≤ s → start starts u ≤ start starts s
+  pub few : (u : ℕ) → firstPlace starts u ≤ mostRoom
+  pub rises : (u : ℕ) → u ≤ s → firstPlace starts u ≤ firstPlace starts s
 
 pub began : (sizes : List ℕ) (kept s : ℕ) → kept ≤ mostRoom → s ≤ mostSize → Began (startsOf sizes kept) s
 began sizes kept s h l = record {
@@ -89,19 +89,19 @@ kept-sizes {k = k} {t₀} {t} {kept} e h =
     ∙ take-at (map (λ c. c .node .size) k) _ kept (length-map (λ c. c .node .size) k ∙ sym e)
 
 -- one place alone is where a size begins
-split-one : (k : Table) (u a b : ℕ) → Split nothing k u a → Split nothing k u b → a ≤ b
+split-one : (k : Table) (u a b : ℕ) → Split noCandidate k u a → Split noCandidate k u b → a ≤ b
 split-one k u a b x y = elim (decLe a b) [
   | yes h ↦ h
   | no h ↦ absurd (let p = x .below b (omega arith) in let q = y .above b (omega arith) (omega (arith, x .inside)) in omega arith)
 ]
 
 pub starts-in : {i : Input} {t₀ t : Cols} {k : Table} {starts : List ℕ} {s kept : ℕ} → Standing i t₀ t k starts s kept → s ≤ mostSize
-    → (u : ℕ) → u ≤ s → start starts u ≡ start (startsIn k) u
+    → (u : ℕ) → u ≤ s → firstPlace starts u ≡ firstPlace (startsIn k) u
 starts-in {k = k} {starts} w h u l =
-    let z = column-begins nothing k (map (λ c. c .node .size) k) (length k) (w .rising)
+    let z = column-begins noCandidate k (map (λ c. c .node .size) k) (length k) (w .rising)
     (take-all (length k) (map (λ c. c .node .size) k) (omega (arith, length-map (λ c. c .node .size) k))) u (omega arith) in
-    let a = split-one k u (start starts u) (start (startsIn k) u) (w .begins u l) z in
-    let b = split-one k u (start (startsIn k) u) (start starts u) z (w .begins u l) in
+    let a = split-one k u (firstPlace starts u) (firstPlace (startsIn k) u) (w .begins u l) z in
+    let b = split-one k u (firstPlace (startsIn k) u) (firstPlace starts u) z (w .begins u l) in
     omega arith
 
 -- ---- the loop
@@ -111,7 +111,7 @@ pub record Sofar (i : Input) (t₀ t′ : Cols) (target : Cut (List ℕ)) (start
   pub table : Table
   pub position : ℕ
   pub point : PointAt i t₀ t′ starts s at n table position
-  pub is : target ≡ goOn i left (settled i s position (going table (tallyOf n)))
+  pub is : target ≡ goOn i left (settledCut i s position (going table (tallyOf n)))
 
 pub record Loop (i : Input) (budget : ℕ) (from : value.State) (t t′ : Cols) (starts : List ℕ) (s : ℕ) (at : Cursor) (n : Counts) (left : ℕ) : Type 0 where
   pub asks : GoAsks i from
@@ -119,7 +119,7 @@ pub record Loop (i : Input) (budget : ℕ) (from : value.State) (t t′ : Cols) 
   pub high : s ≤ i .bound
   pub kept-in : n .kept ≤ i .room
   pub kept-tried : n .kept ≤ n .tried
-  pub places : start starts s ≤ n .kept
+  pub places : firstPlace starts s ≤ n .kept
   pub within : (at .left ≤ n .kept) × (at .right ≤ n .kept) × (at .operator ≤ listLong (layerAt i s []) (at .split))
   pub left-in : left ≤ budget
   pub spent : n .tried ≤ from .counts .tried + (budget - left)
@@ -127,7 +127,7 @@ pub record Loop (i : Input) (budget : ℕ) (from : value.State) (t t′ : Cols) 
   pub long : SameLengths t t′
   pub begun : Began starts s
   pub runs : (t₀ : Cols) (k : Table) (j : ℕ) → Passes i → RoomThere i t₀ → PointAt i t₀ t (startsOf (t .sizes) (from .counts .kept)) (from .size) (from .at) (from .counts) k j
-      → Sofar i t₀ t′ (goOn i budget (settled i (from .size) j (going k (tallyOf (from .counts))))) starts s at n left
+      → Sofar i t₀ t′ (goOn i budget (settledCut i (from .size) j (going k (tallyOf (from .counts))))) starts s at n left
 
 -- what the loop leaves: a state that 14 lets pass, and from a point of the walk as many candidates more
 pub record Ran (i : Input) (budget : ℕ) (from : value.State) (t t′ : Cols) (state : value.State) : Type 0 where
@@ -135,7 +135,7 @@ pub record Ran (i : Input) (budget : ℕ) (from : value.State) (t t′ : Cols) (
   pub spends : state .counts .tried ≤ from .counts .tried + budget
   pub keeps : state .counts .kept ≤ from .counts .kept + budget
   pub runs : (t₀ : Cols) (k : Table) (j : ℕ) → Passes i → RoomThere i t₀ → PointAt i t₀ t (startsOf (t .sizes) (from .counts .kept)) (from .size) (from .at) (from .counts) k j
-      → StandsIn i t₀ (goOn i budget (settled i (from .size) j (going k (tallyOf (from .counts))))) state t′
+      → StandsIn i t₀ (goOn i budget (settledCut i (from .size) j (going k (tallyOf (from .counts))))) state t′
 
 -- a size has few candidates
 pub few-left : (i : Input) {from : value.State} → GoAsks i from → (starts : List ℕ) (s : ℕ) (at : Cursor) → Began starts s → s ≤ i .bound
@@ -177,7 +177,7 @@ one-counted k n d c f p q r =
 
 module _ (i : Input) (t₀ : Cols) {t′ : Cols} (target : Cut (List ℕ)) (s j a : ℕ) where
   stands-none : (k : Table) (n : Counts) → n .kept ≡ length k → HoldsKept i k t₀ t′ → s ≡ i .bound → length (layer (offer i) s k) ≤ j
-      → target ≡ goOn i a (settled i s j (going k (tallyOf n))) → StandsIn i t₀ target (noneState s n) t′
+      → target ≡ goOn i a (settledCut i s j (going k (tallyOf n))) → StandsIn i t₀ target (noneState s n) t′
   stands-none k n c h e l f =
       subst (λ (x : Cut (List ℕ)). StandsIn i t₀ x (noneState s n) t′)
       (sym (f ∙ ap (goOn i a) (settled-none i s j k (tallyOf n) e l) ∙ turn-over i a none k (tallyOf n)))
@@ -185,11 +185,11 @@ module _ (i : Input) (t₀ : Cols) {t′ : Cols} (target : Cut (List ℕ)) (s j 
 
   -- at a candidate of the size over the table k
   module _ (k : Table) (n : Counts) (c : n .kept ≡ length k) (f : n .tried + 1 < 2 ^ 64) (node : Node) (x : Candidate (List ℕ)) (e : x .node ≡ nodeOf node) (z : node .size ≡ s) where
-    stands-over : (v : Fate) → (endAfter v ≡ 0 → ⊥) → Does i node t₀ t′ k x v → (st : State (List ℕ)) → st ≡ comes v x k (tallyOf n)
-        → target ≡ goOn i a (settled i s j st) → StandsIn i t₀ target (overState s n v node) t′
+    stands-over : (v : Fate) → (endAfter v ≡ 0 → ⊥) → Does i node t₀ t′ k x v → (st : WalkState (List ℕ)) → st ≡ comes v x k (tallyOf n)
+        → target ≡ goOn i a (settledCut i s j st) → StandsIn i t₀ target (overState s n v node) t′
     stands-over Found g w st is t =
         subst (λ (y : Cut (List ℕ)). StandsIn i t₀ y (overState s n Found node) t′)
-        (sym (t ∙ ap (λ (y : State (List ℕ)). goOn i a (settled i s j y)) (is ∙ ap (λ (y : nodes.Node). ended (found y) k (oneTried (tallyOf n))) e)
+        (sym (t ∙ ap (λ (y : WalkState (List ℕ)). goOn i a (settledCut i s j y)) (is ∙ ap (λ (y : nodes.Node). ended (found y) k (oneTried (tallyOf n))) e)
         ∙ ap (goOn i a) (settled-over i s j (found (nodeOf node)) k (oneTried (tallyOf n))) ∙ turn-over i a (found (nodeOf node)) k (oneTried (tallyOf n))))
         (record {
           is = ap₂ (λ (y : ℕ) (m : Counts). endState y m 1 node) (sym z) (one-counted k n (countedBy Found n) c f refl refl refl);
@@ -199,7 +199,7 @@ module _ (i : Input) (t₀ : Cols) {t′ : Cols} (target : Cut (List ℕ)) (s j 
     stands-over Dropped g w st is t = absurd (g refl)
     stands-over Full g w st is t =
         subst (λ (y : Cut (List ℕ)). StandsIn i t₀ y (overState s n Full node) t′)
-        (sym (t ∙ ap (λ (y : State (List ℕ)). goOn i a (settled i s j y)) (is ∙ ap (λ (y : nodes.Node). ended (full (y .size)) k (oneTried (tallyOf n))) e)
+        (sym (t ∙ ap (λ (y : WalkState (List ℕ)). goOn i a (settledCut i s j y)) (is ∙ ap (λ (y : nodes.Node). ended (full (y .size)) k (oneTried (tallyOf n))) e)
         ∙ ap (goOn i a) (settled-over i s j (full (node .size)) k (oneTried (tallyOf n))) ∙ turn-over i a (full (node .size)) k (oneTried (tallyOf n))))
         (record {
           is = ap₂ (λ (y : ℕ) (m : Counts). endState y m 3 noNode) (sym z) (one-counted k n (countedBy Full n) c f refl refl refl);
@@ -216,7 +216,7 @@ pub record Grown (i : Input) (n after : Counts) : Type 0 where
   pub kept-tried : after .kept ≤ after .tried
   pub tried : after .tried ≤ n .tried + 1
 
-grown : {i : Input} (room-in : i .room ≤ mostRoom) (n : Counts) (t t′ : Cols) (v : Fate) → n .kept ≤ i .room → n .kept ≤ n .tried → Placed (i .room) (n .kept) t t′ v
+grown : {i : Input} (room-in : i .room ≤ mostRoom) (n : Counts) (t t′ : Cols) (v : Fate) → n .kept ≤ i .room → n .kept ≤ n .tried → KeptInRoom (i .room) (n .kept) t t′ v
     → Grown i n (countedBy v n)
 grown r n t t′ Found a b p = record { kept-in = a; kept-more = omega arith; kept-one = omega arith; kept-tried = omega arith; tried = omega arith }
 grown r n t t′ Dropped a b p = record { kept-in = a; kept-more = omega arith; kept-one = omega arith; kept-tried = omega arith; tried = omega arith }
@@ -274,10 +274,10 @@ module _ {r m bound room constants : ℕ} {marks lengths words unary binary : Li
       next-began : Began next-starts (s + 1)
       next-began = began (t′ .sizes) (n .kept) (s + 1) (omega (arith, v .kept-in, a .room-in)) (omega (arith, a .bound-in))
 
-      next-first : Within (layerAt i (s + 1) next-starts) (first next-starts (s + 1))
+      next-first : CursorWithin (layerAt i (s + 1) next-starts) (first next-starts (s + 1))
       next-first = first-within (layerAt i (s + 1) next-starts) (next-began .rises)
 
-      next-places : start next-starts (s + 1) ≤ n .kept
+      next-places : firstPlace next-starts (s + 1) ≤ n .kept
       next-places = starts-within (t′ .sizes) (n .kept) (s + 1) (omega (arith, a .bound-in))
 
       begins : {t₀ : Cols} {k : Table} → Standing i t₀ t′ k starts s (n .kept) → Standing i t₀ t′ k next-starts (s + 1) (n .kept)
@@ -286,7 +286,7 @@ module _ {r m bound room constants : ℕ} {marks lengths words unary binary : Li
         holds = w .holds;
         rising = w .rising;
         small = λ p l. omega (arith, w .small p l);
-        begins = λ u l. column-begins nothing k (t′ .sizes) (n .kept) (w .rising) (kept-sizes (w .counted) (w .holds)) u (omega (arith, a .bound-in));
+        begins = λ u l. column-begins noCandidate k (t′ .sizes) (n .kept) (w .rising) (kept-sizes (w .counted) (w .holds)) u (omega (arith, a .bound-in));
       }
 
       starts-at-first : first next-starts (s + 1) ≡ cursorAfter (layerAt i (s + 1) next-starts) 0
@@ -324,7 +324,7 @@ module _ {r m bound room constants : ℕ} {marks lengths words unary binary : Li
                 dropped = z .point .dropped;
               };
               is = z .is ∙ ap (goOn i left) (settled-next i s (z .position) (z .table) (tallyOf n) h (none-left ok (z .point) (v .low) reached step)
-                  ∙ ap (λ (x : ℕ). settled i x 0 (going (z .table) (tallyOf n))) (sym (add-one s)));
+                  ∙ ap (λ (x : ℕ). settledCut i x 0 (going (z .table) (tallyOf n))) (sym (add-one s)));
             };
       }
 
@@ -388,8 +388,8 @@ module _ {r m bound room constants : ℕ} {marks lengths words unary binary : Li
 
     module _ (some : 1 ≤ left) where
       tries : (j : ℕ) (k : Table) → (ok : Passes i) → {t₀ : Cols} → PointAt i t₀ t′ starts s at n k j
-          → goOn i left (settled i s j (going k (tallyOf n)))
-          ≡ goOn i (left - 1) (settled i s (suc j) (consider (offer i) (i .room) (going k (tallyOf n)) (make i k s (cand code (l .0) (q .0)))))
+          → goOn i left (settledCut i s j (going k (tallyOf n)))
+          ≡ goOn i (left - 1) (settledCut i s (suc j) (consider (offer i) (i .room) (going k (tallyOf n)) (make i k s (cand code (l .0) (q .0)))))
       tries j k ok p =
           ap (goOn i left) (settled-more i s j k (tallyOf n) (v .high) (some-left ok p (v .low) reached (v .begun .rises) step))
           ∙ turn-one i left (left - 1) _ (omega arith)
@@ -443,7 +443,7 @@ module _ {r m bound room constants : ℕ} {marks lengths words unary binary : Li
                     position = suc (z .position);
                     point = turn-stands ok (z .point) (v .low) reached (v .begun .rises) step d e (omega (arith, v .kept-in, a .room-in)) b;
                     is = z .is ∙ tries (z .position) (z .table) ok (z .point)
-                        ∙ ap (λ (st : State (List ℕ)). goOn i (left - 1) (settled i s (suc (z .position)) st))
+                        ∙ ap (λ (st : WalkState (List ℕ)). goOn i (left - 1) (settledCut i s (suc (z .position)) st))
                         (b .is (tallyOf n) ∙ comes-going d e x (z .table) n (z .point .stands .counted) (fits (z .point)) (v .kept-tried) (z .point .dropped));
                   };
             }

@@ -19,7 +19,7 @@ use Rattle.counting.specs.declared.Counts.{Counts}
 use Rattle.counting.specs.Counting.{countedBy}
 use Rattle.state.specs.declared.State.{State}
 use Rattle.turns.specs.declared.Start.{Start}
-use Rattle.turns.specs.Standing.{noNode}
+use Rattle.formula.specs.Kinds.{noNode}
 
 -- the state by value, before a candidate, and at the end: "After the last, NONE."
 abbrev pub moreState : ℕ → Cursor → Counts → State

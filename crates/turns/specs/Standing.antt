@@ -14,17 +14,14 @@ use Rattle.split.specs.declared.Cursor.{Cursor}
 use Rattle.order.specs.Size.{Layer, layerOf}
 use Rattle.order.specs.Ahead.{ahead, rest, first, leafCursor, cursorAfter}
 use Rattle.starts.specs.Starts.{startsOf}
-use Rattle.rows.specs.Formulas.{nothing, matrixAt, Fine}
+use Rattle.rows.specs.Formulas.{noCandidate, matrixAt, Fine}
 use Rattle.table.specs.Slices.{Cols, tableOver}
 use Rattle.counting.specs.declared.Counts.{Counts}
 use Rattle.state.specs.declared.State.{State}
 use Rattle.turns.specs.Costs.{perSize, inAll}
+use Rattle.formula.specs.Kinds.{noNode}
 
 -- ---- the state of a cut walk
-
--- no node: the root while there is none
-abbrev pub noNode : Node
-noNode = record { code = 0; left = record { 0 = 0 }; right = record { 0 = 0 }; size = 0 }
 
 abbrev pub kindNode : nodes.Node → Node
 kindNode n = record { code = n .code; left = record { 0 = n .left }; right = record { 0 = n .right }; size = n .size }
@@ -55,7 +52,7 @@ keptIn (over e k n) = k
 
 -- the size of the formula at a place
 abbrev pub sizeAt : Table → ℕ → ℕ
-sizeAt k p = getD k p nothing .node .size
+sizeAt k p = getD k p noCandidate .node .size
 
 -- how many can still be tried, each later size counted as the largest can be
 abbrev pub todo : Input → List ℕ → ℕ → Cursor → ℕ

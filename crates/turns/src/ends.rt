@@ -7,7 +7,7 @@ use rules::kinds::Place;
 use split::Cursor;
 use state::State;
 ghost use mathlib.Core.Path.{_≡_};
-ghost use Rattle.turns.specs.Standing.{noNode};
+ghost use Rattle.formula.specs.Kinds.{noNode};
 ghost use Rattle.turns.specs.Inner.{moreState, endState, noneState, endAfter, rootAt, afterState};
 
 // The root where there is none.

@@ -13,7 +13,7 @@ ghost use Prim.Native.Nat.{_^_, _<_};
 ghost use lib.ListN.{length};
 ghost use Rattle.walk.specs.Input.{inputOf};
 ghost use Rattle.table.specs.Slices.{cols};
-ghost use Rattle.state.specs.Row.{Told};
+ghost use Rattle.rules.specs.Answers.{Tested};
 ghost use Rattle.turns.specs.Turns.{Fits, Gone};
 ghost use Rattle.turns.specs.Inner.{startOf, Masked};
 
@@ -59,7 +59,7 @@ fn unfit(
     binary: &[u8],
     from: State,
 ) -> bool
-    ensures { λ b. ⌜ Told (Fits m bound room constants (length (now (unary .entry))) (length (now (binary .entry))) from) (not b) ⌝ }
+    ensures { λ b. ⌜ Tested (Fits m bound room constants (length (now (unary .entry))) (length (now (binary .entry))) from) (not b) ⌝ }
 {
     if rules::BOUND < bound {
         return true;

@@ -14,7 +14,7 @@ use Rattle.words.specs.Ltlf.{AcceptsAt}
 use Rattle.words.specs.Word.{width, Wf}
 use Rattle.words.proofs.At.{not-at}
 use Rattle.sequence.specs.declared.CharSeq.{CharSeq}
-use Rattle.sequence.specs.Sequence.{Accepts, Denotes}
+use Rattle.sequence.specs.Sequence.{SeqAccepts, Denotes}
 use Rattle.rules.specs.Refusals.{Row, Decided, firstOf}
 use Rattle.rules.proofs.Refusals.{Numbered, decided-none, decided-both}
 use Rattle.session.specs.Data.{dataRows}
@@ -25,7 +25,7 @@ use Rattle.rules.specs.Lists.{count}
 use Rattle.session.specs.Recording.{Recording, markOf, lengthOf, wordOf}
 use Rattle.formula.specs.Recorded.{markedTrace, markedTraces}
 use Rattle.formula.specs.Rule.{Broken, brokenList}
-use Rattle.verdict.specs.Check.{saidVerdict, checkRows, Agrees, Judged, CheckAnswer}
+use Rattle.verdict.specs.Check.{saidVerdict, checkRows, Agrees, VerdictSays, CheckAnswer}
 use Rattle.verdict.specs.declared.Verdict.{Verdict}
 use Rattle.formula.specs.Faultless.{Fits}
 use Rattle.verdict.specs.Inner.{traceAt, Ready, Evaluated, AgreesSeq, Checkable, FirstApart, VerdictOn}
@@ -51,7 +51,7 @@ module _ (i : Recording) (k : List Node) (root : Node) where
   agrees-seq j from w b e ev a t s =
       let d : Denotes (lengthOf i j) (Holds (markedTrace i j .trace) t) w =
       subst (λ (f : ℕ). Denotes (lengthOf i j) (Holds (traceAt (lengthOf i j) (i .words) f) t) w) e (ev t s) in
-      let same : Accepts w ↔ AcceptsAt (Holds (markedTrace i j .trace) t) = d .means .holds 0 (omega arith) in
+      let same : SeqAccepts w ↔ AcceptsAt (Holds (markedTrace i j .trace) t) = d .means .holds 0 (omega arith) in
       Iff·trans a (λ q. (λ n. same .0 (q .0 n), λ p. q .1 (same .1 p)), λ q. (λ n. same .1 (q .0 n), λ p. q .1 (same .0 p)))
 
   pub words-room : Checkable i k root → (j from : ℕ) → j < i .sessions → from ≡ j * i .propositions → from + i .propositions ≤ length (i .words)
@@ -153,12 +153,12 @@ module _ (i : Recording) (k : List Node) (root : Node) (c : Checkable i k root) 
   formula : (t : Formula) × Spells codes k root t
   formula = spelled (i .propositions) k (c .all) (length k) (omega arith) root (c .fits)
 
-  names-session : j < i .sessions → (t : Formula) × Spells codes k root t × Judged i t (0 ∷ j ∷ [])
+  names-session : j < i .sessions → (t : Formula) × Spells codes k root t × VerdictSays i t (0 ∷ j ∷ [])
   names-session h =
       let t = formula in
       (t .0, t .1, inr (j, record { there = h; disagrees = f .here (t .0) (t .1) h; before = f .before (t .0) (t .1) }, refl))
 
-  accepts-formula : i .sessions ≤ j → (t : Formula) × Spells codes k root t × Judged i t (1 ∷ [])
+  accepts-formula : i .sessions ≤ j → (t : Formula) × Spells codes k root t × VerdictSays i t (1 ∷ [])
   accepts-formula h = let t = formula in (t .0, t .1, inl (all-agree i (t .0) (λ g l. f .before (t .0) (t .1) g (omega arith)), refl))
 
   -- whatever the verdict, where no row is given

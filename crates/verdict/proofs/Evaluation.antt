@@ -8,7 +8,7 @@ use Prim.Native.Nat.{ℕ, _+_, _≤_, _<_}
 use native.Mathlib.Omega.{arith}
 use lib.ListN.{length, getD}
 use Rattle.words.specs.Ltlf.{Reading}
-use Rattle.words.specs.Masked.{Placed}
+use Rattle.words.specs.Masked.{PlacesOn}
 use Rattle.words.specs.Word.{width, At, WfComputed, Means}
 use Rattle.words.proofs.At.{means, recorded-computed}
 use Rattle.words.proofs.Bits.{bit-zero}
@@ -56,7 +56,7 @@ module _ (n : ℕ) (words : List ℕ) (from : ℕ) (k : List Node) (nd : Node) w
   word-of-false h e (unary op t) s = absurd (omega (arith, unary-below op, s .0))
   word-of-false h e (binary op l t) s = let x = binary-between op in absurd (omega (arith, s .0))
 
-  pub word-of-true : (m : ℕ) {r : ℕ} → n ≤ width → nd .code ≡ 18 → Mask n m → Means width r (Placed (At m)) → Evaluated n words from k nd (seq n r)
+  pub word-of-true : (m : ℕ) {r : ℕ} → n ≤ width → nd .code ≡ 18 → Mask n m → Means width r (PlacesOn (At m)) → Evaluated n words from k nd (seq n r)
   word-of-true m h e q a (leaf (proposition p)) s = absurd (omega (arith, s .0))
   word-of-true m h e q a (leaf (constant false)) s = absurd (omega (arith, s .0))
   word-of-true m h e q a (leaf (constant true)) s = record { length = refl; means = places-cut h q a (λ i. refl) }

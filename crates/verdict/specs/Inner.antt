@@ -8,7 +8,7 @@ use Prim.Native.Nat.{ℕ, _+_, _*_, _≤_, _<_}
 use lib.ListN.{length, getD}
 use Rattle.words.specs.Word.{width, At, Wf}
 use Rattle.sequence.specs.declared.CharSeq.{CharSeq}
-use Rattle.sequence.specs.Sequence.{Accepts, Denotes}
+use Rattle.sequence.specs.Sequence.{SeqAccepts, Denotes}
 use Rattle.formula.specs.Formula.{Formula, Trace, Holds}
 use Rattle.formula.specs.Nodes.{Node, nodeAt, Spells, codes}
 use Rattle.formula.specs.Rule.{IsUnary, IsBinary}
@@ -57,7 +57,7 @@ LeafEvaluated n words from node r = (k : List Node) → Evaluated n words from k
 
 -- what a session says, where s is the formula's sequence there
 abbrev pub AgreesSeq : ℕ → CharSeq → Bool → Type 0
-AgreesSeq mark s r = (r ≡ true) ↔ ((mark ≡ 1) ↔ Accepts s)
+AgreesSeq mark s r = (r ≡ true) ↔ ((mark ≡ 1) ↔ SeqAccepts s)
 
 -- the session data and the list have passed
 pub record Checkable (i : Recording) (k : List Node) (root : Node) : Type 0 where

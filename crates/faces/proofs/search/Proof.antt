@@ -49,7 +49,7 @@ use Rattle.walk.specs.Input.{inputOf}
 use Rattle.search.proofs.SearchAnswer as Said-type
 use Rattle.search.proofs.SearchAnswer.Laws as Said-laws
 use Rattle.nodes_out.specs.declared.Done.{Done}
-use Rattle.nodes_out.specs.Columns.{columns}
+use Rattle.nodes_out.specs.Columns.{nodeCols}
 use Rattle.nodes_out.specs.Arrays.{putOver, Works}
 use Rattle.nodes_out.proofs.Done as D
 use Rattle.nodes_out.proofs.Done.Laws as D′
@@ -292,7 +292,7 @@ module _ {M : Type 1} (𝓤 : URA M) (H : Heap 𝓤) (A : Atoms 𝓤) (W : Given
       (finally u64 γ₁₁ zs) ∷ ‵ (Said-type.the-row .own r (w ∷ [])) ∷ []
 
   exits : n₀ < 2 ^ 64 → n₁ < 2 ^ 64 → n₂ < 2 ^ 64 → n₃ < 2 ^ 64 → n₄ < 2 ^ 8 → (r : SearchAnswer) (w : Val) (ys : List Node) (zs : List ℕ) → Searched
-      (inputOf n₀ n₁ n₂ n₃ n₄ xs₅ xs₆ xs₇ xs₈ xs₉) (columns xs₁₀ xs₁₁) r (columns ys zs) → length ys ≡ length xs₁₀ → length zs ≡ length xs₁₁ → ent 𝓤
+      (inputOf n₀ n₁ n₂ n₃ n₄ xs₅ xs₆ xs₇ xs₈ xs₉) (nodeCols xs₁₀ xs₁₁) r (nodeCols ys zs) → length ys ≡ length xs₁₀ → length zs ≡ length xs₁₁ → ent 𝓤
       (⋆ 𝓤 H A (Last r w ys zs)) (Post w)
   exits f₀ f₁ f₂ f₃ f₄ r w ys zs d m l =
       qed W (Last r w ys zs) ∵ suffices ! _ (ends-at 𝓤 H A this.ended stayed (this.clauses 𝓤 H A mem run) W

@@ -5,13 +5,13 @@ use mathlib.Core.Logic.{⊎-elim}
 use Prim.Native.Nat.{_-_, _≤_}
 use lib.ListN.{getD}
 use native.Mathlib.Omega.{arith}
-use Rattle.starts.specs.Inner.{Counted}
+use Rattle.starts.specs.Inner.{SizesCounted}
 use Rattle.starts.proofs.Counting.{counted-none, counted-few, counted-more, counted-out}
 use Rattle.starts.proofs.counts.Statement.{statement}
 use Rattle.starts.proofs.counts.Tie as tie
 
 abbrev Inv-loop : tie.InvT-loop
-Inv-loop sizes n counts₀ p₀ counts p = (p ≤ n) × Counted sizes p counts
+Inv-loop sizes n counts₀ p₀ counts p = (p ≤ n) × SizesCounted sizes p counts
 
 abbrev μ-loop : tie.MeasureT-loop
 μ-loop sizes n counts₀ p₀ counts p = n - p

@@ -4,7 +4,7 @@ use Prim.Native.Nat.{_-_, _≤_}
 use native.Mathlib.Omega.{arith}
 use lib.ListN.{getD}
 use borrow.Author.Needs.{needs}
-use Rattle.words.specs.Masked.{Placed}
+use Rattle.words.specs.Masked.{PlacesOn}
 use Rattle.words.specs.Word.{width, At, Means}
 use Rattle.loops.specs.Loops.{Filled}
 use Rattle.loops.proofs.Filling.{filled-none, filled-more, filled-all}
@@ -12,7 +12,7 @@ use Rattle.rows.proofs.leaves.true_rows.Statement.{statement}
 use Rattle.rows.proofs.leaves.true_rows.Tie as tie
 
 abbrev Inv-loop : tie.InvT-loop
-Inv-loop r masks rows₀ j₀ rows j = (j ≤ r) × Filled j rows₀ (λ t w. Means width w (Placed (At (getD masks t 0)))) rows
+Inv-loop r masks rows₀ j₀ rows j = (j ≤ r) × Filled j rows₀ (λ t w. Means width w (PlacesOn (At (getD masks t 0)))) rows
 
 abbrev μ-loop : tie.MeasureT-loop
 μ-loop r masks rows₀ j₀ rows j = r - j

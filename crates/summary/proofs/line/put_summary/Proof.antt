@@ -2,8 +2,8 @@
 -- Assumes nothing.
 use mathlib.Core.List.{_++_}
 use Rattle.writing.proofs.Writing.{wrote-both}
-use Rattle.writing.specs.Writing.{decimal}
-use Rattle.summary.specs.Line.{blank, newline, firstText}
+use Rattle.writing.specs.Writing.{decimal, newline}
+use Rattle.summary.specs.Line.{blank, firstText}
 use borrow.Author.Needs.{needs}
 use Rattle.summary.proofs.line.put_summary.Statement.{statement}
 use Rattle.summary.proofs.line.put_summary.Tie as tie
