@@ -8,9 +8,6 @@ ghost use Rattle.formula.specs.Kinds.{nodeOf, nodes};
 ghost use Rattle.text.specs.Print.{saidPrinted, Prints};
 ghost use Rattle.text.specs.Inner.{Passed};
 
-// The most bytes that a text can have.
-const LONGEST: usize = 391;
-
 // "391 bytes suffice for any formula."
 pub const LONGEST: usize = 391;
 
