@@ -1,3 +1,4 @@
 -- The laws behind the proofs, by subject.
 pub mod Judging
+pub mod Judged
 pub mod Tallies

@@ -1,16 +1,23 @@
 -- What becomes of one candidate, and what it leaves in the lent slices.
 -- Assumes nothing.
 use mathlib.Core.Path.{_≡_}
+use mathlib.Core.Logic.{_⊎_}
+use mathlib.Core.Bool.{Bool, true, false}
 use mathlib.Core.List.{List, [], _∷_, _++_}
 use Prim.Native.Nat.{ℕ, _≤_, _<_}
 use lib.ListN.{length}
 use Rattle.rules.specs.Limits.{mostRoom}
+use Rattle.rules.specs.declared.kinds.Place.{Place}
 use Rattle.formula.specs.declared.kinds.Node.{Node}
 use Rattle.formula.specs.Kinds.{nodeOf}
 use Rattle.walk.specs.Walk.{Candidate, found, full, Tally, oneTried, oneDropped, State, going, ended, kept, consider}
 use Rattle.walk.specs.Input.{Input, Passes, offer, inputOf}
 use Rattle.walk.specs.Kept.{Table}
+use Rattle.rows.specs.Rows.{RowsAnswer}
 use Rattle.rows.specs.Formulas.{Makes, made, Masks}
+use Rattle.table.specs.declared.Known.the-variants.{At, New}
+use Rattle.table.specs.Compare.{agreeing, KnownAnswer}
+use Rattle.table.specs.Keep.{KeepAnswer}
 use Rattle.table.specs.Slices.{Cols}
 use Rattle.table.specs.Formulas.{HoldsKept, RoomAt}
 use Rattle.candidate.specs.declared.Verdict.{Verdict}
@@ -47,15 +54,33 @@ pub record Does (i : Input) (node : Node) (t₀ t′ : Cols) (k : Table) (x : Ca
   pub is : (n : Tally) → consider (offer i) (i .room) (going k n) x ≡ comes v x k n
   pub holds : (n : Tally) → HoldsKept i (kept (comes v x k n)) t₀ t′
 
--- whatever it was handed: one is kept only at a place below C and below the most that any table has, and otherwise nothing is written
-abbrev pub Placed : ℕ → ℕ → Cols → Cols → Verdict → Type 0
-Placed room count t t′ Found = t′ ≡ t
-Placed room count t t′ Dropped = t′ ≡ t
-Placed room count t t′ Full = t′ ≡ t
-Placed room count t t′ Kept = (count < room) × (count < mostRoom)
+-- whatever it was handed: the tests in 01's order over the candidate's rows, each by its own contract. Only where it is kept is anything written to the table:
+-- below C and below the most that any table has, as `keep` writes it
+module _ (r room : ℕ) (marks : List ℕ) (node : Node) (count : ℕ) (rows : List ℕ) (t t′ : Cols) where
+  abbrev pub Tests : Verdict → Type 0
+  Tests Found = (agreeing r marks rows ≡ true) × (t′ ≡ t)
+  Tests Dropped = (agreeing r marks rows ≡ false) × ((p : Place) × KnownAnswer r (t .matrices) rows count (At p)) × (t′ ≡ t)
+  Tests Full = (agreeing r marks rows ≡ false) × KnownAnswer r (t .matrices) rows count New × ((room ≤ count) ⊎ (mostRoom ≤ count)) × (t′ ≡ t)
+  Tests Kept = (agreeing r marks rows ≡ false) × KnownAnswer r (t .matrices) rows count New × (count < room) × (count < mostRoom)
+      × ((done : Bool) × KeepAnswer r rows count (nodeOf node) t t′ done)
 
-pub record Judged (r m room : ℕ) (marks words masks : List ℕ) (node : Node) (count : ℕ) (rows : List ℕ) (t t′ : Cols) (v : Verdict) : Type 0 where
-  pub placed : Placed room count t t′ v
-  pub runs : (bound constants : ℕ) (lengths unary binary : List ℕ) (t₀ : Cols) (k : Table) (x : Candidate (List ℕ))
-      → Over (inputOf r m bound room constants marks lengths words unary binary) masks node count rows t₀ t k x
-      → Does (inputOf r m bound room constants marks lengths words unary binary) node t₀ t′ k x v
+-- its rows are made in `rows`, as `rows_of` makes them; then the tests
+pub record Judged (r m room : ℕ) (marks words masks : List ℕ) (node : Node) (count : ℕ) (rows rows′ : List ℕ) (t t′ : Cols) (v : Verdict) : Type 0 where
+  pub filled : Bool
+  pub made : RowsAnswer r m masks words (t .matrices) (node .code) (node .left .0) (node .right .0) rows rows′ filled
+  pub tests : Tests r room marks node count rows′ t t′ v
+
+-- ---- what is promised of it; each is proved under its name in proofs/Judged: judge-unique, judge-walks
+
+-- for every input there is one verdict, and one contents of the rows' room and of the table
+abbrev pub JudgeUnique : Type 0
+JudgeUnique = (r m room : ℕ) (marks words masks : List ℕ) (node : Node) (count : ℕ) (rows x y : List ℕ) (t u w : Cols) (a b : Verdict)
+    → Judged r m room marks words masks node count rows x t u a → Judged r m room marks words masks node count rows y t w b → (a ≡ b) × (x ≡ y) × (u ≡ w)
+
+-- over slices that hold what a walk has kept it is the walk's
+abbrev pub JudgeWalks : Type 0
+JudgeWalks = (r m room : ℕ) (marks words masks : List ℕ) (node : Node) (count : ℕ) (rows rows′ : List ℕ) (t t′ : Cols) (v : Verdict)
+    → Judged r m room marks words masks node count rows rows′ t t′ v
+    → (bound constants : ℕ) (lengths unary binary : List ℕ) (t₀ : Cols) (k : Table) (x : Candidate (List ℕ))
+    → Over (inputOf r m bound room constants marks lengths words unary binary) masks node count rows t₀ t k x
+    → Does (inputOf r m bound room constants marks lengths words unary binary) node t₀ t′ k x v

@@ -41,7 +41,8 @@ use Rattle.table.specs.Formulas.{HoldsKept, RoomAt}
 use Rattle.checks.specs.Promises.{RoomThere}
 use Rattle.candidate.specs.declared.Verdict.{Verdict}
 use Rattle.candidate.specs.declared.Verdict.the-variants.{Found, Dropped, Full, Kept}
-use Rattle.candidate.specs.Judge.{comes, Placed, Does, Judged}
+use Rattle.candidate.specs.Judge.{comes, Tests, Does, Judged}
+use Rattle.candidate.proofs.Judged.{judge-walks}
 use Rattle.candidate.specs.Counting.{tallyOf, oneMore, countedBy}
 use Rattle.candidate.specs.declared.counts.Counts.{Counts}
 use Rattle.state.specs.declared.State as value
@@ -213,12 +214,18 @@ pub record Grown (i : Input) (n after : Counts) : Type 0 where
   pub kept-tried : after .kept ≤ after .tried
   pub tried : after .tried ≤ n .tried + 1
 
-grown : {i : Input} (room-in : i .room ≤ mostRoom) (n : Counts) (t t′ : Cols) (v : Verdict) → n .kept ≤ i .room → n .kept ≤ n .tried → Placed (i .room) (n .kept) t t′ v
-    → Grown i n (countedBy v n)
-grown r n t t′ Found a b p = record { kept-in = a; kept-more = omega arith; kept-one = omega arith; kept-tried = omega arith; tried = omega arith }
-grown r n t t′ Dropped a b p = record { kept-in = a; kept-more = omega arith; kept-one = omega arith; kept-tried = omega arith; tried = omega arith }
-grown r n t t′ Full a b p = record { kept-in = a; kept-more = omega arith; kept-one = omega arith; kept-tried = omega arith; tried = omega arith }
-grown r n t t′ Kept a b p = record { kept-in = omega (arith, p); kept-more = omega arith; kept-one = omega arith; kept-tried = omega (arith, p); tried = omega arith }
+grown : {i : Input} (room-in : i .room ≤ mostRoom) (r : ℕ) (marks : List ℕ) (node : Node) (rows : List ℕ) (n : Counts) (t t′ : Cols) (v : Verdict) → n .kept ≤ i .room
+    → n .kept ≤ n .tried → Tests r (i .room) marks node (n .kept) rows t t′ v → Grown i n (countedBy v n)
+grown h r marks node rows n t t′ Found a b p = record { kept-in = a; kept-more = omega arith; kept-one = omega arith; kept-tried = omega arith; tried = omega arith }
+grown h r marks node rows n t t′ Dropped a b p = record { kept-in = a; kept-more = omega arith; kept-one = omega arith; kept-tried = omega arith; tried = omega arith }
+grown h r marks node rows n t t′ Full a b p = record { kept-in = a; kept-more = omega arith; kept-one = omega arith; kept-tried = omega arith; tried = omega arith }
+grown h r marks node rows n t t′ Kept a b p = record {
+  kept-in = omega (arith, p .2);
+  kept-more = omega arith;
+  kept-one = omega arith;
+  kept-tried = omega (arith, p .3);
+  tried = omega arith;
+}
 
 -- there is room at a place below C
 pub room-at : {i : Input} {t₀ : Cols} (count : ℕ) → RoomThere i t₀ → count < i .room → RoomAt i count t₀
@@ -392,13 +399,13 @@ module _ {r m bound room constants : ℕ} {marks lengths words unary binary : Li
           ∙ turn-one i left (left - 1) _ (omega arith)
           ∙ ap (goOn i (left - 1)) (one-step i s j k (tallyOf n) (make i k s (cand code (l .0) (q .0))) (next-is ok p (v .low) reached (v .begun .rises) step))
 
-      module _ {masks rows : List ℕ} {u : Cols} (ms : Passes i → Masks i masks) (long : mostSessions ≤ length rows) {d : Verdict}
-          (judged : Judged r m room marks words masks node (n .kept) rows t′ u d) where
+      module _ {masks rows rows′ : List ℕ} {u : Cols} (ms : Passes i → Masks i masks) (long : mostSessions ≤ length rows) {d : Verdict}
+          (judged : Judged r m room marks words masks node (n .kept) rows rows′ t′ u d) where
         more-counted : Grown i n (countedBy d n)
-        more-counted = grown (a .room-in) n t′ u d (v .kept-in) (v .kept-tried) (judged .placed)
+        more-counted = grown (a .room-in) r marks node rows′ n t′ u d (v .kept-in) (v .kept-tried) (judged .tests)
 
         does : {t₀ : Cols} (k : Table) (j : ℕ) → Passes i → RoomThere i t₀ → PointAt i t₀ t′ starts s at n k j → Does i node t₀ u k (make i k s (cand code (l .0) (q .0))) d
-        does k j ok there p = judged .runs bound constants lengths unary binary _ k (make i k s (cand code (l .0) (q .0)))
+        does k j ok there p = judge-walks r m room marks words masks node (n .kept) rows rows′ t′ u d judged bound constants lengths unary binary _ k (make i k s (cand code (l .0) (q .0)))
             (record {
               passes = ok;
               few = v .kept-in;
