@@ -38,7 +38,7 @@ pub fn judge(
     sizes: &mut [u8],
     matrices: &mut [u64],
 ) -> Fate
-    ensures { λ v. ⌜ Judged r m room (now (marks .entry)) (now (words .entry)) (now (masks .entry)) node kept (now (rows .entry))
+    ensures { λ v. ⌜ Judged r m room (now (marks .entry)) (now (words .entry)) (now (masks .entry)) node kept (now (rows .entry)) (now (rows .exit))
         (cols (now (codes .entry)) (now (lefts .entry)) (now (rights .entry)) (now (sizes .entry)) (now (matrices .entry)))
         (cols (now (codes .exit)) (now (lefts .exit)) (now (rights .exit)) (now (sizes .exit)) (now (matrices .exit))) v ⌝ }
 {

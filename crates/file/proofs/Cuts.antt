@@ -41,7 +41,7 @@ abbrev from-length : ℕ → ℕ → Reader FileSession
 from-length m mark f a = andThen (byte (within 0 width) f a) (λ n b. from-words m mark n f b)
 
 abbrev from-bound : ℕ → Reader Settings
-from-bound constants f b = andThen (byte (within 1 mostSize) f b) (λ mostSize next. got (record { constants = constants; bound = mostSize }) next)
+from-bound constants f b = andThen (byte (within 1 mostSize) f b) (λ bound next. got (record { constants = constants; bound = bound }) next)
 
 abbrev from-mark : Reader Settings
 from-mark f a = andThen (byte (within 0 1) f a) (λ constants b. from-bound constants f b)

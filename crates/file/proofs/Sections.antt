@@ -136,7 +136,7 @@ module _ (file : List ℕ) where
               file-is = rw (names-read .1, sessions-read .1, unary-read .1, binary-read .1) (end-map whole (settings file i))
 
               answer : Tail → ReadAnswer
-              answer (TailRead constants mostSize) = AllParts n m a u v constants mostSize
+              answer (TailRead constants bound) = AllParts n m a u v constants bound
               answer (TailBroken o) = FileBroken o
 
               answer-is : (z : Got Settings) → answer (tailOf z) ≡ numbersOf (andThen z (λ z n. got (whole z) n))
@@ -151,6 +151,6 @@ module _ (file : List ℕ) where
               unfolding answer
               judge-tail z = ap answer (sym z) ∙ judged
 
-              pub judge-whole : {constants mostSize : ℕ} → x ≡ TailRead constants mostSize → AllParts n m a u v constants mostSize ≡ readAnswerOf file
+              pub judge-whole : {constants bound : ℕ} → x ≡ TailRead constants bound → AllParts n m a u v constants bound ≡ readAnswerOf file
               unfolding answer
               judge-whole z = ap answer (sym z) ∙ judged

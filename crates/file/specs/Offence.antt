@@ -24,8 +24,8 @@ unfoldable pub settings : Reader Settings
 settings file at =
     andThen (byte (within 2 2) file at) (λ _ a.
     andThen (byte (within 0 1) file a) (λ constants b.
-    andThen (byte (within 1 mostSize) file b) (λ mostSize next.
-    got (record { constants = constants; bound = mostSize }) next)))
+    andThen (byte (within 1 mostSize) file b) (λ bound next.
+    got (record { constants = constants; bound = bound }) next)))
 
 -- ---- the whole
 

@@ -1,6 +1,6 @@
 -- The loop of the search: the walk that is left where it stands, for as many candidates as are left of the budget, comes to what the walk from the
 -- state on comes to for the whole budget; what is still to try gets less; and whatever the state was, the next one is such as may be handed in.
--- Assumes nothing.
+-- Assumes noCandidate.
 use mathlib.Core.Path.{_≡_, refl, sym, ap, ap₂, _∙_, subst}
 use mathlib.Core.List.{List, [], map}
 use Prim.Native.Nat.{ℕ, suc, _+_, _-_, _^_, _≤_, _<_}
@@ -25,10 +25,12 @@ use Rattle.split.specs.declared.Step.{Step}
 use Rattle.split.specs.declared.Step.the-variants.{Candidate as Told, End}
 use Rattle.split.proofs.Step.{the-type as step-type}
 use Rattle.split.specs.Split.{cand}
-use Rattle.order.specs.Size.{Layer, firstPlace}
+use Rattle.order.specs.Size.{Layer}
+use Rattle.walk.specs.Cut.{start}
 use Rattle.order.specs.Ahead.{ahead, rest, first, cursorAfter}
 use Rattle.starts.specs.Starts.{startsOf}
-use Rattle.order.specs.Steps.{listLong, CursorWithin, Steps}
+use Rattle.order.specs.Steps.{listLong, Steps}
+use Rattle.whole_input.specs.Input.{Within}
 use Rattle.starts.proofs.Counting.{starts-long, starts-rise, starts-within}
 use Rattle.order.proofs.Cursors.{first-within, cursor-same, left-same, rest-same}
 use Rattle.order.proofs.Few.{rest-few}
@@ -41,10 +43,10 @@ use Rattle.table.specs.Slices.{Cols}
 use Rattle.table.specs.Formulas.{HoldsKept, RoomAt}
 use Rattle.checks.specs.Promises.{RoomThere}
 use Rattle.counting.specs.declared.Fate.{Fate}
-use Rattle.counting.specs.declared.Fate.the-variants.{Found, Full}
-use Rattle.counting.specs.declared.Fate.the-variants.{Dropped, Kept}
+use Rattle.counting.specs.declared.Fate.the-variants.{Found, Dropped, Full, Kept}
 use Rattle.counting.specs.Counting.{comes}
-use Rattle.candidate.specs.Judge.{KeptInRoom, Does, Judged}
+use Rattle.candidate.specs.Judge.{Tests, Does, Judged}
+use Rattle.candidate.proofs.Judged.{judge-walks}
 use Rattle.counting.specs.Counting.{tallyOf, oneMore, countedBy}
 use Rattle.counting.specs.declared.Counts.{Counts}
 use Rattle.state.specs.declared.State as value
@@ -67,8 +69,8 @@ pub record SameLengths (t t′ : Cols) : Type 0 where
 -- where a size begins, whatever the table
 pub record Began (starts : List ℕ) (s : ℕ) : Type 0 where
   pub long : length starts ≡ mostSize + 2
-  pub few : (u : ℕ) → firstPlace starts u ≤ mostRoom
-  pub rises : (u : ℕ) → u ≤ s → firstPlace starts u ≤ firstPlace starts s
+  pub few : (u : ℕ) → start starts u ≤ mostRoom
+  pub rises : (u : ℕ) → u ≤ s → start starts u ≤ start starts s
 
 pub began : (sizes : List ℕ) (kept s : ℕ) → kept ≤ mostRoom → s ≤ mostSize → Began (startsOf sizes kept) s
 began sizes kept s h l = record {
@@ -96,12 +98,12 @@ split-one k u a b x y = elim (decLe a b) [
 ]
 
 pub starts-in : {i : Input} {t₀ t : Cols} {k : Table} {starts : List ℕ} {s kept : ℕ} → Standing i t₀ t k starts s kept → s ≤ mostSize
-    → (u : ℕ) → u ≤ s → firstPlace starts u ≡ firstPlace (startsIn k) u
+    → (u : ℕ) → u ≤ s → start starts u ≡ start (startsIn k) u
 starts-in {k = k} {starts} w h u l =
     let z = column-begins noCandidate k (map (λ c. c .node .size) k) (length k) (w .rising)
     (take-all (length k) (map (λ c. c .node .size) k) (omega (arith, length-map (λ c. c .node .size) k))) u (omega arith) in
-    let a = split-one k u (firstPlace starts u) (firstPlace (startsIn k) u) (w .begins u l) z in
-    let b = split-one k u (firstPlace (startsIn k) u) (firstPlace starts u) z (w .begins u l) in
+    let a = split-one k u (start starts u) (start (startsIn k) u) (w .begins u l) z in
+    let b = split-one k u (start (startsIn k) u) (start starts u) z (w .begins u l) in
     omega arith
 
 -- ---- the loop
@@ -119,7 +121,7 @@ pub record Loop (i : Input) (budget : ℕ) (from : value.State) (t t′ : Cols) 
   pub high : s ≤ i .bound
   pub kept-in : n .kept ≤ i .room
   pub kept-tried : n .kept ≤ n .tried
-  pub places : firstPlace starts s ≤ n .kept
+  pub places : start starts s ≤ n .kept
   pub within : (at .left ≤ n .kept) × (at .right ≤ n .kept) × (at .operator ≤ listLong (layerAt i s []) (at .split))
   pub left-in : left ≤ budget
   pub spent : n .tried ≤ from .counts .tried + (budget - left)
@@ -216,12 +218,18 @@ pub record Grown (i : Input) (n after : Counts) : Type 0 where
   pub kept-tried : after .kept ≤ after .tried
   pub tried : after .tried ≤ n .tried + 1
 
-grown : {i : Input} (room-in : i .room ≤ mostRoom) (n : Counts) (t t′ : Cols) (v : Fate) → n .kept ≤ i .room → n .kept ≤ n .tried → KeptInRoom (i .room) (n .kept) t t′ v
-    → Grown i n (countedBy v n)
-grown r n t t′ Found a b p = record { kept-in = a; kept-more = omega arith; kept-one = omega arith; kept-tried = omega arith; tried = omega arith }
-grown r n t t′ Dropped a b p = record { kept-in = a; kept-more = omega arith; kept-one = omega arith; kept-tried = omega arith; tried = omega arith }
-grown r n t t′ Full a b p = record { kept-in = a; kept-more = omega arith; kept-one = omega arith; kept-tried = omega arith; tried = omega arith }
-grown r n t t′ Kept a b p = record { kept-in = omega (arith, p); kept-more = omega arith; kept-one = omega arith; kept-tried = omega (arith, p); tried = omega arith }
+grown : {i : Input} (room-in : i .room ≤ mostRoom) (r : ℕ) (marks : List ℕ) (node : Node) (rows : List ℕ) (n : Counts) (t t′ : Cols) (v : Fate) → n .kept ≤ i .room
+    → n .kept ≤ n .tried → Tests r (i .room) marks node (n .kept) rows t t′ v → Grown i n (countedBy v n)
+grown h r marks node rows n t t′ Found a b p = record { kept-in = a; kept-more = omega arith; kept-one = omega arith; kept-tried = omega arith; tried = omega arith }
+grown h r marks node rows n t t′ Dropped a b p = record { kept-in = a; kept-more = omega arith; kept-one = omega arith; kept-tried = omega arith; tried = omega arith }
+grown h r marks node rows n t t′ Full a b p = record { kept-in = a; kept-more = omega arith; kept-one = omega arith; kept-tried = omega arith; tried = omega arith }
+grown h r marks node rows n t t′ Kept a b p = record {
+  kept-in = omega (arith, p .2);
+  kept-more = omega arith;
+  kept-one = omega arith;
+  kept-tried = omega (arith, p .3);
+  tried = omega arith;
+}
 
 -- there is room at a place below C
 pub room-at : {i : Input} {t₀ : Cols} (count : ℕ) → RoomThere i t₀ → count < i .room → RoomAt i count t₀
@@ -274,10 +282,10 @@ module _ {r m bound room constants : ℕ} {marks lengths words unary binary : Li
       next-began : Began next-starts (s + 1)
       next-began = began (t′ .sizes) (n .kept) (s + 1) (omega (arith, v .kept-in, a .room-in)) (omega (arith, a .bound-in))
 
-      next-first : CursorWithin (layerAt i (s + 1) next-starts) (first next-starts (s + 1))
+      next-first : Within (layerAt i (s + 1) next-starts) (first next-starts (s + 1))
       next-first = first-within (layerAt i (s + 1) next-starts) (next-began .rises)
 
-      next-places : firstPlace next-starts (s + 1) ≤ n .kept
+      next-places : start next-starts (s + 1) ≤ n .kept
       next-places = starts-within (t′ .sizes) (n .kept) (s + 1) (omega (arith, a .bound-in))
 
       begins : {t₀ : Cols} {k : Table} → Standing i t₀ t′ k starts s (n .kept) → Standing i t₀ t′ k next-starts (s + 1) (n .kept)
@@ -395,13 +403,13 @@ module _ {r m bound room constants : ℕ} {marks lengths words unary binary : Li
           ∙ turn-one i left (left - 1) _ (omega arith)
           ∙ ap (goOn i (left - 1)) (one-step i s j k (tallyOf n) (make i k s (cand code (l .0) (q .0))) (next-is ok p (v .low) reached (v .begun .rises) step))
 
-      module _ {masks rows : List ℕ} {u : Cols} (ms : Passes i → Masks i masks) (long : mostSessions ≤ length rows) {d : Fate}
-          (judged : Judged r m room marks words masks node (n .kept) rows t′ u d) where
+      module _ {masks rows rows′ : List ℕ} {u : Cols} (ms : Passes i → Masks i masks) (long : mostSessions ≤ length rows) {d : Fate}
+          (judged : Judged r m room marks words masks node (n .kept) rows rows′ t′ u d) where
         more-counted : Grown i n (countedBy d n)
-        more-counted = grown (a .room-in) n t′ u d (v .kept-in) (v .kept-tried) (judged .placed)
+        more-counted = grown (a .room-in) r marks node rows′ n t′ u d (v .kept-in) (v .kept-tried) (judged .tests)
 
         does : {t₀ : Cols} (k : Table) (j : ℕ) → Passes i → RoomThere i t₀ → PointAt i t₀ t′ starts s at n k j → Does i node t₀ u k (make i k s (cand code (l .0) (q .0))) d
-        does k j ok there p = judged .runs bound constants lengths unary binary _ k (make i k s (cand code (l .0) (q .0)))
+        does k j ok there p = judge-walks r m room marks words masks node (n .kept) rows rows′ t′ u d judged bound constants lengths unary binary _ k (make i k s (cand code (l .0) (q .0)))
             (record {
               passes = ok;
               few = v .kept-in;

@@ -1,4 +1,4 @@
--- The states that the loop answers, where a size begins, and the masks. No public contract cites this.
+-- The states that the loop answers, and the masks. No public contract cites this.
 -- Assumes nothing.
 use mathlib.Core.Path.{_≡_}
 use mathlib.Core.Bool.{Bool, cond}
@@ -8,18 +8,16 @@ use lib.ListN.{length, replicate}
 use lib.Dec.{eqb}
 use Rattle.rules.specs.Limits.{mostSessions}
 use Rattle.formula.specs.declared.kinds.Node.{Node}
+use Rattle.formula.specs.Kinds.{noNode}
 use Rattle.split.specs.declared.Cursor.{Cursor}
 use Rattle.order.specs.Ahead.{first, leafCursor}
-use Rattle.starts.specs.Starts.{startsOf}
 use Rattle.masks.specs.Masks.{MasksAnswer}
 use Rattle.counting.specs.declared.Fate.{Fate}
-use Rattle.counting.specs.declared.Fate.the-variants.{Found, Full}
-use Rattle.counting.specs.declared.Fate.the-variants.{Dropped, Kept}
+use Rattle.counting.specs.declared.Fate.the-variants.{Found, Dropped, Full, Kept}
 use Rattle.counting.specs.declared.Counts.{Counts}
 use Rattle.counting.specs.Counting.{countedBy}
 use Rattle.state.specs.declared.State.{State}
-use Rattle.turns.specs.declared.Start.{Start}
-use Rattle.formula.specs.Kinds.{noNode}
+use Rattle.turns.specs.Standing.{noNode}
 
 -- the state by value, before a candidate, and at the end: "After the last, NONE."
 abbrev pub moreState : ℕ → Cursor → Counts → State
@@ -47,12 +45,9 @@ overState s n v node = endState s (countedBy v n) (endAfter v) (rootAt (endAfter
 abbrev pub afterState : ℕ → Counts → Cursor → Fate → Node → State
 afterState s n next v node = cond (eqb (endAfter v) 0) (moreState s next (countedBy v n)) (overState s n v node)
 
--- where the size after that of a state begins, and the state there
-abbrev pub startOf : List ℕ → State → Start
-startOf sizes st = record {
-  starts = startsOf sizes (st .counts .kept);
-  state = moreState (st .size + 1) (first (startsOf sizes (st .counts .kept)) (st .size + 1)) (st .counts);
-}
+-- before the first candidate of the size after that of a state
+abbrev pub beginState : List ℕ → State → State
+beginState starts st = moreState (st .size + 1) (first starts (st .size + 1)) (st .counts)
 
 -- the masks of r sessions in a room for 32
 pub record Masked (r : ℕ) (lengths masks : List ℕ) : Type 0 where

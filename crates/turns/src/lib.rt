@@ -2,9 +2,7 @@
 mod ends;
 
 use formula::kinds::Node;
-use split::Cursor;
 use split::Step;
-use starts::COUNT;
 use starts::of_table;
 use state::State;
 ghost use mathlib.Core.Path.{_≡_};
@@ -15,29 +13,19 @@ ghost use Rattle.walk.specs.Input.{inputOf};
 ghost use Rattle.table.specs.Slices.{cols};
 ghost use Rattle.rules.specs.Answers.{Tested};
 ghost use Rattle.turns.specs.Turns.{Fits, Gone};
-ghost use Rattle.turns.specs.Inner.{startOf, Masked};
+ghost use Rattle.turns.specs.Inner.{beginState, Masked};
 
 // At most so many operators of a group are offered, none twice.
 const OPERATORS: usize = 6;
 
-// Where a size begins: the first place of each size up to it, and the state before its first candidate.
-struct Start {
-    starts: [u16; COUNT],
-    state: State,
-}
-
-// The start of the size after that of a state, over what is kept.
-fn begin(sizes: &[u8], before: State) -> Start
-    requires { ⌜ (before .counts .kept < 2 ^ 16) × (before .size < 2 ^ 16) ⌝ }
-    ensures { λ r. ⌜ r ≡ startOf (now (sizes .entry)) before ⌝ }
+// The state before the first candidate of the next size, by where the sizes begin.
+fn begin(starts: &[u16], before: State) -> State
+    requires { ⌜ before .size < 2 ^ 16 ⌝ }
+    ensures { λ r. ⌜ r ≡ beginState (now (starts .entry)) before ⌝ }
 {
-    let starts = of_table(sizes, before.counts.kept as u16);
     let size = before.size + 1;
-    let at = order::first(&starts, size);
-    Start {
-        starts,
-        state: ends::more(size, at, before.counts),
-    }
+    let at = order::first(starts, size);
+    ends::more(size, at, before.counts)
 }
 
 // The masks of the sessions, once for a call.
@@ -134,9 +122,8 @@ pub fn go_on(
             if bound <= state.size {
                 return ends::none(state.size, state.counts);
             }
-            let start = begin(sizes, state);
-            starts = start.starts;
-            state = start.state;
+            starts = of_table(sizes, state.counts.kept as u16);
+            state = begin(&starts, state);
             continue;
         };
         if left == 0 {

@@ -5,9 +5,7 @@ use Rattle.turns.proofs.begin.Statement.{statement}
 use Rattle.turns.proofs.begin.Tie as tie
 
 returns : tie.Need-returns
-returns c =
-    let c₁ = c .before in
-    rw (c .more .ensures, c₁ .first .ensures, c₁ .before .before .before .of-table .ensures)
+returns c = rw (c .more .ensures, c .before .first .ensures)
 
 pub begin-spec : {M : Type 1} → statement M
-begin-spec = tie.close (tie.spec (λ c. search needs) (λ c κs. search needs) (λ c. search needs) (λ c. search needs) (λ c κs. search needs) (λ c κs. search needs) returns)
+begin-spec = tie.close (tie.spec (λ c. search needs) (λ c κs. search needs) (λ c κs. search needs) returns)

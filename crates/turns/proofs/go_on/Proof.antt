@@ -1,10 +1,13 @@
 -- `go_on` meets its contract: what is left where the loop stands comes to what was left at the state.
 -- Assumes nothing.
 use mathlib.Core.Path.{_≡_, refl, sym, ap, _∙_}
+use mathlib.Core.List.{List}
+use Prim.Native.Nat.{ℕ}
 use native.Mathlib.Omega.{arith}
 use lib.ListN.{length}
 use borrow.Author.Needs.{needs}
 use Rattle.walk.specs.Input.{inputOf}
+use Rattle.starts.proofs.Counting.{starts-long}
 use Rattle.table.specs.Slices.{cols}
 use Rattle.state.specs.declared.State.{State}
 use Rattle.turns.specs.Standing.{todo}
@@ -92,30 +95,45 @@ returns-2 c =
     let v = c₇ .loop .inv .2 in
     rw (c .none .ensures) (gone (v .asks) (stops-none v (ended-step (c₅ .next .result) (c₄ .match .keys2) (c₅ .next .ensures)) (c₁ .if2 .taken)))
 
+cast-of-table-2 : tie.Need-cast-of-table-2 Inv-loop μ-loop
+cast-of-table-2 c =
+    let c₈ = c .before .before .before .before .before .before .before .before in
+    let v = c₈ .loop .inv .2 in
+    omega (arith, v .kept-in, v .asks .room-in)
+
+slice-aggregate-begin : tie.Need-slice-aggregate-begin Inv-loop μ-loop
+slice-aggregate-begin c =
+    let c₁ = c .before in
+    sym (ap (λ (l : List ℕ). length l) (c₁ .of-table2 .ensures) ∙ starts-long _ _)
+
 begin-requires : tie.Need-begin-requires Inv-loop μ-loop
 begin-requires c κs =
-    let c₇ = c .before .before .before .before .before .before .before in
-    let v = c₇ .loop .inv .2 in
-    (omega (arith, v .kept-in, v .asks .room-in), omega (arith, v .high, v .asks .bound-in))
+    let c₁₀ = c .before .before .before .before .before .before .before .before .before .before in
+    let v = c₁₀ .loop .inv .2 in
+    omega (arith, v .high, v .asks .bound-in)
 
 loop-less : tie.Need-loop-less Inv-loop μ-loop
 loop-less c =
     let c₂ = c .before .before in
-    let c₄ = c₂ .before .before in
-    let c₇ = c₄ .before .before .before in
-    let c₈ = c₇ .before in
-    let c₁₀ = c₈ .before .before in
-    rw (c₂ .begin .ensures) (less-size (c₁₀ .loop .inv .2) (ended-step (c₈ .next .result) (c₇ .match .keys2) (c₈ .next .ensures)) (c₄ .if2 .left))
+    let c₅ = c₂ .before .before .before in
+    let c₈ = c₅ .before .before .before in
+    let c₉ = c₈ .before in
+    let c₁₁ = c₉ .before .before in
+    rw (c .begin .ensures, c₂ .of-table2 .ensures)
+    (less-size (c₁₁ .loop .inv .2) (ended-step (c₉ .next .result) (c₈ .match .keys2) (c₉ .next .ensures)) (c₅ .if2 .left))
 
 loop-again : tie.Need-loop-again Inv-loop μ-loop
 loop-again c =
     let c₂ = c .before .before in
-    let c₄ = c₂ .before .before in
-    let c₇ = c₄ .before .before .before in
-    let c₈ = c₇ .before in
-    let c₁₀ = c₈ .before .before in
-    let v = c₁₀ .loop .inv in
-    (v .0, v .1, rw (c₂ .begin .ensures) (turn-size (v .2) (ended-step (c₈ .next .result) (c₇ .match .keys2) (c₈ .next .ensures)) (c₄ .if2 .left)))
+    let c₅ = c₂ .before .before .before in
+    let c₈ = c₅ .before .before .before in
+    let c₉ = c₈ .before in
+    let c₁₁ = c₉ .before .before in
+    let v = c₁₁ .loop .inv in (
+      v .0,
+      v .1,
+      rw (c .begin .ensures, c₂ .of-table2 .ensures) (turn-size (v .2) (ended-step (c₉ .next .result) (c₈ .match .keys2) (c₉ .next .ensures)) (c₅ .if2 .left)),
+    )
 
 same-length-6 : tie.Need-same-length-6 Inv-loop μ-loop
 same-length-6 c =
@@ -151,8 +169,8 @@ returns-3 c =
     let v = c₇ .loop .inv .2 in
     rw (c .more .ensures) (gone (v .asks) (stops-more v (rw (c₃ .step .given .1) at (c₅ .next .ensures)) (c₁ .if3 .taken)))
 
-cast-t39 : tie.Need-cast-t39 Inv-loop μ-loop
-cast-t39 c =
+cast-t38 : tie.Need-cast-t38 Inv-loop μ-loop
+cast-t38 c =
     let c₇ = c .before .before .before .before .before .before .before in
     omega (arith, c₇ .loop .inv .2 .high, c₇ .loop .inv .2 .asks .bound-in)
 
@@ -250,7 +268,7 @@ pub go-on-spec : {M : Type 1} → statement M
 go-on-spec = tie.close (tie.spec
     Inv-loop μ-loop (λ c κs. search needs) returns (λ c κs. search needs) cast-of-table (λ c κs. search needs) loop-holds slice-aggregate-next
     cast-next (λ c κs. search needs) (λ c. search needs) (λ c. search needs) (λ c κs. search needs) same-length same-length-2 same-length-3
-    same-length-4 same-length-5 returns-2 begin-requires loop-less loop-again (λ c κs. search needs) same-length-6 same-length-7 same-length-8
-    same-length-9 same-length-10 returns-3 (λ c. omega (arith, pos-of-ne _ (c .if3 .left))) cast-t39 slice-aggregate-judge slice-aggregate-judge-2
-    (λ c κs. search needs) (λ c κs. search needs) same-length-11 same-length-12 same-length-13 same-length-14 same-length-15 returns-4 loop-less-2
-    loop-again-2)
+    same-length-4 same-length-5 returns-2 cast-of-table-2 (λ c κs. search needs) slice-aggregate-begin begin-requires loop-less loop-again
+    (λ c κs. search needs) same-length-6 same-length-7 same-length-8 same-length-9 same-length-10 returns-3
+    (λ c. omega (arith, pos-of-ne _ (c .if3 .left))) cast-t38 slice-aggregate-judge slice-aggregate-judge-2 (λ c κs. search needs)
+    (λ c κs. search needs) same-length-11 same-length-12 same-length-13 same-length-14 same-length-15 returns-4 loop-less-2 loop-again-2)
