@@ -14,7 +14,7 @@ use Rattle.comparison.specs.declared.Compared.the-variants.{Equal, Diffe
 use Rattle.comparison.proofs.Compared.{the-type}
 use Rattle.comparison.specs.Compare.{Same, equalSaid, saidCompared, compareRowsWith, Compares}
 use Rattle.rows.proofs.Parts.{part-at}
-use Rattle.rows.proofs.Products.{next-row}
+use Rattle.leaves.proofs.Products.{next-row}
 use Rattle.comparison.specs.Inner.{ComparedAt}
 
 -- the words of a slice from a word on

@@ -25,7 +25,7 @@ same-lists x y h =
     ext-getD 0 x y (elim (ℕ-discrete (length x) (length y)) [ yes e ↦ e | no n ↦ absurd (h (λ e. n (ap length e))) ])
     (λ j l. elim (ℕ-discrete (getD x j 0) (getD y j 0)) [ yes e ↦ e | no n ↦ absurd (h (λ e. n (ap (λ (z : List ℕ). getD z j 0) e))) ])
 
-done-unique : {A : Type 0} {D : List ℕ → Type 0} {old : List ℕ} → ((x y : List ℕ) → D x → D y → x ≡ y) → (x y : List ℕ) → Done A (D x) (x ≡ old) → Done A (D y) (y ≡ old) → x ≡ y
+pub done-unique : {A : Type 0} {D : List ℕ → Type 0} {old : List ℕ} → ((x y : List ℕ) → D x → D y → x ≡ y) → (x y : List ℕ) → Done A (D x) (x ≡ old) → Done A (D y) (y ≡ old) → x ≡ y
 done-unique {A} one x y p q = same-lists x y (λ n. let none : A → ⊥ = λ a. n (one x y (p .did a) (q .did a)) in n (p .stays none ∙ sym (q .stays none)))
 
 -- an answer of true or false, with the list that it leaves

@@ -17,7 +17,7 @@ use Rattle.comparison.specs.declared.Compared.the-variants.{Equal, Differs, Ref
 use Rattle.comparison.specs.Compare.{Same, equalSaid, differsSaid, saidCompared, compareRowsWith, CompareOutcome, Compares}
 use Rattle.comparison.proofs.Unique.{equal-one, differs-one, not-none, outcome-unique}
 use Rattle.rows.proofs.Parts.{part-at, part-long}
-use Rattle.rows.proofs.Products.{next-row}
+use Rattle.leaves.proofs.Products.{next-row}
 use Rattle.out.specs.Out.{outWords, written, saidWords}
 use Rattle.out_compare.specs.Compare.{compareRows, CompareDone}
 use Rattle.out_compare.specs.Inner.{lengthRows, ComparePut}

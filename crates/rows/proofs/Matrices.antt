@@ -28,7 +28,7 @@ use Rattle.rows.specs.Rows.{ReadThere, RowIs, RowsAsk}
 use Rattle.rows.specs.Formulas.{matrixAt, Makes, made, Fine, Stored, Masks}
 use Rattle.rows.specs.Promises.{MasksMade, RowsMade, MadeFine}
 use Rattle.rows.proofs.Candidates.{unary-is, binary-is, leaf-is}
-use Rattle.rows.proofs.Products.{place-end}
+use Rattle.leaves.proofs.Products.{place-end}
 
 -- ---- the rows
 

@@ -1,7 +1,7 @@
 // A candidate's matrix (cm.rs): its r rows, over those of its children in a lent slice. The function tests the numbers that it is handed, once for a
 // candidate, and says so where they are out of range; the loops behind it are private.
 mod binary;
-mod leaves;
+mod leaf;
 mod unary;
 
 use operators::Group;
@@ -37,6 +37,6 @@ pub fn rows_of(
     match group {
         Group::Unary => unary::rows_of(r, masks, matrices, code, left, rows),
         Group::Binary => binary::rows_of(r, masks, matrices, code, left, right, rows),
-        Group::Neither => leaves::rows_of(r, m, masks, words, code, left, rows),
+        Group::Neither => leaf::rows_of(r, m, masks, words, code, left, rows),
     }
 }

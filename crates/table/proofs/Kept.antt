@@ -20,7 +20,7 @@ use Rattle.rows.specs.Formulas.{noCandidate, matrixAt, Fine}
 use Rattle.table.specs.Formulas.{HoldsKept, RoomAt}
 use Rattle.table.specs.Promises.{HeldIsStored, KeepGrows}
 use Rattle.rows.proofs.Matrices.{length-map}
-use Rattle.rows.proofs.Products.{place-end}
+use Rattle.leaves.proofs.Products.{place-end}
 
 -- ---- contents at the front
 

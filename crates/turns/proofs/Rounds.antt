@@ -38,7 +38,7 @@ use Rattle.order.proofs.Layers.{column-begins}
 use Rattle.order.proofs.Rest.{step-left, end-left, step-within}
 use Rattle.rows.specs.Formulas.{noCandidate, Masks}
 use Rattle.rows.proofs.Matrices.{length-map, masks-made}
-use Rattle.rows.proofs.Products.{place-end}
+use Rattle.leaves.proofs.Products.{place-end}
 use Rattle.table.specs.Slices.{Cols}
 use Rattle.table.specs.Formulas.{HoldsKept, RoomAt}
 use Rattle.checks.specs.Promises.{RoomThere}

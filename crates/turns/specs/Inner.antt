@@ -17,7 +17,6 @@ use Rattle.counting.specs.declared.Fate.the-variants.{Found, Dropped, Full, Kep
 use Rattle.counting.specs.declared.Counts.{Counts}
 use Rattle.counting.specs.Counting.{countedBy}
 use Rattle.state.specs.declared.State.{State}
-use Rattle.turns.specs.Standing.{noNode}
 
 -- the state by value, before a candidate, and at the end: "After the last, NONE."
 abbrev pub moreState : ℕ → Cursor → Counts → State

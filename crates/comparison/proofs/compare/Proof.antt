@@ -5,7 +5,7 @@ use native.Mathlib.Omega.{arith}
 use borrow.Author.Needs.{needs}
 use Rattle.rules.specs.Limits.{mostSessions}
 use Rattle.comparison.proofs.Differences.{refused-one, refused-three, compared}
-use Rattle.rows.proofs.Products.{at-most}
+use Rattle.leaves.proofs.Products.{at-most}
 use Rattle.comparison.proofs.compare.Statement.{statement}
 use Rattle.comparison.proofs.compare.Tie as tie
 

@@ -3,7 +3,7 @@
 use native.Mathlib.Omega.{arith}
 use borrow.Author.Needs.{needs}
 use Rattle.rules.specs.Limits.{mostSessions, mostRoom}
-use Rattle.rows.proofs.Products.{at-most}
+use Rattle.leaves.proofs.Products.{at-most}
 use Rattle.comparison.proofs.known_at.Statement.{statement}
 use Rattle.comparison.proofs.known_at.Tie as tie
 

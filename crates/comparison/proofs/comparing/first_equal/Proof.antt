@@ -10,7 +10,7 @@ use Rattle.rules.specs.Limits.{mostSessions, mostRoom}
 use Rattle.comparison.specs.Compare.{Same}
 use Rattle.rows.proofs.Parts.{part-long}
 use Rattle.comparison.proofs.Differences.{same-below, unequal}
-use Rattle.rows.proofs.Products.{place-end, next-row, at-most}
+use Rattle.leaves.proofs.Products.{place-end, next-row, at-most}
 use Rattle.comparison.proofs.comparing.first_equal.Statement.{statement}
 use Rattle.comparison.proofs.comparing.first_equal.Tie as tie
 

@@ -5,9 +5,9 @@ use native.Mathlib.Omega.{arith}
 use borrow.Author.Needs.{needs}
 use Rattle.rules.specs.Limits.{mostSessions, mostPropositions}
 use Rattle.rows.proofs.Candidates.{proposition-reads, no-leaf, proposition-told, false-told, true-told}
-use Rattle.rows.proofs.Products.{at-most}
-use Rattle.rows.proofs.leaves.rows_of.Statement.{statement}
-use Rattle.rows.proofs.leaves.rows_of.Tie as tie
+use Rattle.leaves.proofs.Products.{at-most}
+use Rattle.rows.proofs.leaf.rows_of.Statement.{statement}
+use Rattle.rows.proofs.leaf.rows_of.Tie as tie
 
 returns : tie.Need-returns
 returns c = (λ q. omega (arith, proposition-reads (c .before .before .before .before .before .pre .2) (c .before .before .before .before .before .pre .3) (c .before .if1 .taken) q .0), refl)
@@ -35,31 +35,23 @@ returns-3 c = (
   refl,
 )
 
-proposition-rows-requires : tie.Need-proposition-rows-requires
-proposition-rows-requires c κs = (
-  c .before .before .before .before .before .if2 .left,
-  omega (arith, c .before .from-left .ensures),
-  c .before .before .if4 .left,
-  c .before .before .before .before .before .before .before .before .before .before .pre .1,
-)
-
 returns-4 : tie.Need-returns-4
 returns-4 c = proposition-told (c .before .before .before .before .before .before .before .before .before .if1 .taken)
     (c .before .before .before .before .before .before .before .before .if2 .left) (c .before .before .before .before .before .before .if3 .left)
     (c .before .before .before .before .before .if4 .left) (c .before .before .before .before .from-left .ensures)
-    (c .before .before .proposition-rows .ensures)
-
-false-rows-requires : tie.Need-false-rows-requires
-false-rows-requires c κs = c .before .before .before .before .before .before .pre .1
+    (c .before .before .proposition-rows .ensures .did record {
+      sessions-in = omega arith;
+      propositions-in = omega arith;
+      number-in = omega (arith, c .before .before .before .before .from-left .ensures);
+      words-there = omega arith;
+      rows-there = omega arith;
+    })
 
 returns-5 : tie.Need-returns-5
-returns-5 c = false-told (c .before .before .before .before .if5 .taken) (c .before .before .false-rows .ensures)
-
-true-rows-requires : tie.Need-true-rows-requires
-true-rows-requires c κs = (c .before .before .before .before .before .before .before .pre .0, c .before .before .before .before .before .before .before .pre .1)
+returns-5 c = false-told (c .before .before .before .before .if5 .taken) (c .before .before .false-rows .ensures .did (omega arith))
 
 returns-6 : tie.Need-returns-6
-returns-6 c = true-told (c .before .before .before .before .if6 .taken) (c .before .before .true-rows .ensures)
+returns-6 c = true-told (c .before .before .before .before .if6 .taken) (c .before .before .true-rows .ensures .did record { masks-there = omega arith; rows-there = omega arith })
 
 returns-7 : tie.Need-returns-7
 returns-7 c = (
@@ -68,8 +60,20 @@ returns-7 c = (
   refl,
 )
 
+same-length : tie.Need-same-length
+same-length c = c .before .before .proposition-rows .ensures .did (record {
+  sessions-in = omega arith;
+  propositions-in = omega arith;
+  number-in = omega (arith, c .before .before .before .before .from-left .ensures);
+  words-there = omega arith;
+  rows-there = omega arith;
+}) .long
+
+same-length-3 : tie.Need-same-length-3
+same-length-3 c = c .before .before .true-rows .ensures .did (record { masks-there = omega arith; rows-there = omega arith }) .long
+
 pub rows-of-spec : {M : Type 1} → statement M
 rows-of-spec = tie.close (tie.spec
-    returns (λ c. search needs) returns-2 mul-if4 returns-3 (λ c κs. search needs) proposition-rows-requires
-    (λ c. c .before .before .proposition-rows .ensures .long) returns-4 false-rows-requires (λ c. c .before .before .false-rows .ensures .long)
-    returns-5 true-rows-requires (λ c. c .before .before .true-rows .ensures .long) returns-6 returns-7)
+    returns (λ c. search needs) returns-2 mul-if4 returns-3 (λ c κs. search needs) (λ c κs. search needs) same-length returns-4
+    (λ c κs. search needs) (λ c. c .before .before .false-rows .ensures .did (omega arith) .long)
+    returns-5 (λ c κs. search needs) same-length-3 returns-6 returns-7)
