@@ -1,7 +1,6 @@
 -- How private functions speak of the text of a node and of what they wrote. No public contract cites this file, so nothing here has to be
 -- believed.
 -- Assumes nothing.
-use mathlib.Core.Path.{_≡_}
 use mathlib.Core.List.{List, [], _∷_, _++_}
 use Prim.Native.Nat.{ℕ}
 use lib.ListN.{length, take}

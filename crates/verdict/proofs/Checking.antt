@@ -27,7 +27,6 @@ use Rattle.formula.specs.Recorded.{markedTrace, markedTraces}
 use Rattle.formula.specs.Rule.{Broken, brokenList}
 use Rattle.verdict.specs.Check.{saidVerdict, checkRows, Agrees, VerdictSays, CheckAnswer}
 use Rattle.verdict.specs.declared.Verdict.{Verdict}
-use Rattle.formula.specs.Faultless.{Fits}
 use Rattle.verdict.specs.Inner.{traceAt, Ready, Evaluated, AgreesSeq, Checkable, FirstApart, VerdictOn}
 use Rattle.formula.proofs.Faults.{whole-fits}
 use Rattle.formula.proofs.Spelled.{spelled}

@@ -24,7 +24,7 @@ use Rattle.sequence.proofs.Unique.{unary-one, binary-one}
 use Rattle.sequence.proofs.Groups.{unary-below, binary-between}
 use Rattle.formula.specs.Formula.{proposition, constant, Holds}
 use Rattle.formula.specs.Formula.Tree.{leaf, unary, binary}
-use Rattle.formula.specs.Nodes.{Node, nodeAt, Spells, codes}
+use Rattle.formula.specs.Nodes.{Node, nodeAt}
 use Rattle.sequence.proofs.Agreeing.{means-agree, unary-agree, binary-agree}
 use Rattle.formula.specs.Rule.{IsUnary, IsBinary, propositionCode}
 use Rattle.formula.specs.Faultless.{Fits}
