@@ -60,5 +60,8 @@ pub fn wrong(
     if state.at.split == 0 {
         return unary < operator;
     }
-    binary < operator
+    if binary < operator {
+        return true;
+    }
+    false
 }

@@ -63,14 +63,20 @@ returns-10 c =
 
 returns-11 : tie.Need-returns-11
 returns-11 c =
-    let c₂ = c .before .before in
-    let c₄ = c₂ .before .before in
-    let a = c₄ .before .before .before .before .before .before .before .before .before .before .before .args in
-    position-tells (a .m) (a .constants) (a .unary) (a .binary) (others c₄) _ _ (λ h. rw (ne-eqb _ 1 (c₂ .if7 .left), ne-eqb _ 0 (c .if10 .left)) h)
-    (λ h. rw (ne-eqb _ 1 (c₂ .if7 .left), ne-eqb _ 0 (c .if10 .left)) h)
+    let c₁ = c .before in
+    inr (inr (inr (inr (inr (rw (ne-eqb _ 1 (c₁ .before .before .if7 .left), ne-eqb _ 0 (c₁ .if10 .left)) (omega (arith, c .if11 .taken)))))))
+
+returns-12 : tie.Need-returns-12
+returns-12 c =
+    let c₁ = c .before in
+    let c₃ = c₁ .before .before in
+    let c₅ = c₃ .before .before in
+    let a = c₅ .before .before .before .before .before .before .before .before .before .before .before .args in
+    position-passes (a .m) (a .constants) (a .unary) (a .binary) (others c₅)
+    (rw (ne-eqb _ 1 (c₃ .if7 .left), ne-eqb _ 0 (c₁ .if10 .left)) (omega (arith, c .if11 .left)))
 
 pub wrong-spec : {M : Type 1} → statement M
 wrong-spec =
     tie.close
     (tie.spec (λ c. inl (c .if1 .taken)) (λ c. inr (inl (c .if2 .taken))) (λ c. inr (inr (inl (inl (c .if3 .taken))))) (λ c. inr (inr (inl (inr (c .if4 .taken)))))
-    (λ c. inr (inr (inr (inl (c .if5 .taken))))) (λ c. inr (inr (inr (inr (inl (c .if6 .taken)))))) returns-7 returns-8 returns-9 returns-10 returns-11)
+    (λ c. inr (inr (inr (inl (c .if5 .taken))))) (λ c. inr (inr (inr (inr (inl (c .if6 .taken)))))) returns-7 returns-8 returns-9 returns-10 returns-11 returns-12)
