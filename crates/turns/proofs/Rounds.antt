@@ -25,12 +25,10 @@ use Rattle.split.specs.declared.Step.{Step}
 use Rattle.split.specs.declared.Step.the-variants.{Candidate as Told, End}
 use Rattle.split.proofs.Step.{the-type as step-type}
 use Rattle.split.specs.Split.{cand}
-use Rattle.order.specs.Size.{Layer}
-use Rattle.walk.specs.Cut.{start}
+use Rattle.order.specs.Size.{Layer, firstPlace}
 use Rattle.order.specs.Ahead.{ahead, rest, first, cursorAfter}
 use Rattle.starts.specs.Starts.{startsOf}
-use Rattle.order.specs.Steps.{listLong, Steps}
-use Rattle.whole_input.specs.Input.{Within}
+use Rattle.order.specs.Steps.{listLong, Steps, CursorWithin}
 use Rattle.starts.proofs.Counting.{starts-long, starts-rise, starts-within}
 use Rattle.order.proofs.Cursors.{first-within, cursor-same, left-same, rest-same}
 use Rattle.order.proofs.Few.{rest-few}
@@ -69,8 +67,8 @@ pub record SameLengths (t t′ : Cols) : Type 0 where
 -- where a size begins, whatever the table
 pub record Began (starts : List ℕ) (s : ℕ) : Type 0 where
   pub long : length starts ≡ mostSize + 2
-  pub few : (u : ℕ) → start starts u ≤ mostRoom
-  pub rises : (u : ℕ) → u ≤ s → start starts u ≤ start starts s
+  pub few : (u : ℕ) → firstPlace starts u ≤ mostRoom
+  pub rises : (u : ℕ) → u ≤ s → firstPlace starts u ≤ firstPlace starts s
 
 pub began : (sizes : List ℕ) (kept s : ℕ) → kept ≤ mostRoom → s ≤ mostSize → Began (startsOf sizes kept) s
 began sizes kept s h l = record {
@@ -98,12 +96,12 @@ split-one k u a b x y = elim (decLe a b) [
 ]
 
 pub starts-in : {i : Input} {t₀ t : Cols} {k : Table} {starts : List ℕ} {s kept : ℕ} → Standing i t₀ t k starts s kept → s ≤ mostSize
-    → (u : ℕ) → u ≤ s → start starts u ≡ start (startsIn k) u
+    → (u : ℕ) → u ≤ s → firstPlace starts u ≡ firstPlace (startsIn k) u
 starts-in {k = k} {starts} w h u l =
     let z = column-begins noCandidate k (map (λ c. c .node .size) k) (length k) (w .rising)
     (take-all (length k) (map (λ c. c .node .size) k) (omega (arith, length-map (λ c. c .node .size) k))) u (omega arith) in
-    let a = split-one k u (start starts u) (start (startsIn k) u) (w .begins u l) z in
-    let b = split-one k u (start (startsIn k) u) (start starts u) z (w .begins u l) in
+    let a = split-one k u (firstPlace starts u) (firstPlace (startsIn k) u) (w .begins u l) z in
+    let b = split-one k u (firstPlace (startsIn k) u) (firstPlace starts u) z (w .begins u l) in
     omega arith
 
 -- ---- the loop
@@ -121,7 +119,7 @@ pub record Loop (i : Input) (budget : ℕ) (from : value.State) (t t′ : Cols) 
   pub high : s ≤ i .bound
   pub kept-in : n .kept ≤ i .room
   pub kept-tried : n .kept ≤ n .tried
-  pub places : start starts s ≤ n .kept
+  pub places : firstPlace starts s ≤ n .kept
   pub within : (at .left ≤ n .kept) × (at .right ≤ n .kept) × (at .operator ≤ listLong (layerAt i s []) (at .split))
   pub left-in : left ≤ budget
   pub spent : n .tried ≤ from .counts .tried + (budget - left)
@@ -282,10 +280,10 @@ module _ {r m bound room constants : ℕ} {marks lengths words unary binary : Li
       next-began : Began next-starts (s + 1)
       next-began = began (t′ .sizes) (n .kept) (s + 1) (omega (arith, v .kept-in, a .room-in)) (omega (arith, a .bound-in))
 
-      next-first : Within (layerAt i (s + 1) next-starts) (first next-starts (s + 1))
+      next-first : CursorWithin (layerAt i (s + 1) next-starts) (first next-starts (s + 1))
       next-first = first-within (layerAt i (s + 1) next-starts) (next-began .rises)
 
-      next-places : start next-starts (s + 1) ≤ n .kept
+      next-places : firstPlace next-starts (s + 1) ≤ n .kept
       next-places = starts-within (t′ .sizes) (n .kept) (s + 1) (omega (arith, a .bound-in))
 
       begins : {t₀ : Cols} {k : Table} → Standing i t₀ t′ k starts s (n .kept) → Standing i t₀ t′ k next-starts (s + 1) (n .kept)
