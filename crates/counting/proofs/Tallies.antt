@@ -7,7 +7,8 @@ use native.Mathlib.Omega.{arith}
 use lib.ListN.{length-append}
 use Rattle.walk.specs.Walk.{tally}
 use Rattle.counting.specs.declared.Fate.the-variants.{Found, Dropped, Full, Kept}
-use Rattle.counting.specs.Counting.{oneMore, CountsAreWalks}
+use Rattle.counting.specs.Counting.{oneMore}
+use Rattle.counting.specs.Promises.{CountsAreWalks}
 
 pub counts-are-walks : CountsAreWalks
 counts-are-walks Found n x k c f l d =

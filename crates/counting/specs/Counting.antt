@@ -4,7 +4,7 @@ use mathlib.Core.Path.{_≡_}
 use mathlib.Core.List.{List, [], _∷_, _++_}
 use Prim.Native.Nat.{ℕ, _+_, _-_, _^_, _≤_, _<_, min}
 use lib.ListN.{length}
-use Rattle.walk.specs.Walk.{Candidate, found, full, Tally, tally, oneTried, oneDropped, WalkState, going, ended, kept, walkTally}
+use Rattle.walk.specs.Walk.{Candidate, found, full, Tally, tally, oneTried, oneDropped, WalkState, going, ended, kept}
 use Rattle.walk.specs.Kept.{Table}
 use Rattle.counting.specs.declared.Counts.{Counts}
 use Rattle.counting.specs.declared.Fate.{Fate}
@@ -32,8 +32,3 @@ comes Kept x k n = going (k ++ (x ∷ [])) (oneTried n)
 -- the counts as the walk's
 abbrev pub tallyOf : Counts → Tally
 tallyOf n = tally (n .tried) (n .dropped)
-
--- they are the walk's: of a walk that has kept k, where no count has reached the largest number. Proved under its name in proofs/Tallies: counts-are-walks
-abbrev pub CountsAreWalks : Type 0
-CountsAreWalks = (v : Fate) (n : Counts) (x : Candidate (List ℕ)) (k : Table) → n .kept ≡ length k → n .tried + 1 < 2 ^ 64 → n .kept ≤ n .tried → n .dropped ≤ n .tried
-    → (tallyOf (countedBy v n) ≡ walkTally (comes v x k (tallyOf n))) × (countedBy v n .kept ≡ length (kept (comes v x k (tallyOf n))))

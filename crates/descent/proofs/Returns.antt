@@ -6,10 +6,10 @@ use Prim.Native.Nat.{ℕ, suc, _+_, _-_, _≤_, _<_}
 use native.Mathlib.Omega.{arith}
 use lib.ListN.{length, set, drop}
 use lib.Seq.{sets}
-use Rattle.sequence.specs.Operators.{Unary, Binary, unaryCode, binaryCode}
+use Rattle.sequence.specs.Operators.{Binary, binaryCode}
 use Rattle.formula.specs.Formula.{unary, size}
 use Rattle.formula.specs.Nodes.{Node}
-use Rattle.grammar.specs.Token.{Atom, Typed, opens, closes}
+use Rattle.grammar.specs.Token.{opens, closes}
 use Rattle.grammar.specs.Grammar.{level, rightLevel, bracket}
 use Rattle.grammar.specs.Passing.{Peek, op, nothing, cut, peek, IfOp, QuietAt, Stops, Refuses, Continues}
 use Rattle.grammar.specs.Scan.{after}

@@ -12,7 +12,7 @@ use Rattle.rules.specs.Refusals.{Decided}
 use Rattle.rules.proofs.Refusals.{decided-unique, decided-both, decided-not}
 use Rattle.session.specs.Recording.{Recording, recording}
 use Rattle.session.specs.Data.{dataRows}
-use Rattle.reading.specs.Reading.{Got, got, bad}
+use Rattle.reading.specs.Reading.{Got, bad}
 use Rattle.file.specs.declared.ReadAnswer.{ReadAnswer}
 use Rattle.file.specs.declared.ReadAnswer.the-variants.{Broken as FileBroken}
 use Rattle.file.specs.Format.{Parts, Good}
@@ -22,7 +22,7 @@ use Rattle.file.proofs.Numbers.{Bytes}
 use Rattle.formula.specs.Nodes.{Node}
 use Rattle.formula.specs.declared.kinds.Node as declared
 use Rattle.formula.specs.Kinds.{nodeOf}
-use Rattle.formula.specs.Rule.{Broken, brokenList}
+use Rattle.formula.specs.Rule.{brokenList}
 use Rattle.verdict.specs.Check.{checkRows}
 use Rattle.walk.specs.Walk.{found, ended}
 use Rattle.walk.specs.Input.{Input, search}

@@ -16,7 +16,7 @@ use lib.Seq.{take-all, take-append-seam}
 use Rattle.words.specs.Word.{width}
 use Rattle.names.specs.Names.{nameLength, letter, name, isTaken, notTaken, namesUpTo}
 use Rattle.names.specs.Reserved.{reserved}
-use Rattle.reading.specs.Reading.{Got, got, bad, Reader, andThen, eachItem, byte, within, counted, isIn, atEnd}
+use Rattle.reading.specs.Reading.{Got, got, bad, Reader, andThen, eachItem, byte, within, counted, atEnd}
 use Rattle.reading.proofs.Readers.{got-bad}
 use Rattle.sections.specs.Numbers.{filePropositions, fileSessions}
 use Rattle.rules.specs.Limits.{mostSize}

@@ -11,7 +11,7 @@ use Rattle.formula.specs.Formula.{leaf, unary, binary, Leaf, proposition, Formu
 use Rattle.formula.specs.Formula as formula
 use Rattle.text.specs.Text.{space, bracketed, leafText, text}
 use Rattle.grammar.specs.Token.{constant, Typed, Token, pre, mid, atom, opens, closes, NoWordByte, SpelledBy, end, gap, token}
-use Rattle.grammar.specs.Grammar.{Derives, alone, prefix, bracket, between, Reads}
+use Rattle.grammar.specs.Grammar.{Derives, alone, prefix, bracket, between}
 use Rattle.grammar.specs.Naming.{atomOf, typed, GoodLeaf, AllNamed}
 use Rattle.grammar.specs.Promises.{Printed}
 use Rattle.grammar.proofs.Levels.{sides, lower}

@@ -11,7 +11,7 @@ use borrow.Author.Tests.{eq-eqb, eqb-true}
 use lib.ListN.{length, take, drop, take-append-drop}
 use lib.Seq.{take-length}
 use Rattle.grammar.specs.Token.{Typed, Token}
-use Rattle.grammar.specs.Grammar.{Derives, Reads, IsFormula, Starts, Refused11}
+use Rattle.grammar.specs.Grammar.{Reads, IsFormula, Starts, Refused11}
 use Rattle.grammar.specs.Scan.{ready, Scan, good, bad, scanText, goesOn, alive}
 use Rattle.grammar.specs.Promises.{OneDerivation, OneTree, OneOffset, FormulaNotRefused, FormulaOrOffset}
 use Rattle.grammar.specs.Reader.{got, readScan, readText}

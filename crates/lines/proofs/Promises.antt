@@ -4,7 +4,7 @@ use mathlib.Core.Path.{_≡_, refl, sym, ap, _∙_, subst}
 use mathlib.Core.List.{List, _++_}
 use Prim.Native.Nat.{ℕ, _<_, _≤_}
 use lib.ListN.{length, take, getD, replicate, length-replicate}
-use Rattle.rules.specs.Limits.{mostRoom, Outside}
+use Rattle.rules.specs.Limits.{mostRoom}
 use Rattle.reading.specs.Reading.{Got, got, bad}
 use Rattle.file.specs.Format.{Parts, Good, GoodFile, fileBytes}
 use Rattle.file.specs.Offence.{wholeFile}
@@ -20,9 +20,9 @@ use Rattle.walk.proofs.Dropped.{tried-adds-up}
 use Rattle.text.specs.Text.{text}
 use Rattle.search.specs.Table.{Cols, cols}
 use Rattle.checks.proofs.Passing.{passes-whole}
-use Rattle.line.specs.Line.{foundLine, brokenLine, refusedLine}
+use Rattle.line.specs.Line.{foundLine, brokenLine}
 use Rattle.writing.specs.Writing.{newline}
-use Rattle.lines.specs.Bench.{fileInput, EndSays, GoodSays, Says, LinesOf}
+use Rattle.lines.specs.Bench.{fileInput, EndSays, GoodSays, Says}
 use Rattle.lines.specs.Promises.{LineCounts, LinesMeant, LinesShown, LinesMean}
 use Rattle.lines.specs.Promises.LinesMeant.{is-found, is-none, is-full}
 use Rattle.lines.proofs.Shown.{front}

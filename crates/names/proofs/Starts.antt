@@ -18,7 +18,7 @@ use Rattle.names.specs.declared.lookup.Span.{Span}
 use Rattle.names.specs.Lookup.{namesFrom, walkEnd, namesBy, LettersAt, findFrom, foundIn}
 use Rattle.names.proofs.NameLaws.{names-sound}
 use Rattle.names.proofs.Walks.{end-more}
-use Rattle.names.proofs.Lookups.{letters-there, span-order}
+use Rattle.names.proofs.Lookups.{letters-there}
 use Rattle.reading.proofs.Ends.{end-sound}
 
 -- where name p starts: after the count and the names before it
@@ -129,13 +129,6 @@ module _ (file : List ℕ) (g : GoodNames file) where
       let e = walk-start p (omega arith) in
       letters-there file p l ∙ ap (λ (w : ℕ). take (getD file w 0) (drop (w + 1) file)) e
       ∙ ap (λ (n : ℕ). take n (drop (startOf (namesIn file) p + 1) file)) (name-byte p h) ∙ name-bytes p h
-
-  pub letters-long : (p : ℕ) → p < length (namesIn file) → {s : Span} → LettersAt file p s → s .to - s .from ≡ length (getD (namesIn file) p [])
-  letters-long p h {s} l =
-      let o = span-order file p l in
-      let t = length-take (s .to - s .from) (drop (s .from) file) in
-      let d = length-drop (s .from) file in
-      omega (arith, ap length (letters-are-name p h l))
 
   walk-rest : (k p : ℕ) → p + k ≡ length (namesIn file) → namesFrom file k (startOf (namesIn file) p) ≡ drop p (namesIn file)
   unfolding namesFrom

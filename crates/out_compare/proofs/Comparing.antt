@@ -14,7 +14,7 @@ use Rattle.rules.proofs.Refusals.{decided-unique}
 use Rattle.rules.specs.Answers.{Said}
 use Rattle.comparison.specs.declared.Compared.{Compared}
 use Rattle.comparison.specs.declared.Compared.the-variants.{Equal, Differs, Refused}
-use Rattle.comparison.specs.Compare.{Same, equalSaid, differsSaid, saidCompared, compareRowsWith, CompareOutcome, Compares}
+use Rattle.comparison.specs.Compare.{Same, equalSaid, differsSaid, saidCompared, compareRowsWith, Compares}
 use Rattle.comparison.proofs.Unique.{equal-one, differs-one, not-none, outcome-unique}
 use Rattle.rows.proofs.Parts.{part-at, part-long}
 use Rattle.leaves.proofs.Products.{next-row}

@@ -24,7 +24,7 @@ use Rattle.slices.specs.Slices.{freshState, StandsAt}
 use Rattle.slices.specs.Resume.{Called}
 use Rattle.slices.proofs.Slicing.{fresh-stands, call-stands, stands-unique, grown-by-budget, end-repeats}
 use Rattle.out.specs.Out.{written}
-use Rattle.state_words.specs.Words.{stateWords, stateRead, endRead, Narrow}
+use Rattle.state_words.specs.Words.{stateWords, stateRead, endRead}
 use Rattle.state_words.specs.Written.{stateShort, stateOver, StateDone}
 use Rattle.state_words.proofs.Back.{comes-back, state-comes-back}
 use Rattle.out_resume.specs.Resume.{toldWords, outResumeRows, ResumeDone}

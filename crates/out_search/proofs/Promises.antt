@@ -19,7 +19,7 @@ use Rattle.search.specs.Search.{Searched}
 use Rattle.checks.specs.Refusals as core
 use Rattle.search.proofs.Promises.{search-found-smallest, search-none-means-none, search-full-needs-room, search-tried-is-position, search-tried-adds-up}
 use Rattle.out.specs.Out.{longWords, written}
-use Rattle.out_search.specs.Search.{searchWords, outSearchRows, SearchDone}
+use Rattle.out_search.specs.Search.{searchWords, outSearchRows}
 use Rattle.out_search.specs.Promises.{OutSays, SearchMeans}
 
 -- where nothing is refused `out` has its 16 words, and the search refuses nothing

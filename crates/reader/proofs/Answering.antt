@@ -7,16 +7,15 @@ use Prim.Native.Nat.{ℕ, min, _≤_, _<_}
 use native.Mathlib.Omega.{arith}
 use lib.ListN.{length}
 use Rattle.rules.specs.Limits.{mostSize}
-use Rattle.rules.specs.Answers.{Said, over}
+use Rattle.rules.specs.Answers.{Said}
 use Rattle.formula.specs.Formula.{size}
 use Rattle.formula.specs.Nodes.{Node, codes}
 use Rattle.reading.specs.Reading.{got, bad}
 use Rattle.names.specs.Names.{wholeNames, GoodNames, namesIn}
 use Rattle.grammar.specs.Token.{Typed}
-use Rattle.grammar.specs.Grammar.{Reads, Refused11}
+use Rattle.grammar.specs.Grammar.{Reads}
 use Rattle.grammar.specs.Nodes.{nodesOf}
 use Rattle.grammar.proofs.Theorems.{one-tree, formula-not-refused}
-use Rattle.reader.specs.declared.Parsed.{Parsed}
 use Rattle.reader.specs.declared.Parsed.the-variants.{Nodes, Broken, Stops, Unknown, Refused}
 use Rattle.descent.specs.declared.judge.Judged.{Judged}
 use Rattle.descent.specs.declared.judge.Judged.the-variants.{Nodes as Sized, Broken as BrokenNames, Long, Room as NoRoom, Stops as StopsAt, Unknown as UnknownName, Large}

@@ -28,7 +28,7 @@ use Rattle.grammar.specs.Nodes.{nodesOf}
 use Rattle.formula.specs.Kinds.{node}
 use Rattle.reading.proofs.Lists.{true-false}
 use Rattle.grammar.proofs.Words.{WordBytes, LetterFirst, letter-first, letter-word}
-use Rattle.reader.specs.Words.{WordAt, UnknownAt}
+use Rattle.reader.specs.Words.{WordAt}
 use Rattle.descent.specs.Packed.{nameNumber, codesBy}
 use Rattle.descent.specs.Judging.{AllKnown}
 use Rattle.descent.proofs.Lookup.{number-at}

@@ -17,7 +17,6 @@ use Rattle.names.specs.Names.{GoodName, namesUpTo, wholeNames, listed, namesIn}
 use Rattle.reading.specs.Reading.{Got, got, bad}
 use Rattle.reading.proofs.Ends.{each-at, end-sound}
 use Rattle.names.proofs.NameLaws.{names-sound}
-use Rattle.grammar.specs.Token.{Typed, name}
 use Rattle.grammar.specs.Naming.{typed, atomOf}
 use Rattle.grammar.specs.Nodes.{nodesOf}
 use Rattle.grammar.proofs.Theorems.{one-tree, one-offset}
@@ -25,7 +24,7 @@ use Rattle.reader.specs.declared.Parsed.{Parsed}
 use Rattle.reader.specs.declared.Parsed.the-variants.{Nodes, Broken, Stops, Unknown, Refused}
 use Rattle.typed.proofs.Unique.{first-one}
 use Rattle.text.specs.Tokens.{Named}
-use Rattle.reader.specs.Parsing.{saidParsed, ParseRow, Decides, Columns, nodesOver, brokenNames, longText, noFormula, unknownName, largeFormula, shortNodeRoom, parseRows, Taken, Parses}
+use Rattle.reader.specs.Parsing.{saidParsed, ParseRow, Decides, Columns, nodesOver, parseRows, Taken, Parses}
 
 -- ---- one formula for a tree
 

@@ -31,7 +31,7 @@ use Rattle.summary.specs.declared.values.First.the-variants.{Never, Snapshot}
 use Rattle.summary.specs.declared.values.Summary.{Summary}
 use Rattle.summary.specs.Values.{LeastIn, CountIn, Fails, Summed}
 use Rattle.report.specs.Under.{Child, Down, Under}
-use Rattle.report.specs.Lines.{firstText, summaryText, placeLine, rootLine, newline, blank, rootWord, NodeSays, PlaceLine, PlaceLines, SessionLines, SessionsLines}
+use Rattle.report.specs.Lines.{firstText, summaryText, placeLine, rootLine, newline, blank, rootWord, PlaceLines, SessionLines, SessionsLines}
 use Rattle.report.specs.Lines.PlaceLine.{one, none}
 use Rattle.report.specs.Promises.{longestLine, longestOf, longestReport, mostReport, ReportFits}
 use Rattle.report.proofs.Marking.{few-places}

@@ -11,7 +11,7 @@ use native.Mathlib.Omega.{arith}
 use lib.ListN.{length, getD, set, length-set, replicate, getD-replicate, length-replicate}
 use lib.Seq.{getD-set-same, getD-set-other}
 use Rattle.formula.specs.Nodes.{Node, nodeAt}
-use Rattle.formula.specs.Rule.{IsUnary, IsBinary, Broken}
+use Rattle.formula.specs.Rule.{IsUnary, IsBinary}
 use Rattle.formula.specs.Rule.Fault.{unaryPlace, leftPlace, rightPlace}
 use Rattle.formula.specs.Rule.Broken.{tooMany, listed, rooted}
 use Rattle.formula.proofs.Faults.{not-both}

@@ -8,22 +8,19 @@ use native.Mathlib.Nat.{eq-or-lt-of-le}
 use native.Mathlib.Decide.{decLt}
 use native.Mathlib.Omega.{arith}
 use lib.ListN.{length}
-use Rattle.words.specs.Ltlf.{Reading}
-use Rattle.rules.specs.Answers.{Said, over}
+use Rattle.rules.specs.Answers.{over}
 use Rattle.rules.proofs.Refusals.{decided-unique}
 use Rattle.session.specs.Recording.{Recording, lengthOf}
 use Rattle.formula.specs.Formula.{Formula, Holds}
 use Rattle.formula.specs.Nodes.{Node, nodeAt}
 use Rattle.formula.specs.Recorded.{markedTrace}
 use Rattle.formula.proofs.Spelled.{one-formula}
-use Rattle.summary.specs.declared.values.First.{First}
-use Rattle.summary.specs.declared.values.First.the-variants.{Never, Snapshot}
 use Rattle.summary.specs.declared.values.Summary.{Summary}
 use Rattle.report.specs.declared.Reported.{Reported}
 use Rattle.report.specs.declared.Reported.the-variants.{Text, Refused}
-use Rattle.summary.specs.Values.{LeastIn, CountIn, Summed}
+use Rattle.summary.specs.Values.{Summed}
 use Rattle.report.specs.Under.{Under}
-use Rattle.report.specs.Lines.{NodeSays, PlaceLine, PlaceLines, SessionLines, SessionsLines, ReportText, placeLine, rootLine}
+use Rattle.report.specs.Lines.{NodeSays, PlaceLine, PlaceLines, SessionLines, SessionsLines, placeLine, rootLine}
 use Rattle.report.specs.Lines.PlaceLine.{one, none}
 use Rattle.report.specs.Report.{saidReport, Reports}
 use Rattle.report.specs.Promises.{OneReport}

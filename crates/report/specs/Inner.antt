@@ -5,7 +5,6 @@ use mathlib.Core.Logic.{_↔_, _⊎_}
 use mathlib.Core.List.{List}
 use Prim.Native.Nat.{ℕ, _≤_, _<_}
 use lib.ListN.{length, getD}
-use Rattle.words.specs.Ltlf.{Reading}
 use Rattle.rules.specs.Refusals.{Decided}
 use Rattle.writing.specs.Writing.{Wrote}
 use Rattle.session.specs.Recording.{Recording}

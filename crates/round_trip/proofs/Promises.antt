@@ -13,7 +13,7 @@ use Rattle.names.specs.Names.{namesIn, GoodNames}
 use Rattle.names.proofs.Starts.{short-names}
 use Rattle.formula.specs.Formula.{size, Formula}
 use Rattle.formula.specs.Nodes.{Node, nodeAt, Spells, codes}
-use Rattle.formula.specs.Kinds.{node, nodes, countOf}
+use Rattle.formula.specs.Kinds.{node, nodes}
 use Rattle.formula.specs.Rule.{Broken}
 use Rattle.formula.proofs.Listed.{length-nodes, node-at}
 use Rattle.formula.proofs.Spelled.{list-spells}

@@ -13,7 +13,6 @@ use Rattle.sequence.specs.Operators.{Unary, Binary, unaryToken, binaryToken}
 use Rattle.sequence.specs.Operators.Unary.{not, weakNext, strongNext, finally, globally}
 use Rattle.sequence.specs.Operators.Binary.{or, and, until, release, implies, equiv}
 use Rattle.formula.specs.Formula.{leaf, unary, binary, Leaf, proposition, constant, Formula}
-use Rattle.reading.proofs.Lists.{true-false}
 use Rattle.names.specs.Names.{isNameByte}
 use Rattle.names.specs.Reserved.{reserved}
 use Rattle.text.specs.Text.{space, bracketed, leafText, text}

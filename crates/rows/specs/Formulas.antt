@@ -6,7 +6,7 @@ use Prim.Native.Nat.{ℕ, _+_, _*_, _≤_, _<_}
 use lib.ListN.{length, getD}
 use Rattle.words.specs.Word.{WfComputed}
 use Rattle.sequence.specs.Operators.{Unary, Binary, unaryCode, binaryCode}
-use Rattle.formula.specs.Formula.{Leaf, proposition, constant}
+use Rattle.formula.specs.Formula.{Leaf}
 use Rattle.formula.specs.Nodes.{leafCode, leafNumber}
 use Rattle.walk.specs.Walk.{Candidate}
 use Rattle.walk.specs.Input.{Input, row, offer}

@@ -5,7 +5,6 @@ use mathlib.Core.Bool.{Bool}
 use mathlib.Core.List.{List, []}
 use Prim.Native.Nat.{ℕ, _+_, _-_, _*_, _≤_}
 use lib.ListN.{length, take, drop}
-use Rattle.rules.specs.Limits.{mostSessions}
 use Rattle.loops.specs.Loops.{Filled, Told, UnaryRow, BinaryRow}
 use Rattle.rows.specs.Rows.{ReadThere, RowIs}
 

@@ -2,7 +2,6 @@
 -- and the largest length is `width`, of `words`.
 -- Assumes nothing.
 use Prim.Native.Nat.{ℕ}
-use Rattle.rules.specs.Limits.{mostSize}
 
 -- "sessions r 1 to 32"
 abbrev pub fileSessions : ℕ

@@ -18,7 +18,7 @@ use Rattle.rules.specs.Lists.{Each}
 use Rattle.formula.specs.Formula.{leaf, unary, binary, Leaf, proposition, constant, Formula}
 use Rattle.reading.proofs.Lists.{true-false}
 use Rattle.reading.proofs.Ends.{each-at, end-sound}
-use Rattle.names.specs.Names.{isNameByte, isLetter, fitsName, GoodName, namesUpTo, namesIn, GoodNames}
+use Rattle.names.specs.Names.{isNameByte, isLetter, fitsName, GoodName, namesUpTo, namesIn}
 use Rattle.rules.specs.Limits.{mostPropositions}
 use Rattle.names.proofs.NameLaws.{names-sound}
 use Rattle.text.specs.Text.{text, leafText}

@@ -19,7 +19,7 @@ use Rattle.formula.specs.Formula.{leaf, unary, binary, proposition, constant, F
 use Rattle.reading.proofs.Lists.{true-false}
 use Rattle.reading.proofs.Ends.{each-at, end-sound}
 use Rattle.names.specs.Reserved.{reserved}
-use Rattle.names.specs.Names.{GoodName, namesUpTo, namesIn, GoodNames}
+use Rattle.names.specs.Names.{GoodName, namesUpTo, namesIn}
 use Rattle.rules.specs.Limits.{mostPropositions}
 use Rattle.names.proofs.NameLaws.{names-sound}
 use Rattle.text.specs.Text.{leafText}

@@ -33,7 +33,7 @@ use Rattle.starts.proofs.Counting.{starts-long, starts-rise, starts-within}
 use Rattle.order.proofs.Cursors.{first-within, cursor-same, left-same, rest-same}
 use Rattle.order.proofs.Few.{rest-few}
 use Rattle.order.proofs.Layers.{column-begins}
-use Rattle.order.proofs.Rest.{step-left, end-left, step-within}
+use Rattle.order.proofs.Rest.{step-left, step-within}
 use Rattle.rows.specs.Formulas.{noCandidate, Masks}
 use Rattle.rows.proofs.Matrices.{length-map, masks-made}
 use Rattle.leaves.proofs.Products.{place-end}

@@ -15,7 +15,7 @@ use Rattle.words.specs.Word.{width, Wf}
 use Rattle.words.proofs.At.{not-at}
 use Rattle.sequence.specs.declared.CharSeq.{CharSeq}
 use Rattle.sequence.specs.Sequence.{SeqAccepts, Denotes}
-use Rattle.rules.specs.Refusals.{Row, Decided, firstOf}
+use Rattle.rules.specs.Refusals.{Decided, firstOf}
 use Rattle.rules.proofs.Refusals.{Numbered, decided-none, decided-both}
 use Rattle.session.specs.Data.{dataRows}
 use Rattle.rules.specs.Limits.{mostSessions, mostPropositions}

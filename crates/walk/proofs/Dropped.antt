@@ -11,7 +11,7 @@ use native.Mathlib.Decide.{decLt}
 use lib.ListN.{length, getD, take, length-append, List·getD-append}
 use lib.Dec.{leb}
 use Rattle.rules.specs.Lists.{_∈_}
-use Rattle.walk.specs.Walk.{Offer, Candidate, Ending, found, full, none, Tally, tally, oneTried, oneDropped, WalkState, going, ended, kept, dropped, known, judge, layer}
+use Rattle.walk.specs.Walk.{Offer, Candidate, Ending, Tally, tally, oneTried, oneDropped, WalkState, going, ended, kept, dropped, known, judge, layer}
 use Rattle.walk.specs.Walk.{consider, after, finish, walk, trail}
 use Rattle.walk.specs.Input.{Input, offer, search}
 use Rattle.walk.specs.Cut.{Cut, more, over}

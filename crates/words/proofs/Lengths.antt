@@ -6,7 +6,7 @@ use Prim.Native.Nat.{ℕ, _+_, _≤_, _<_}
 use native.Mathlib.Nat.{eq-or-lt-of-le}
 use native.Mathlib.Decide.{decLt}
 use native.Mathlib.Omega.{arith}
-use Rattle.words.specs.Ltlf.{Reading, Or, And, Implies, StrongNext, WeakNext, Finally, Globally, Until, Release}
+use Rattle.words.specs.Ltlf.{Reading, Or, And, StrongNext, WeakNext, Finally, Globally, Until, Release}
 use Rattle.words.specs.Masked.{PlacesOn, WeakNextOn, FinallyOn, GloballyOn, UntilOn, ReleaseOn}
 use Rattle.words.specs.Word.{width, At, WfComputed, places, Means}
 use Rattle.words.specs.Promises.{NextBelow}

@@ -6,7 +6,7 @@ use mathlib.Core.Logic.{_↔_, _⊎_, inl, inr, ⊎-elim}
 use Prim.Native.Nat.{ℕ, _+_, _-_, _/_, _^_, _≤_, _<_}
 use native.Mathlib.Omega.{arith}
 use lib.Bits.{bitAnd, bitOr, bitXor, xor-lt}
-use Rattle.words.specs.Ltlf.{Reading, Not, Or, And, Implies, Equiv, StrongNext, Finally, Globally, Until, Release}
+use Rattle.words.specs.Ltlf.{Reading, Not, Or, And, Implies, Equiv, StrongNext, Finally, Until}
 use Rattle.words.specs.Masked.{PlacesOn, NotOn, FinallyOn, GloballyOn, UntilOn, ReleaseOn}
 use Rattle.words.specs.Word.{width, bit, At, Wf, Means}
 use Rattle.words.proofs.Bits.{bit-lt, bit-first, bit-shr, bit-xor}

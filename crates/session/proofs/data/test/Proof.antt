@@ -40,12 +40,10 @@ clear : (c : tie.Then9) → AllClear
     (c .before .before .before .before .before .before .before .before .before .before .before .before .before .before .args .words .now)
     (c .before .before .before .before .before .before .before .before .before .before .before .before .before .before .args .r)
     (c .before .before .before .before .before .before .before .before .before .before .before .before .before .before .args .m) true
-clear c = subst (AllClear
-    (c .before .before .before .before .before .before .before .before .before .before .before .before .before .before .args .lengths .now)
-    (c .before .before .before .before .before .before .before .before .before .before .before .before .before .before .args .words .now)
-    (c .before .before .before .before .before .before .before .before .before .before .before .before .before .before .args .r)
-    (c .before .before .before .before .before .before .before .before .before .before .before .before .before .before .args .m)) (c .if9 .taken)
-    (c .before .all-clear .ensures)
+clear c =
+    let c₁ = c .before in
+    let c₁₄ = c₁ .before .before .before .before .before .before .before .before .before .before .before .before .before in
+    subst (AllClear (c₁₄ .args .lengths .now) (c₁₄ .args .words .now) (c₁₄ .args .r) (c₁₄ .args .m)) (c .if9 .taken) (c₁ .all-clear .ensures)
 
 returns : tie.Need-returns
 returns c = let a = c .before .before .before .before .args in is-1 (a .r) (a .m) (a .marks .now) (a .lengths .now) (a .words .now) (inl (inl (c .if1 .taken)))
