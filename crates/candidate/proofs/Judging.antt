@@ -1,7 +1,7 @@
 -- One candidate: the table's tests are the walk's, so it comes to what the walk makes of it.
 -- Assumes nothing.
 use mathlib.Core.Path.{_≡_, sym, ap, _∙_, subst}
-use mathlib.Core.Logic.{inl, inr}
+use mathlib.Core.Logic.{_⊎_}
 use mathlib.Core.Bool.{Bool, true, false, true≢false}
 use mathlib.Core.List.{List}
 use Prim.Native.Nat.{ℕ, _≤_, _<_}
@@ -18,22 +18,23 @@ use Rattle.walk.specs.Walk.{Candidate, judge, consider}
 use Rattle.walk.specs.Walk as walk
 use Rattle.walk.specs.Input.{Input, separating, offer}
 use Rattle.walk.specs.Kept.{Table}
-use Rattle.table.specs.declared.Known.{Known}
-use Rattle.table.specs.declared.Known.the-variants.{At, New}
+use Rattle.comparison.specs.declared.Known.{Known}
+use Rattle.comparison.specs.declared.Known.the-variants.{At, New}
 use Rattle.table.specs.Slices.{Cols}
 use Rattle.rows.specs.Rows.{RowsAnswer}
 use Rattle.rows.specs.Formulas.{Fine, Stored}
 use Rattle.rows.proofs.Matrices.{rows-made, made-fine}
-use Rattle.table.proofs.Known.{the-type as known-type}
-use Rattle.table.specs.Compare.{agreeing, KnownAnswer}
+use Rattle.comparison.proofs.Known.{the-type as known-type}
+use Rattle.table.specs.Acceptance.{agreeing}
+use Rattle.comparison.specs.Compare.{KnownAnswer}
 use Rattle.table.specs.Keep.{KeepAnswer}
 use Rattle.table.specs.Formulas.{RoomAt}
-use Rattle.table.specs.Promises.{isAt}
+use Rattle.comparison.specs.Promises.{isAt}
 use Rattle.rows.specs.Formulas as matrices
 use Rattle.table.proofs.Acceptance.{agrees-separating}
-use Rattle.table.proofs.Duplicates.{known-is-known}
+use Rattle.comparison.proofs.Duplicates.{known-is-known}
 use Rattle.table.proofs.Kept.{held-is-stored, keep-grows}
-use Rattle.candidate.specs.declared.Verdict.the-variants.{Found, Dropped, Full, Kept}
+use Rattle.counting.specs.declared.Fate.the-variants.{Found, Dropped, Full, Kept}
 use Rattle.candidate.specs.Judge.{Over, Does}
 use Rattle.candidate.specs.Inner.{NoPlace}
 
@@ -43,31 +44,22 @@ pub record Written (r m : ℕ) (masks words matrices : List ℕ) (code left righ
   pub filled : Bool
   pub answer : RowsAnswer r m masks words matrices code left right old rows filled
 
-pub record Repeats (r : ℕ) (matrices rows : List ℕ) (kept : ℕ) : Type 0 where
-  pub place : Place
-  pub answer : KnownAnswer r matrices rows kept (At place)
-
-pub record Fresh (r : ℕ) (matrices rows : List ℕ) (kept : ℕ) : Type 0 where
-  pub answer : KnownAnswer r matrices rows kept New
-
 pub record Keeps (r : ℕ) (rows : List ℕ) (place : ℕ) (node : nodes.Node) (t t′ : Cols) : Type 0 where
   pub done : Bool
   pub answer : KeepAnswer r rows place node t t′ done
 
 module _ {r : ℕ} {matrices rows : List ℕ} {kept : ℕ} where
-  pub repeats : (known : Known) → tagOf known-type known ≡ 0 → KnownAnswer r matrices rows kept known → Repeats r matrices rows kept
-  repeats (At p) e w = record { place = p; answer = w }
+  pub repeats : (known : Known) → tagOf known-type known ≡ 0 → KnownAnswer r matrices rows kept known → (p : Place) × KnownAnswer r matrices rows kept (At p)
+  repeats (At p) e w = (p, w)
   repeats New e w = absurd (omega (arith, e))
 
-  pub fresh : (known : Known) → tagOf known-type known ≡ 1 → KnownAnswer r matrices rows kept known → Fresh r matrices rows kept
+  pub fresh : (known : Known) → tagOf known-type known ≡ 1 → KnownAnswer r matrices rows kept known → KnownAnswer r matrices rows kept New
   fresh (At p) e w = absurd (omega (arith, e))
-  fresh New e w = record { answer = w }
+  fresh New e w = w
 
--- no place below C: as many are kept
-pub out-of-room : (room count : ℕ) → room ≤ mostRoom → (b : Bool) → b ≡ true → NoPlace room count b → room ≤ count
-out-of-room room count h true e (inl w) = w
-out-of-room room count h true e (inr w) = omega arith
-out-of-room room count h false e w = absurd (true≢false (sym e))
+pub out-of-room : (room count : ℕ) (b : Bool) → b ≡ true → NoPlace room count b → (room ≤ count) ⊎ (mostRoom ≤ count)
+out-of-room room count true e w = w
+out-of-room room count false e w = absurd (true≢false (sym e))
 
 pub in-room : (room count : ℕ) (b : Bool) → b ≡ false → NoPlace room count b → (count < room) × (count < mostRoom)
 in-room room count true e w = absurd (true≢false e)
@@ -111,15 +103,15 @@ module _ {i : Input} {masks old : List ℕ} {node : Node} {count : ℕ} {t₀ t 
         ∙ known-is-known i (o .passes) k (t .matrices) rows stored (omega (arith, o .counted, o .few)) rows-long a
         (subst (λ (z : ℕ). KnownAnswer (i .recording .sessions) (t .matrices) rows z a) (o .counted) v)
 
-    pub does-dropped : Repeats (i .recording .sessions) (t .matrices) rows count → Does i node t₀ t k x Dropped
+    pub does-dropped : ((p : Place) × KnownAnswer (i .recording .sessions) (t .matrices) rows count (At p)) → Does i node t₀ t k x Dropped
     unfolding consider judge
-    does-dropped v = record { is = λ n. rw (separates false e, knows (At (v .place)) (v .answer)); holds = λ n. o .holds }
+    does-dropped v = record { is = λ n. rw (separates false e, knows (At (v .0)) (v .1)); holds = λ n. o .holds }
 
-    module _ (v : Fresh (i .recording .sessions) (t .matrices) rows count) where
+    module _ (v : KnownAnswer (i .recording .sessions) (t .matrices) rows count New) where
       pub does-full : i .room ≤ count → Does i node t₀ t k x Full
       unfolding consider judge
       does-full l = record {
-        is = λ n. rw (separates false e, knows New (v .answer), le-leb (i .room) (length k) (omega (arith, o .counted)));
+        is = λ n. rw (separates false e, knows New v, le-leb (i .room) (length k) (omega (arith, o .counted)));
         holds = λ n. o .holds;
       }
 
@@ -130,6 +122,6 @@ module _ {i : Input} {masks old : List ℕ} {node : Node} {count : ℕ} {t₀ t 
           let a = subst (λ (q : ℕ). KeepAnswer (i .recording .sessions) rows q (nodeOf node) t t′ (z .done)) (o .counted) (z .answer) in
           let b = subst (λ (q : nodes.Node). KeepAnswer (i .recording .sessions) rows (length k) q t t′ (z .done)) (sym (o .posed .node-is)) a in
           record {
-            is = λ n. rw (separates false e, knows New (v .answer), lt-leb (i .room) (length k) (omega (arith, o .counted)));
+            is = λ n. rw (separates false e, knows New v, lt-leb (i .room) (length k) (omega (arith, o .counted)));
             holds = λ n. keep-grows i (o .passes) k t₀ t t′ (o .holds) room rows x rows-long rows-are fine (z .done) b .1;
           }

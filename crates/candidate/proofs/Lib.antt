@@ -1,3 +1,3 @@
 -- The laws behind the proofs, by subject.
 pub mod Judging
-pub mod Tallies
+pub mod Judged

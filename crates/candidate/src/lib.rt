@@ -1,21 +1,11 @@
 // One candidate of the walk over a table in lent slices (aux.rs, cache.rs): its rows, then FOUND, the comparison with what is kept, FULL, kept.
-pub mod counting;
-pub mod counts;
-
+use comparison::Known;
+use counting::Fate;
 use formula::kinds::Node;
 use rules::kinds::Place;
-use table::Known;
 ghost use Rattle.table.specs.Slices.{cols};
 ghost use Rattle.candidate.specs.Judge.{Judged};
 ghost use Rattle.candidate.specs.Inner.{NoPlace};
-
-// What becomes of a candidate.
-pub enum Verdict {
-    Found,
-    Dropped,
-    Full,
-    Kept,
-}
 
 // Whether there is no place for one more: as many are kept as the room has, or as any table may have.
 fn no_place(room: usize, kept: usize) -> bool
@@ -47,8 +37,8 @@ pub fn judge(
     rights: &mut [u16],
     sizes: &mut [u8],
     matrices: &mut [u64],
-) -> Verdict
-    ensures { λ v. ⌜ Judged r m room (now (marks .entry)) (now (words .entry)) (now (masks .entry)) node kept (now (rows .entry))
+) -> Fate
+    ensures { λ v. ⌜ Judged r m room (now (marks .entry)) (now (words .entry)) (now (masks .entry)) node kept (now (rows .entry)) (now (rows .exit))
         (cols (now (codes .entry)) (now (lefts .entry)) (now (rights .entry)) (now (sizes .entry)) (now (matrices .entry)))
         (cols (now (codes .exit)) (now (lefts .exit)) (now (rights .exit)) (now (sizes .exit)) (now (matrices .exit))) v ⌝ }
 {
@@ -64,14 +54,14 @@ pub fn judge(
         rows,
     );
     if table::agrees(r, marks, rows) {
-        return Verdict::Found;
+        return Fate::Found;
     }
-    let known = table::known_at(r, matrices, rows, kept);
+    let known = comparison::known_at(r, matrices, rows, kept);
     let Known::New = known else {
-        return Verdict::Dropped;
+        return Fate::Dropped;
     };
     if no_place(room, kept) {
-        return Verdict::Full;
+        return Fate::Full;
     }
     table::keep(
         r,
@@ -84,5 +74,5 @@ pub fn judge(
         sizes,
         matrices,
     );
-    Verdict::Kept
+    Fate::Kept
 }

@@ -10,10 +10,13 @@ use native.Mathlib.Decide.{decLe}
 use Rattle.rules.specs.Limits.{mostSessions, mostPropositions}
 use Rattle.rules.specs.Refusals.{Row, Decided}
 use Rattle.session.specs.Data.{outsideNumbers, tooShort, tooLong, bitAbove, markWrong, dataRows}
+use Rattle.session.specs.Recording.{recording}
 use Rattle.walk.specs.Input.{Input}
 use Rattle.table.specs.Slices.{Cols}
 use Rattle.checks.specs.Refusals.{settingWrong, noRoom, codeWrong, searchRows}
-use Rattle.checks.specs.Inner.{GoodCodes, BadCodes, SettingsTold, RoomTold}
+use Rattle.settings.specs.Settings.{GoodCodes, BadCodes, SettingsTold}
+use Rattle.settings.proofs.Unique.{settings-right}
+use Rattle.checks.specs.Inner.{RoomTold}
 
 pub le-of-not-lt : {a b : ℕ} → (b < a → ⊥) → a ≤ b
 le-of-not-lt {a} {b} f = elim (decLe a b) [
@@ -84,21 +87,21 @@ zero-none = refl
 
 -- ---- the search's rows
 
-module _ (i : Input) (t : Cols) (k : ℕ) (d : Decided (dataRows (i .recording .sessions) (i .recording .propositions) (i .recording .marks) (i .recording .lengths) (i .recording .words)) k) where
+module _ (i : Input) (t : Cols) (k : ℕ) (d : Decided (dataRows (i .recording)) k) where
   abbrev numbers : Row
   numbers = outsideNumbers (i .recording .sessions) (i .recording .propositions)
 
   abbrev short : Row
-  short = tooShort (i .recording .sessions) (i .recording .propositions) (i .recording .marks) (i .recording .lengths) (i .recording .words)
+  short = tooShort (i .recording)
 
   abbrev long : Row
-  long = tooLong (i .recording .sessions) (i .recording .propositions) (i .recording .marks) (i .recording .lengths) (i .recording .words)
+  long = tooLong (i .recording)
 
   abbrev bits : Row
-  bits = bitAbove (i .recording .sessions) (i .recording .propositions) (i .recording .marks) (i .recording .lengths) (i .recording .words)
+  bits = bitAbove (i .recording)
 
   abbrev marks : Row
-  marks = markWrong (i .recording .sessions) (i .recording .propositions) (i .recording .marks) (i .recording .lengths) (i .recording .words)
+  marks = markWrong (i .recording)
 
   abbrev rest : List Row
   rest = long ∷ bits ∷ marks ∷ []
@@ -148,8 +151,7 @@ module _ (i : Input) (t : Cols) (k : ℕ) (d : Decided (dataRows (i .recording .
 
 module _ (i : Input) where
   pub settings-fine : SettingsTold (i .bound) (i .room) (i .constants) true → settingWrong i .given → ⊥
-  settings-fine w = ⊎-elim (λ x. ⊎-elim (λ y. omega (arith, w .0)) (λ y. omega (arith, w .1)) x)
-      (λ x. ⊎-elim (λ y. ⊎-elim (λ z. omega (arith, w .2)) (λ z. omega (arith, w .3)) y) (λ y. omega (arith, w .4)) x)
+  settings-fine w = settings-right _ _ _ w
 
   pub room-fine : (t : Cols) → RoomTold (i .recording .sessions) (i .room) t true → noRoom i t .given → ⊥
   room-fine t w = ⊎-elim (λ x. omega (arith, w .0)) (λ x. ⊎-elim (λ y. omega (arith, w .1)) (λ y. ⊎-elim (λ z. omega (arith, w .2))
@@ -177,7 +179,7 @@ numbers-in r m f = (
   le-of-not-lt λ h. f (inr (inr h)),
 )
 
-pub not-one-in : (r m : ℕ) (marks lengths words : List ℕ) (k : ℕ) → Decided (dataRows r m marks lengths words) k → (k ≡ 1 → ⊥) → r ≤ mostSessions
+pub not-one-in : (r m : ℕ) (marks lengths words : List ℕ) (k : ℕ) → Decided (dataRows (recording r m marks lengths words)) k → (k ≡ 1 → ⊥) → r ≤ mostSessions
 not-one-in r m marks lengths words k d one = numbers-in r m (later (outsideNumbers r m) _ k d one .0) .1
 
 -- where the whole list decides 0, no row is given

@@ -21,7 +21,7 @@ use Rattle.walk.proofs.Same.{inside}
 use Rattle.table.specs.Slices.{Cols}
 use Rattle.checks.specs.Refusals.{settingWrong, noRoom, codeWrong, searchRows}
 use Rattle.checks.specs.Promises.{RoomThere, PassesWhole, DataThere, DecidedSame}
-use Rattle.checks.specs.Inner.{GoodCodes}
+use Rattle.settings.specs.Settings.{GoodCodes}
 use Rattle.checks.proofs.Codes.{unary-or, binary-or, at-position, good-once}
 use Rattle.checks.proofs.Decide.{NoneOf, none-given, numbers-in, le-of-not-lt, settings-fine, room-fine, codes-fine}
 
@@ -168,12 +168,12 @@ module _ (i j : Input) (s : AgreeWhereRead i j) (t : Cols) where
   room-too : noRoom i t .given → noRoom j t .given
   room-too g = rw (s .room, s .sessions) at g
 
-  long-too : tooLong (i .recording .sessions) (i .recording .propositions) (i .recording .marks) (i .recording .lengths) (i .recording .words) .given
-      → tooLong (j .recording .sessions) (j .recording .propositions) (j .recording .marks) (j .recording .lengths) (j .recording .words) .given
+  long-too : tooLong (i .recording) .given
+      → tooLong (j .recording) .given
   long-too (p, h, l) = (p, omega (arith, s .sessions), omega (arith, s .lengths p h))
 
-  bits-too : bitAbove (i .recording .sessions) (i .recording .propositions) (i .recording .marks) (i .recording .lengths) (i .recording .words) .given
-      → bitAbove (j .recording .sessions) (j .recording .propositions) (j .recording .marks) (j .recording .lengths) (j .recording .words) .given
+  bits-too : bitAbove (i .recording) .given
+      → bitAbove (j .recording) .given
   bits-too (q, h, p, l, b, m, w) = (
     q,
     omega (arith, s .sessions),
@@ -186,8 +186,8 @@ module _ (i j : Input) (s : AgreeWhereRead i j) (t : Cols) where
         ∙ ap (λ (x : ℕ). getD (j .recording .words) (q * x + p) 0) (s .propositions)) w,
   )
 
-  marks-too : markWrong (i .recording .sessions) (i .recording .propositions) (i .recording .marks) (i .recording .lengths) (i .recording .words) .given
-      → markWrong (j .recording .sessions) (j .recording .propositions) (j .recording .marks) (j .recording .lengths) (j .recording .words) .given
+  marks-too : markWrong (i .recording) .given
+      → markWrong (j .recording) .given
   marks-too (p, h, l) = (p, omega (arith, s .sessions), omega (arith, s .marks p h))
 
   codes-too : codeWrong i .given → codeWrong j .given
@@ -207,7 +207,7 @@ agree-sym i j s = record {
   words = λ p h. sym (s .words p (rw (s .sessions, s .propositions) h));
 }
 
-long-enough : (i : Input) → DataThere i → tooShort (i .recording .sessions) (i .recording .propositions) (i .recording .marks) (i .recording .lengths) (i .recording .words) .given → ⊥
+long-enough : (i : Input) → DataThere i → tooShort (i .recording) .given → ⊥
 long-enough i d = ⊎-elim (λ h. omega (arith, d .marks)) (⊎-elim (λ h. omega (arith, d .lengths)) (λ h. omega (arith, d .words)))
 
 pub decided-same : DecidedSame

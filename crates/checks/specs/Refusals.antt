@@ -1,6 +1,5 @@
 -- When a search refuses: the rows of document 01's table, in the order of its checks.
 -- Assumes nothing.
-use mathlib.Core.Path.{_≡_}
 use mathlib.Core.Logic.{_⊎_}
 use mathlib.Core.List.{List, [], _∷_, _++_}
 use Prim.Native.Nat.{ℕ, _*_, _<_}
@@ -9,12 +8,9 @@ use Rattle.rules.specs.Limits.{mostSize, mostRoom, Outside}
 use Rattle.rules.specs.Refusals.{Row}
 use Rattle.sequence.specs.Sequence.{notUnary, notBinary}
 use Rattle.session.specs.Data.{outsideNumbers, tooShort, tooLong, bitAbove, markWrong}
+use Rattle.settings.specs.Settings.{Repeated}
 use Rattle.walk.specs.Input.{Input}
 use Rattle.table.specs.Slices.{Cols}
-
--- a code stands at two positions
-abbrev pub Repeated : List ℕ → Type 0
-Repeated codes = (p : ℕ) × (q : ℕ) × (p < q) × (q < length codes) × (getD codes p 0 ≡ getD codes q 0)
 
 module _ (i : Input) where
   -- "2: B, C or the constants mark (0 or 1) wrong"
@@ -49,11 +45,11 @@ module _ (i : Input) where
       outsideNumbers (i .recording .sessions) (i .recording .propositions)
       ∷ settingWrong
       ∷ (own
-      ++ (tooShort (i .recording .sessions) (i .recording .propositions) (i .recording .marks) (i .recording .lengths) (i .recording .words)
+      ++ (tooShort (i .recording)
       ∷ noRoom t
-      ∷ tooLong (i .recording .sessions) (i .recording .propositions) (i .recording .marks) (i .recording .lengths) (i .recording .words)
-      ∷ bitAbove (i .recording .sessions) (i .recording .propositions) (i .recording .marks) (i .recording .lengths) (i .recording .words)
-      ∷ markWrong (i .recording .sessions) (i .recording .propositions) (i .recording .marks) (i .recording .lengths) (i .recording .words)
+      ∷ tooLong (i .recording)
+      ∷ bitAbove (i .recording)
+      ∷ markWrong (i .recording)
       ∷ codeWrong
       ∷ []))
 

@@ -1,80 +1,11 @@
 // What a search refuses: the tests of session data, with its own numbers, rooms and codes among them.
-use operators::Group;
-use operators::operator_of;
 ghost use Prim.Native.Nat.{_≤_};
-ghost use lib.ListN.{length};
 ghost use Rattle.rules.specs.Limits.{mostSessions, mostRoom};
 ghost use Rattle.rules.specs.Refusals.{Decided};
 ghost use Rattle.table.specs.Slices.{cols};
 ghost use Rattle.checks.specs.Refusals.{searchRows};
 ghost use Rattle.walk.specs.Input.{inputOf};
-ghost use Rattle.checks.specs.Inner.{Told, GroupIs, SeenIn, CodesTold, SettingsTold, RoomTold};
-
-fn in_group(code: u8, unary: bool) -> bool
-    ensures { λ b. ⌜ Told (GroupIs unary code) b ⌝ }
-{
-    let group = operator_of(code).group;
-    match group {
-        Group::Unary => unary,
-        Group::Binary => !unary,
-        Group::Neither => false,
-    }
-}
-
-// Whether the code stands at one of the first n positions.
-fn seen(codes: &[u8], n: usize, code: u8) -> bool
-    requires { ⌜ n ≤ length (now codes) ⌝ }
-    ensures { λ b. ⌜ Told (SeenIn (now (codes .entry)) n code) b ⌝ }
-{
-    let mut i: usize = 0;
-    while i < n {
-        if codes[i] == code {
-            return true;
-        }
-        i += 1;
-    }
-    false
-}
-
-// Whether each code is in its group, and none is repeated.
-fn codes_good(codes: &[u8], unary: bool) -> bool
-    ensures { λ b. ⌜ CodesTold unary (now (codes .entry)) b ⌝ }
-{
-    let mut i: usize = 0;
-    while i < codes.len() {
-        let code = codes[i];
-        if in_group(code, unary) {
-            if seen(codes, i, code) {
-                return false;
-            }
-            i += 1;
-        } else {
-            return false;
-        }
-    }
-    true
-}
-
-fn settings_good(bound: usize, room: usize, constants: u8) -> bool
-    ensures { λ b. ⌜ SettingsTold bound room constants b ⌝ }
-{
-    if bound < 1 {
-        return false;
-    }
-    if rules::BOUND < bound {
-        return false;
-    }
-    if room < 1 {
-        return false;
-    }
-    if rules::ROOM < room {
-        return false;
-    }
-    if 1 < constants {
-        return false;
-    }
-    true
-}
+ghost use Rattle.checks.specs.Inner.{RoomTold};
 
 // Whether there is room for C nodes and C x r words.
 fn has_room(
@@ -134,7 +65,7 @@ pub fn refusal(
     if data == 1 {
         return 1;
     }
-    if !settings_good(bound, room, constants) {
+    if !settings::settings_good(bound, room, constants) {
         return 2;
     }
     if data == 3 {
@@ -146,10 +77,10 @@ pub fn refusal(
     if data != 0 {
         return data;
     }
-    if !codes_good(unary, true) {
+    if !settings::codes_good(unary, true) {
         return 7;
     }
-    if !codes_good(binary, false) {
+    if !settings::codes_good(binary, false) {
         return 7;
     }
     0

@@ -7,7 +7,7 @@ use native.Mathlib.Omega.{arith}
 use native.Mathlib.Decide.{decLt, ℕ-discrete}
 use lib.ListN.{length, drop, getD}
 use Rattle.grammar.specs.Grammar.{level}
-use Rattle.grammar.specs.Scan.{kind, after, dead, step, finish}
+use Rattle.grammar.specs.Scan.{kind, after, dead, scanStep, scanEnd}
 use Rattle.grammar.specs.Passing.{Peek, op, nothing, cut, peek, IfOp, QuietAt, Stops}
 use Rattle.grammar.proofs.Peeks.{Halts}
 use Rattle.grammar.proofs.Passage as passage
@@ -16,15 +16,15 @@ use Rattle.tokens.specs.declared.operator.Op.the-variants.{Is, Nothing, Cut}
 use Rattle.tokens.specs.Next.{PeekSaid, Operator}
 use Rattle.tokens.proofs.Operators.{inside, head}
 use Rattle.descent.specs.declared.closing.End.the-variants.{At, Bad as NoEnd}
-use Rattle.descent.specs.Answers.{Closing, Ending}
+use Rattle.descent.specs.Answers.{Closing, EndsAt}
 
 module _ (text : List ℕ) where
   -- where no operator begins, outside brackets nothing goes on, and inside only a closing bracket
-  halted : (i : ℕ) → i < length text → Halts (drop i text) → (getD text i 0 ≡ 41 → ⊥) → (d : ℕ) → step (after d) (getD text i 0) ≡ dead
+  halted : (i : ℕ) → i < length text → Halts (drop i text) → (getD text i 0 ≡ 41 → ⊥) → (d : ℕ) → scanStep (after d) (getD text i 0) ≡ dead
   halted i g x = rw (head text g refl) at x
 
-  outside : (i : ℕ) → i < length text → Halts (drop i text) → step (after 0) (getD text i 0) ≡ dead
-  unfolding step kind
+  outside : (i : ℕ) → i < length text → Halts (drop i text) → scanStep (after 0) (getD text i 0) ≡ dead
+  unfolding scanStep kind
   outside i g x = elim (ℕ-discrete (getD text i 0) 41) [ yes e ↦ rw e | no n ↦ halted i g x n 0 ]
 
   -- ---- closing
@@ -39,7 +39,7 @@ module _ (text : List ℕ) where
         by-peek (cut m) q s = absurd s
 
     pub closed : {a : Op} {i : ℕ} → a ≡ Nothing i → Operator text at a → getD text i 0 ≡ 41 → Closing text at (At (i + 1))
-    unfolding step kind
+    unfolding scanStep kind
     closed {i = i} e f g q d =
         let t = there e f in
         let s : (at + t .0) + 1 ≡ i + 1 = omega (arith, t .2) in
@@ -47,7 +47,7 @@ module _ (text : List ℕ) where
         rw (← s) (passage.pass-then text (passage.pass-nothing text at h (t .1) (suc d)) (passage.pass-byte text (inside text (at + t .0) 40 v) (rw v)))
 
     pub not-closed : {a : Op} {i : ℕ} → a ≡ Nothing i → Operator text at a → (getD text i 0 ≡ 41 → ⊥) → Closing text at (NoEnd i)
-    unfolding finish
+    unfolding scanEnd
     not-closed {i = i} e f n q d =
         let t = there e f in
         let p = passage.pass-nothing text at h (t .1) (suc d) in
@@ -84,10 +84,10 @@ module _ (text : List ℕ) where
 
     -- ---- ending
 
-    pub ended : {a : Op} {i : ℕ} → a ≡ Nothing i → Operator text at a → i ≡ length text → Ending text at (At i)
+    pub ended : {a : Op} {i : ℕ} → a ≡ Nothing i → Operator text at a → i ≡ length text → EndsAt text at (At i)
     ended e f n = (n, λ q. let t = there e f in let m : at + t .0 ≡ length text = sym (t .2) ∙ n in rw m at (passage.pass-nothing text at h (t .1) 0))
 
-    pub not-ended : {a : Op} {i : ℕ} → a ≡ Nothing i → Operator text at a → (i ≡ length text → ⊥) → Ending text at (NoEnd i)
+    pub not-ended : {a : Op} {i : ℕ} → a ≡ Nothing i → Operator text at a → (i ≡ length text → ⊥) → EndsAt text at (NoEnd i)
     not-ended {i = i} e f n q =
         let t = there e f in
         let p = passage.pass-nothing text at h (t .1) 0 in
@@ -96,8 +96,8 @@ module _ (text : List ℕ) where
         let g : at + t .0 < length text = elim (decLt (at + t .0) (length text)) [ yes g ↦ g | no g ↦ absurd (m (omega arith)) ] in
         rw (t .2) (passage.pass-stop text p (passage.stop-byte text g (outside (at + t .0) g (passage.halts text at h (t .1)))))
 
-    pub ending-op : {a : Op} {l r next c : ℕ} → a ≡ Is l r next c → Operator text at a → Ending text at (NoEnd next)
+    pub ending-op : {a : Op} {l r next c : ℕ} → a ≡ Is l r next c → Operator text at a → EndsAt text at (NoEnd next)
     ending-op e f q = absurd (no-op e f q)
 
-    pub ending-cut : {a : Op} {k : ℕ} → a ≡ Cut k → Operator text at a → Ending text at (NoEnd k)
+    pub ending-cut : {a : Op} {k : ℕ} → a ≡ Cut k → Operator text at a → EndsAt text at (NoEnd k)
     ending-cut e f q = absurd (no-cut e f q)

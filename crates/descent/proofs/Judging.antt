@@ -17,14 +17,14 @@ use Rattle.rules.specs.Answers.{Said}
 use Rattle.reading.specs.Reading.{got, bad}
 use Rattle.reading.specs.Reading as reading
 use Rattle.names.specs.Lookup.{namesBy}
-use Rattle.names.specs.Judged.{saidNames, namesSaid, namesOf as saidOf}
+use Rattle.names.specs.Judged.{saidNames, namesSaid, saidOfNames as saidOf}
 use Rattle.names.specs.declared.NamesAnswer.{NamesAnswer}
 use Rattle.names.specs.declared.NamesAnswer.the-variants.{Names, Broken as NamesBroken}
 use Rattle.names.proofs.Starts.{names-by}
-use Rattle.descent.specs.declared.judge.Judged.the-variants.{Nodes as Sized, Long, Stops as StopsAt, Unknown as UnknownName, Large}
+use Rattle.descent.specs.declared.judge.Judged.the-variants.{Nodes as Sized, Stops as StopsAt, Unknown as UnknownName, Large}
 use Rattle.descent.specs.Words.{mostBytes}
 use Rattle.names.specs.Names.{GoodNames, namesIn, wholeNames, listed}
-use Rattle.descent.specs.Answers.{Whole}
+use Rattle.descent.specs.Answers.{WholeText}
 use Rattle.descent.specs.Judging.{JudgedIs}
 
 module _ (file text old new : List ℕ) (h : length text ≤ mostBytes) (g : GoodNames file) where
@@ -32,29 +32,29 @@ module _ (file text old new : List ℕ) (h : length text ≤ mostBytes) (g : Goo
   by-names : (u : Missing) → MissingIs (namesBy file) text u → MissingIs (namesIn file) text u
   by-names u s = subst (λ (ns : List (List ℕ)). MissingIs ns text u) (names-by file g) s
 
-  pub judged-stops : {r : Got} {k : ℕ} → r ≡ Bad k → Whole file old new text r → JudgedIs file text old new (StopsAt k)
-  judged-stops e w = (h, subst (Whole file old new text) e w, g)
+  pub judged-stops : {r : Got} {k : ℕ} → r ≡ Bad k → WholeText file old new text r → JudgedIs file text old new (StopsAt k)
+  judged-stops e w = (h, subst (WholeText file old new text) e w, g)
 
-  module _ {r : Got} {next m : ℕ} (e : r ≡ Val next m) (w : Whole file old new text r) where
+  module _ {r : Got} {next m : ℕ} (e : r ≡ Val next m) (w : WholeText file old new text r) where
     pub judged-unknown : {u : Missing} {k : ℕ} → u ≡ At k → MissingIs (namesBy file) text u → JudgedIs file text old new (UnknownName k)
     judged-unknown {u} f s =
-        let x = subst (Whole file old new text) e w in
+        let x = subst (WholeText file old new text) e w in
         (h, x .1, x .2, subst (MissingIs (namesIn file) text) f (by-names u s), g)
 
     module _ {u : Missing} (f : u ≡ Nothing) (s : MissingIs (namesBy file) text u) where
       pub judged-size : mostSize < m → JudgedIs file text old new Large
       judged-size l =
-          let x = subst (Whole file old new text) e w in
+          let x = subst (WholeText file old new text) e w in
           (h, x .1, x .2, subst (MissingIs (namesIn file) text) f (by-names u s), inl (omega (arith, x .3)), g)
 
       pub judged-deep : {b : Bool} → b ≡ true → DeepIs text b → JudgedIs file text old new Large
       judged-deep t d =
-          let x = subst (Whole file old new text) e w in
+          let x = subst (WholeText file old new text) e w in
           (h, x .1, x .2, subst (MissingIs (namesIn file) text) f (by-names u s), inr (subst (DeepIs text) t d), g)
 
       pub judged-nodes : {b : Bool} → m ≤ mostSize → b ≡ false → DeepIs text b → JudgedIs file text old new (Sized m)
       judged-nodes l t d =
-          let x = subst (Whole file old new text) e w in
+          let x = subst (WholeText file old new text) e w in
           (h, x .1, x .2, subst (MissingIs (namesIn file) text) f (by-names u s), omega (arith, x .3), subst (DeepIs text) t d, x .3, x .4, g)
 
 -- ---- the names

@@ -6,40 +6,42 @@ use Prim.Native.Nat.{ℕ, suc, _+_, _-_, _≤_, _<_}
 use native.Mathlib.Omega.{arith}
 use lib.ListN.{length, set, drop}
 use lib.Seq.{sets}
-use Rattle.sequence.specs.Operators.{Unary, Binary, unaryCode, binaryCode}
+use Rattle.sequence.specs.Operators.{Binary, binaryCode}
 use Rattle.formula.specs.Formula.{unary, size}
 use Rattle.formula.specs.Nodes.{Node}
-use Rattle.grammar.specs.Token.{Atom, Typed, opens, closes}
+use Rattle.grammar.specs.Token.{opens, closes}
 use Rattle.grammar.specs.Grammar.{level, rightLevel, bracket}
 use Rattle.grammar.specs.Passing.{Peek, op, nothing, cut, peek, IfOp, QuietAt, Stops, Refuses, Continues}
 use Rattle.grammar.specs.Scan.{after}
-use Rattle.grammar.specs.Nodes.{node, nodesOf}
+use Rattle.grammar.specs.Nodes.{nodesOf}
+use Rattle.formula.specs.Kinds.{node}
 use Rattle.grammar.proofs.Levels.{sides}
 use Rattle.grammar.proofs.Peeks.{some}
 use Rattle.grammar.proofs.Passage as passage
 use Rattle.tokens.specs.declared.operator.Op.{Op}
 use Rattle.tokens.specs.declared.operator.Op.the-variants.{Is, Nothing, Cut}
-use Rattle.tokens.specs.declared.front.First.{First}
-use Rattle.tokens.specs.declared.front.First.the-variants.{Operator as PrefixOperator, Open, Word as LeafWord, Bad as NoOperand}
+use Rattle.operand.specs.declared.Awaited.{Awaited}
+use Rattle.operand.specs.declared.Awaited.the-variants.{Operator as PrefixOperator, Open, Word as LeafWord, Bad as NoOperand}
 use Rattle.descent.specs.declared.Got.{Got}
 use Rattle.descent.specs.declared.Got.the-variants.{Val, Bad}
 use Rattle.descent.specs.declared.closing.End.{End}
 use Rattle.descent.specs.declared.closing.End.the-variants.{At, Bad as NoEnd}
 use Rattle.names.specs.Names.{namesIn, GoodNames}
-use Rattle.tokens.specs.Next.{PeekSaid, Operator, Fronts}
+use Rattle.tokens.specs.Next.{PeekSaid, Operator}
+use Rattle.operand.specs.Front.{Fronts}
 use Rattle.descent.specs.Packed.{codesBy, pack, packs, mostField}
 use Rattle.descent.specs.Inner.{LeafFields}
-use Rattle.descent.specs.Answers.{Closing, Infix, More, Prefix, Bracket, Ending, Fits, Whole}
+use Rattle.descent.specs.Answers.{Closing, Infix, More, Prefix, Bracket, EndsAt, NoLarger, WholeText}
 use Rattle.descent.proofs.Lookup.{field-small}
 use Rattle.descent.proofs.Scratch.{nodes-length, written-length, written-then, written-leaf, written-unary, written-more}
 
 module _ (file text : List ℕ) (place : ℕ) (old mid : List ℕ) where
   -- ---- an answer that is known: how far it went, and the scratch is as long as it was
 
-  pub infix-val : (n at : ℕ) {r : Got} {next m : ℕ} → r ≡ Val next m → Infix file place old mid text n at r → Fits text at next m × (length mid ≡ length old)
+  pub infix-val : (n at : ℕ) {r : Got} {next m : ℕ} → r ≡ Val next m → Infix file place old mid text n at r → NoLarger text at next m × (length mid ≡ length old)
   infix-val n at e f = let x = subst (Infix file place old mid text n at) e f in (x .0, written-length old place (nodesOf (codesBy (namesIn file)) place (x .1)) (x .5))
 
-  pub prefix-val : (at : ℕ) {r : Got} {next m : ℕ} → r ≡ Val next m → Prefix file place old mid text at r → Fits text at next m × (length mid ≡ length old)
+  pub prefix-val : (at : ℕ) {r : Got} {next m : ℕ} → r ≡ Val next m → Prefix file place old mid text at r → NoLarger text at next m × (length mid ≡ length old)
   prefix-val at e f = let x = subst (Prefix file place old mid text at) e f in (x .0, written-length old place (nodesOf (codesBy (namesIn file)) place (x .1)) (x .4))
 
   -- ---- read_bracket
@@ -164,16 +166,16 @@ module _ (file text : List ℕ) (place at : ℕ) (h : at ≤ length text) where
 -- ---- read_prefix
 
 module _ (file text : List ℕ) (place : ℕ) (old mid : List ℕ) (at : ℕ) where
-  pub operator-next : {f : First} {next c : ℕ} → f ≡ PrefixOperator next c → Fronts text at f → (at < next) × (next ≤ length text)
+  pub operator-next : {f : Awaited} {next c : ℕ} → f ≡ PrefixOperator next c → Fronts text at f → (at < next) × (next ≤ length text)
   operator-next e g = let x = subst (Fronts text at) e g in (x .0, x .2 0 .within)
 
-  pub open-next : {f : First} {next : ℕ} → f ≡ Open next → Fronts text at f → (at < next) × (next ≤ length text)
+  pub open-next : {f : Awaited} {next : ℕ} → f ≡ Open next → Fronts text at f → (at < next) × (next ≤ length text)
   open-next e g = let x = subst (Fronts text at) e g in (x .0, x .1 0 .within)
 
-  pub word-next : {f : First} {next start : ℕ} → f ≡ LeafWord next start → Fronts text at f → (at < next) × (start < next) × (next ≤ length text)
+  pub word-next : {f : Awaited} {next start : ℕ} → f ≡ LeafWord next start → Fronts text at f → (at < next) × (start < next) × (next ≤ length text)
   word-next e g = let x = subst (Fronts text at) e g in (x .0, x .3 .some, x .3 .within)
 
-  pub prefix-operator : (new : List ℕ) {f : First} {next c end m : ℕ} {r : Got} → f ≡ PrefixOperator next c → Fronts text at f → r ≡ Val end m → Prefix file place old mid text next r
+  pub prefix-operator : (new : List ℕ) {f : Awaited} {next c end m : ℕ} {r : Got} → f ≡ PrefixOperator next c → Fronts text at f → r ≡ Val end m → Prefix file place old mid text next r
       → new ≡ set mid (place + m) (pack (node c (place + m - 1) 0 (1 + m))) → Prefix file place old new text at (Val end (1 + m))
   prefix-operator new {next = next} {c} e g q p wrote =
       let x = subst (Fronts text at) e g in
@@ -185,14 +187,14 @@ module _ (file text : List ℕ) (place : ℕ) (old mid : List ℕ) (at : ℕ) wh
         written-unary file text place old mid (x .1) (y .1) (x .3) (y .3) (y .4) wrote,
       )
 
-  pub prefix-operator-refused : {f : First} {next c k : ℕ} {r : Got} → f ≡ PrefixOperator next c → Fronts text at f → r ≡ Bad k → Prefix file place old mid text next r
+  pub prefix-operator-refused : {f : Awaited} {next c k : ℕ} {r : Got} → f ≡ PrefixOperator next c → Fronts text at f → r ≡ Bad k → Prefix file place old mid text next r
       → Prefix file place old mid text at r
   prefix-operator-refused {next = next} {k = k} e g q p =
       let x = subst (Fronts text at) e g in
       let y : Refuses text next k = subst (Prefix file place old mid text next) q p in
       subst (Prefix file place old mid text at) (sym q) (λ d. passage.pass-stop text (x .2 d) (y d))
 
-  pub prefix-bracket : {f : First} {next : ℕ} (r : Got) → f ≡ Open next → Fronts text at f → Bracket file place old mid text next r → Prefix file place old mid text at r
+  pub prefix-bracket : {f : Awaited} {next : ℕ} (r : Got) → f ≡ Open next → Fronts text at f → Bracket file place old mid text next r → Prefix file place old mid text at r
   prefix-bracket (Val end m) e g b =
       let x = subst (Fronts text at) e g in (
         (b .0 .0, omega (arith, x .0, b .0 .1), b .0 .2),
@@ -203,35 +205,35 @@ module _ (file text : List ℕ) (place : ℕ) (old mid : List ℕ) (at : ℕ) wh
       )
   prefix-bracket (Bad k) e g b = let x = subst (Fronts text at) e g in λ d. passage.pass-stop text (x .1 d) (b d)
 
-  pub prefix-leaf : {f : First} {next start code left : ℕ} → f ≡ LeafWord next start → Fronts text at f → LeafFields file text start (next - start) code left
+  pub prefix-leaf : {f : Awaited} {next start code left : ℕ} → f ≡ LeafWord next start → Fronts text at f → LeafFields file text start (next - start) code left
       → mid ≡ set old place (pack (node code left 0 1)) → Prefix file place old mid text at (Val next 1)
   prefix-leaf e g l wrote =
       let x = subst (Fronts text at) e g in
       ((omega arith, omega (arith, x .0), x .3 .within), _, passage.is-leaf text (x .1) (x .2), refl, written-leaf file text place old (x .1) (l (x .1) (x .3 .leaf)) wrote)
 
   -- a name's number packs
-  pub leaf-small : GoodNames file → {f : First} {next start code left : ℕ} → f ≡ LeafWord next start → Fronts text at f → LeafFields file text start (next - start) code left → left < mostField
+  pub leaf-small : GoodNames file → {f : Awaited} {next start code left : ℕ} → f ≡ LeafWord next start → Fronts text at f → LeafFields file text start (next - start) code left → left < mostField
   leaf-small n e g l = let x = subst (Fronts text at) e g in let m = field-small file n (x .1) in let q = l (x .1) (x .3 .leaf) in omega (arith, q .1)
 
-  pub prefix-refused : {f : First} {k : ℕ} → f ≡ NoOperand k → Fronts text at f → Prefix file place old mid text at (Bad k)
+  pub prefix-refused : {f : Awaited} {k : ℕ} → f ≡ NoOperand k → Fronts text at f → Prefix file place old mid text at (Bad k)
   prefix-refused e g = subst (Fronts text at) e g
 
 -- ---- read_text
 
 module _ (file text old new : List ℕ) where
-  pub whole-refused : {r : Got} {k : ℕ} → r ≡ Bad k → Infix file 0 old new text 0 0 r → Whole file old new text r
+  pub whole-refused : {r : Got} {k : ℕ} → r ≡ Bad k → Infix file 0 old new text 0 0 r → WholeText file old new text r
   whole-refused {k = k} e f =
       let x : Refuses text 0 k = subst (Infix file 0 old new text 0 0) e f in
-      subst (Whole file old new text) (sym e) (passage.is-refused text (x 0))
+      subst (WholeText file old new text) (sym e) (passage.is-refused text (x 0))
 
-  pub whole-ended : {end m next : ℕ} {r : Got} {s : End} → r ≡ Val end m → Infix file 0 old new text 0 0 r → s ≡ At next → Ending text end s → Whole file old new text (Val next m)
+  pub whole-ended : {end m next : ℕ} {r : Got} {s : End} → r ≡ Val end m → Infix file 0 old new text 0 0 r → s ≡ At next → EndsAt text end s → WholeText file old new text (Val next m)
   whole-ended {end} {m} {next} e f u g =
       let x = subst (Infix file 0 old new text 0 0) e f in
-      let c : Ending text end (At next) = subst (Ending text end) u g in
+      let c : EndsAt text end (At next) = subst (EndsAt text end) u g in
       (c .0, x .1, passage.is-formula text (x .2) (c .1 (x .4)), x .3, x .5)
 
-  pub whole-open : {end m k : ℕ} {r : Got} {s : End} → r ≡ Val end m → Infix file 0 old new text 0 0 r → s ≡ NoEnd k → Ending text end s → Whole file old new text (Bad k)
+  pub whole-open : {end m k : ℕ} {r : Got} {s : End} → r ≡ Val end m → Infix file 0 old new text 0 0 r → s ≡ NoEnd k → EndsAt text end s → WholeText file old new text (Bad k)
   whole-open {end} {k = k} e f u g =
       let x = subst (Infix file 0 old new text 0 0) e f in
-      let c : Ending text end (NoEnd k) = subst (Ending text end) u g in
+      let c : EndsAt text end (NoEnd k) = subst (EndsAt text end) u g in
       passage.is-refused text (passage.pass-stop text (x .2 .passes 0) (c (x .4)))

@@ -11,11 +11,12 @@ use Rattle.formula.specs.Formula.{Tree, leaf, unary, binary, size}
 use Rattle.formula.specs.Nodes.{Node, Codes}
 use Rattle.writing.proofs.Writing.{sets-both}
 use Rattle.grammar.specs.Token.{Atom, Typed}
-use Rattle.grammar.specs.Nodes.{node, nodesOf}
+use Rattle.grammar.specs.Nodes.{nodesOf}
+use Rattle.formula.specs.Kinds.{node}
 use Rattle.grammar.proofs.Passage.{behindLeft}
 use Rattle.names.specs.Names.{namesIn}
 use Rattle.descent.specs.Packed.{codesBy, pack, packs, atomCode, atomField}
-use Rattle.descent.specs.Packed.{Written}
+use Rattle.descent.specs.Packed.{NodesWritten}
 use Rattle.descent.specs.Answers.{Room}
 
 packs-both : (xs ys : List Node) → packs (xs ++ ys) ≡ packs xs ++ packs ys
@@ -48,13 +49,13 @@ written-then old {mid} {new} p xs ys {q} z e f =
 
 module _ (file text : List ℕ) (place : ℕ) (old : List ℕ) where
   pub written-leaf : {new : List ℕ} {code left : ℕ} (l : Atom) → (code ≡ atomCode l) × (left ≡ atomField (namesIn file) l)
-      → new ≡ set old place (pack (node code left 0 1)) → Written file place (leaf l) old new
+      → new ≡ set old place (pack (node code left 0 1)) → NodesWritten file place (leaf l) old new
   unfolding nodesOf
   written-leaf {new} {code} {left} l f e = e ∙ ap (λ (c : ℕ). set old place (pack (node c left 0 1))) (f .0) ∙ ap (λ (v : ℕ). set old place (pack (node (atomCode l) v 0 1))) (f .1)
 
   module _ (mid : List ℕ) {new : List ℕ} where
-    pub written-unary : {code m : ℕ} (u : Unary) (t : Typed) → code ≡ unaryCode u → size t ≡ m → Written file place t old mid
-        → new ≡ set mid (place + m) (pack (node code (place + m - 1) 0 (1 + m))) → Written file place (unary u t) old new
+    pub written-unary : {code m : ℕ} (u : Unary) (t : Typed) → code ≡ unaryCode u → size t ≡ m → NodesWritten file place t old mid
+        → new ≡ set mid (place + m) (pack (node code (place + m - 1) 0 (1 + m))) → NodesWritten file place (unary u t) old new
     unfolding nodesOf
     written-unary {code} {m} u t c z e f =
         let C = codesBy (namesIn file) in
@@ -65,7 +66,7 @@ module _ (file text : List ℕ) (place : ℕ) (old : List ℕ) where
 
   -- the right side, the operator, and what goes on
   pub written-more : (mid both : List ℕ) {new : List ℕ} {code : ℕ} (before : ℕ) {w : ℕ} (o : Binary) (r : Typed) (more : List Node) → code ≡ binaryCode o → size r ≡ w
-      → Written file (place + before) r old mid
+      → NodesWritten file (place + before) r old mid
       → both ≡ set mid (place + before + w) (pack (node code (place + before - 1) (place + before + w - 1) (1 + before + w)))
       → new ≡ sets both (place + (1 + (before + w))) (packs more)
       → new ≡ sets old (place + before) (packs (behindLeft text (codesBy (namesIn file)) place before o r ++ more))

@@ -11,8 +11,8 @@ use Rattle.descent.specs.Packed.{atomCode, atomField}
 use Rattle.descent.specs.declared.leaves.Leaf.{Leaf}
 
 -- a word of the text
-abbrev pub wordAt : List ℕ → ℕ → ℕ → List ℕ
-wordAt text start n = take n (drop start text)
+abbrev pub textWord : List ℕ → ℕ → ℕ → List ℕ
+textWord text start n = take n (drop start text)
 
 -- the fields of the leaf that a word is
 abbrev pub WordFields : List ℕ → List ℕ → ℕ → ℕ → Type 0
@@ -22,7 +22,7 @@ abbrev pub WordIs : List ℕ → List ℕ → Leaf → Type 0
 WordIs file w r = WordFields file w (r .code) (r .left)
 
 abbrev pub LeafFields : List ℕ → List ℕ → ℕ → ℕ → ℕ → ℕ → Type 0
-LeafFields file text start n code left = WordFields file (wordAt text start n) code left
+LeafFields file text start n code left = WordFields file (textWord text start n) code left
 
 abbrev pub LeafIs : List ℕ → List ℕ → ℕ → ℕ → Leaf → Type 0
 LeafIs file text start n r = LeafFields file text start n (r .code) (r .left)

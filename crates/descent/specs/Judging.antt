@@ -14,7 +14,7 @@ use Rattle.grammar.specs.Grammar.{Reads, Refused11}
 use Rattle.descent.specs.declared.judge.Judged.{Judged}
 use Rattle.descent.specs.declared.judge.Judged.the-variants.{Nodes as Sized, Broken as BrokenNames, Long, Room as NoRoom, Stops as StopsAt, Unknown as UnknownName, Large}
 use Rattle.descent.specs.Words.{mostBytes, UnknownAt, FirstUnknown, Deep}
-use Rattle.descent.specs.Packed.{Written}
+use Rattle.descent.specs.Packed.{NodesWritten}
 
 -- no name of the text is unknown
 abbrev pub AllKnown : List ℕ → List ℕ → Type 0
@@ -31,4 +31,4 @@ module _ (file text old new : List ℕ) where
   JudgedIs Large = (length text ≤ mostBytes) × (t : Typed) × Reads text t × AllKnown file text × ((mostSize < size t) ⊎ Deep text) × GoodNames file
   JudgedIs (Sized n) =
       (length text ≤ mostBytes) × (t : Typed) × Reads text t × AllKnown file text × (size t ≤ mostSize) × (Deep text → ⊥) × (size t ≡ n)
-      × Written file 0 t old new × GoodNames file
+      × NodesWritten file 0 t old new × GoodNames file

@@ -9,17 +9,17 @@ use Rattle.sequence.specs.Operators.{Unary, Binary, unaryCode, binaryCode}
 use Rattle.formula.specs.Nodes.{Node, Codes}
 use Rattle.names.specs.Names.{namesIn}
 use Rattle.names.specs.Lookup.{findFrom}
-use Rattle.names.specs.declared.lookup.Found.{Found}
-use Rattle.names.specs.declared.lookup.Found.the-variants.{At, Nothing}
+use Rattle.names.specs.declared.lookup.FoundName.{FoundName}
+use Rattle.names.specs.declared.lookup.FoundName.the-variants.{At, Nothing}
 use Rattle.grammar.specs.Nodes.{nodesOf}
 use Rattle.grammar.specs.Token.{Typed, Atom, name, constant}
 
 -- ---- names
 
 -- the number of a name that was found; for none, 0
-abbrev pub numberOf : Found → ℕ
-numberOf (At k) = k
-numberOf Nothing = 0
+abbrev pub nameNumber : FoundName → ℕ
+nameNumber (At k) = k
+nameNumber Nothing = 0
 
 -- ---- the nodes of what is typed
 
@@ -29,7 +29,7 @@ atomCode (constant false) = 17
 atomCode (constant true) = 18
 
 abbrev pub atomField : List (List ℕ) → Atom → ℕ
-atomField names (name w) = numberOf (findFrom 0 w names)
+atomField names (name w) = nameNumber (findFrom 0 w names)
 atomField names (constant b) = 0
 
 abbrev pub codesBy : List (List ℕ) → Codes Atom Unary Binary
@@ -50,5 +50,5 @@ mostField = 65536
 -- ---- the scratch
 
 -- the tree's nodes stand in the scratch from a place on
-abbrev pub Written : List ℕ → ℕ → Typed → List ℕ → List ℕ → Type 0
-Written file place t old new = new ≡ sets old place (packs (nodesOf (codesBy (namesIn file)) place t))
+abbrev pub NodesWritten : List ℕ → ℕ → Typed → List ℕ → List ℕ → Type 0
+NodesWritten file place t old new = new ≡ sets old place (packs (nodesOf (codesBy (namesIn file)) place t))

@@ -4,7 +4,7 @@ use tokens::operator::Op;
 use tokens::operator::operator;
 ghost use Prim.Native.Nat.{_≤_};
 ghost use lib.ListN.{length};
-ghost use Rattle.descent.specs.Answers.{Closing, Ending};
+ghost use Rattle.descent.specs.Answers.{Closing, EndsAt};
 
 // Where what closes an expression ends, or the offset of a byte that can't continue a formula.
 pub(crate) enum End {
@@ -39,7 +39,7 @@ pub(crate) fn closing(text: &[u8], at: usize) -> End
 // The end of the text after an expression.
 pub(crate) fn ending(text: &[u8], at: usize) -> End
     requires { ⌜ at ≤ length (now text) ⌝ }
-    ensures { λ r. ⌜ Ending (now (text .entry)) at r ⌝ }
+    ensures { λ r. ⌜ EndsAt (now (text .entry)) at r ⌝ }
 {
     let o = operator(text, at);
     match o {

@@ -8,12 +8,6 @@ use typed::unknown::unknown;
 ghost use Rattle.names.specs.Names.{GoodNames};
 ghost use Rattle.descent.specs.Judging.{JudgedIs};
 
-// "4,096 bytes"
-const MOST_BYTES: usize = 4096;
-
-// "size passes 31"
-const MOST_SIZE: usize = 31;
-
 // How many nodes a text has that is taken so far; or which refusal it gets: the names' 8, 12 for its bytes, no room in the scratch for so many, 11, 13, 12
 // for its size or brackets.
 pub enum Judged {
@@ -31,7 +25,7 @@ fn judge_text(names: &[u8], text: &[u8], scratch: &mut [u64]) -> Judged
     requires { ⌜ GoodNames (now names) ⌝ }
     ensures { λ r. ⌜ JudgedIs (now (names .entry)) (now (text .entry)) (now (scratch .entry)) (now (scratch .exit)) r ⌝ }
 {
-    if MOST_BYTES < text.len() {
+    if rules::TYPED < text.len() {
         return Judged::Long;
     }
     if scratch.len() < text.len() {
@@ -45,7 +39,7 @@ fn judge_text(names: &[u8], text: &[u8], scratch: &mut [u64]) -> Judged
             match u {
                 Missing::At(k) => Judged::Unknown(k),
                 Missing::Nothing => {
-                    if MOST_SIZE < size {
+                    if rules::BOUND < size {
                         return Judged::Large;
                     }
                     if deep(text) {

@@ -1,5 +1,5 @@
 // The leaf that a word is: a constant, or a name by its number.
-use names::lookup::Found;
+use names::lookup::FoundName;
 use names::lookup::find;
 use spelling::bytes::same;
 ghost use Prim.Native.Nat.{_+_, _≤_};
@@ -25,8 +25,8 @@ fn word_leaf(names: &[u8], word: &[u8]) -> Leaf
     }
     let f = find(names, word);
     match f {
-        Found::At(p) => Leaf { code: 16, left: p },
-        Found::Nothing => Leaf { code: 16, left: 0 },
+        FoundName::At(p) => Leaf { code: 16, left: p },
+        FoundName::Nothing => Leaf { code: 16, left: 0 },
     }
 }
 

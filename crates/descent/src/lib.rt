@@ -8,12 +8,12 @@ use closing::End;
 use nodes::put;
 use nodes::put_one;
 use nodes::put_two;
-use tokens::front::First;
-use tokens::front::front;
+use operand::Awaited;
+use operand::front;
 use tokens::operator::Op;
 use tokens::operator::operator;
 ghost use Prim.Native.Nat.{_+_, _≤_};
-ghost use Rattle.descent.specs.Answers.{Room, Infix, More, Prefix, Bracket, Whole};
+ghost use Rattle.descent.specs.Answers.{Room, Infix, More, Prefix, Bracket, WholeText};
 
 // Where what was read ends and its size, or the offset of a byte that can't continue a formula.
 pub(crate) enum Got {
@@ -24,7 +24,7 @@ pub(crate) enum Got {
 // A whole text: the length and size of a formula, or the offset of refusal 11.
 pub(crate) fn read_text(names: &[u8], text: &[u8], scratch: &mut [u64]) -> Got
     requires { ⌜ Room (now names) (now text) (now scratch) 0 0 ⌝ }
-    ensures { λ r. ⌜ Whole (now (names .entry)) (now (scratch .entry)) (now (scratch .exit)) (now (text .entry)) r ⌝ }
+    ensures { λ r. ⌜ WholeText (now (names .entry)) (now (scratch .entry)) (now (scratch .exit)) (now (text .entry)) r ⌝ }
 {
     let t = read_infix(names, text, 0, 0, 0, scratch);
     let Got::Val { next, size } = t else {
@@ -100,7 +100,7 @@ fn read_prefix(names: &[u8], text: &[u8], at: usize, place: usize, scratch: &mut
 {
     let f = front(text, at);
     match f {
-        First::Operator { next, code } => {
+        Awaited::Operator { next, code } => {
             let t = read_prefix(names, text, next, place, scratch);
             let Got::Val { next: end, size } = t else {
                 return t;
@@ -112,13 +112,13 @@ fn read_prefix(names: &[u8], text: &[u8], at: usize, place: usize, scratch: &mut
                 size: whole,
             }
         }
-        First::Open(next) => read_bracket(names, text, next, place, scratch),
-        First::Word { next, start } => {
+        Awaited::Open(next) => read_bracket(names, text, next, place, scratch),
+        Awaited::Word { next, start } => {
             let leaf = leaves::leaf_of(names, text, start, next - start);
             put(scratch, place, leaf.code, leaf.left, 0, 1);
             Got::Val { next, size: 1 }
         }
-        First::Bad(k) => Got::Bad(k),
+        Awaited::Bad(k) => Got::Bad(k),
     }
 }
 

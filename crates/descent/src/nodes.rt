@@ -2,7 +2,7 @@
 ghost use mathlib.Core.Path.{_≡_};
 ghost use Prim.Native.Nat.{_+_, _-_, _≤_, _<_};
 ghost use lib.ListN.{length, set};
-ghost use Rattle.grammar.specs.Nodes.{node};
+ghost use Rattle.formula.specs.Kinds.{node};
 ghost use Rattle.descent.specs.Packed.{pack, mostField};
 
 // One node goes to its place.

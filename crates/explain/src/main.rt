@@ -17,7 +17,7 @@ fn answer(file: &[u8]) {
 
 fn main() {
     // One byte more than the largest good file has: of a longer one these bytes decide (`first-bytes-decide`, in proofs/Prefix of `file`).
-    let mut file = [0u8; 4451];
+    let mut file = [0u8; file::LARGEST + 1];
     let taken = whole_input::read(&mut file);
     match taken {
         Taken::Bytes(size) => answer(&file[..size]),

@@ -10,31 +10,31 @@ use lib.Seq.{sets-eq}
 use Rattle.rules.specs.Answers.{Said}
 use Rattle.rules.specs.Refusals.{Decided}
 use Rattle.rules.proofs.Refusals.{decided-unique, decided-both, decided-not}
-use Rattle.session.specs.Recording.{Recording}
+use Rattle.session.specs.Recording.{Recording, recording}
 use Rattle.session.specs.Data.{dataRows}
-use Rattle.reading.specs.Reading.{Got, got, bad}
+use Rattle.reading.specs.Reading.{Got, bad}
 use Rattle.file.specs.declared.ReadAnswer.{ReadAnswer}
 use Rattle.file.specs.declared.ReadAnswer.the-variants.{Broken as FileBroken}
 use Rattle.file.specs.Format.{Parts, Good}
 use Rattle.file.specs.Offence.{wholeFile}
-use Rattle.file.specs.Reading.{said, Lent, after, marksOf, lengthsOf, wordsOf, readOf}
+use Rattle.file.specs.Reading.{saidRead, Lent, readAfter, marksOf, lengthsOf, wordsOf, readOf}
 use Rattle.file.proofs.Numbers.{Bytes}
 use Rattle.formula.specs.Nodes.{Node}
 use Rattle.formula.specs.declared.kinds.Node as declared
 use Rattle.formula.specs.Kinds.{nodeOf}
-use Rattle.formula.specs.Rule.{Broken, brokenList}
+use Rattle.formula.specs.Rule.{brokenList}
 use Rattle.verdict.specs.Check.{checkRows}
 use Rattle.walk.specs.Walk.{found, ended}
 use Rattle.walk.specs.Input.{Input, search}
-use Rattle.walk.specs.Kept.{Table, nodes}
+use Rattle.walk.specs.Kept.{Table, tableNodes}
 use Rattle.writing.specs.Writing.{Wrote}
-use Rattle.candidate.specs.declared.counts.Counts.{Counts}
+use Rattle.counting.specs.declared.Counts.{Counts}
 use Rattle.search.specs.declared.SearchAnswer.{SearchAnswer}
 use Rattle.search.specs.declared.SearchAnswer.the-variants.{Found, None, Full, Refused}
 use Rattle.search.specs.Table.{Cols}
 use Rattle.search.specs.Search.{tallyOf, walkSaid, Searched}
 use Rattle.checks.specs.Refusals.{searchRows}
-use Rattle.lines.specs.Bench.{inputOf, Says, LinesOf}
+use Rattle.lines.specs.Bench.{benchRoom, fileInput, Says, LinesOf}
 use Rattle.lines.proofs.Searching.{Roomy, FoundAt, found-at, data-pass, in-room}
 use Rattle.lines.proofs.Answered.{lent, kept-nodes, part-is}
 use Rattle.lines.proofs.Handed.{Wide, Handed, broken-at, same, input}
@@ -43,7 +43,7 @@ use Rattle.report.specs.declared.Reported.the-variants.{Text, Refused as NotRep
 use Rattle.report.specs.Lines.{ReportText}
 use Rattle.report.specs.Report.{saidReport, shortText, reportRows, Reports}
 use Rattle.report.proofs.Length.{report-fits, longest-is}
-use Rattle.explanation.specs.Explanation.{benchRoom, Finds, Told, Explains, ExplanationOf}
+use Rattle.explanation.specs.Explanation.{Finds, Explained, Explains, ExplanationOf}
 use Rattle.explanation.specs.Inner.{Stands, BenchSays, ToldOf, ReportOf}
 
 -- ---- the bench's lines
@@ -96,10 +96,10 @@ module _ (j : Input) (t u : Cols) where
   full-finds : {s : ℕ} {c : Counts} → Searched j t (Full s c) u → (root : Node) (k : Table) → Finds j root k → ⊥
   full-finds w root k (n, e) = let v = values (w .outcome .0 ∙ ap walkSaid e) in let z : _≡_ {A = ℕ} 0 1 = cc v in omega arith
 
-module _ (file : List ℕ) (j : Input) (p : Parts) (g : Good p) (s : j ≡ inputOf p benchRoom) (t : Cols) (roomy : Roomy t) (u : Cols) (a : SearchAnswer)
+module _ (file : List ℕ) (j : Input) (p : Parts) (g : Good p) (s : j ≡ fileInput p benchRoom) (t : Cols) (roomy : Roomy t) (u : Cols) (a : SearchAnswer)
     (w : Searched j t a u) where
-  moved : (b : SearchAnswer) → a ≡ b → Searched (inputOf p benchRoom) t b u
-  moved b e = subst (λ (c : SearchAnswer). Searched (inputOf p benchRoom) t c u) e (subst (λ (i : Input). Searched i t a u) s w)
+  moved : (b : SearchAnswer) → a ≡ b → Searched (fileInput p benchRoom) t b u
+  moved b e = subst (λ (c : SearchAnswer). Searched (fileInput p benchRoom) t c u) e (subst (λ (i : Input). Searched i t a u) s w)
 
   -- what the bench says is said where nothing is found
   other : {old new : List ℕ} {n : ℕ} → ((root : Node) (k : Table) → Finds j root k → ⊥) → Stands (BenchSays file) old n new → Stands (ToldOf file j) old n new
@@ -119,7 +119,7 @@ module _ (file : List ℕ) (j : Input) (p : Parts) (g : Good p) (s : j ≡ input
   pub refused-stands : {z : ℕ} {old new : List ℕ} {n : ℕ} → a ≡ Refused z → Stands (BenchSays file) old n new → Stands (ToldOf file j) old n new
   refused-stands {z} e b =
       let v = moved (Refused z) e in
-      let q = decided-unique (searchRows (inputOf p benchRoom) t) z 0 (v .decided) (in-room p g benchRoom t roomy (omega arith) (omega arith)) in
+      let q = decided-unique (searchRows (fileInput p benchRoom) t) z 0 (v .decided) (in-room p g benchRoom t roomy (omega arith) (omega arith)) in
       absurd (omega (arith, v .outcome .0))
 
   module _ {root : declared.Node} {c : Counts} (e : a ≡ Found root c) where
@@ -129,18 +129,18 @@ module _ (file : List ℕ) (j : Input) (p : Parts) (g : Good p) (s : j ≡ input
     -- the formula found passes the check
     pub found-passes : Decided (checkRows (j .recording) (lent this) (nodeOf root)) 0
     found-passes =
-        let r = inputOf p benchRoom .recording in
-        let d : Decided (checkRows r (nodes (this .table)) (nodeOf root)) 0 =
-        decided-both (dataRows (length (p .sessions)) (length (p .names)) (marksOf p) (lengthsOf p) (wordsOf p))
-        (brokenList (length (p .names)) (nodes (this .table)) (nodeOf root) ∷ []) 0 0 (lit< tt, (lit< tt, (lit< tt, (lit< tt, (lit< tt, tt)))))
-        (data-pass p g benchRoom t roomy) (decided-not (brokenList (length (p .names)) (nodes (this .table)) (nodeOf root)) (this .whole)) in
+        let r = fileInput p benchRoom .recording in
+        let d : Decided (checkRows r (tableNodes (this .table)) (nodeOf root)) 0 =
+        decided-both (dataRows (recording (length (p .sessions)) (length (p .names)) (marksOf p) (lengthsOf p) (wordsOf p)))
+        (brokenList (length (p .names)) (tableNodes (this .table)) (nodeOf root) ∷ []) 0 0 (lit< tt, (lit< tt, (lit< tt, (lit< tt, (lit< tt, tt)))))
+        (data-pass p g benchRoom t roomy) (decided-not (brokenList (length (p .names)) (tableNodes (this .table)) (nodeOf root)) (this .whole)) in
         subst (λ (i : Input). Decided (checkRows (i .recording) (lent this) (nodeOf root)) 0) (sym s)
         (subst (λ (k : List Node). Decided (checkRows r k (nodeOf root)) 0) (sym (kept-nodes this)) d)
 
     pub found-stands : {old new : List ℕ} {n : ℕ} → Stands (ReportOf (j .recording) (lent this) (nodeOf root)) old n new → Stands (ToldOf file j) old n new
     found-stands b =
         let is : search j ≡ ended (found (nodeOf root)) (this .table) (tallyOf c) = ap search s ∙ this .is in
-        let text : ReportText (j .recording) (nodes (this .table)) (nodeOf root) (b .output) =
+        let text : ReportText (j .recording) (tableNodes (this .table)) (nodeOf root) (b .output) =
         subst (λ (k : List Node). ReportText (j .recording) k (nodeOf root) (b .output)) (kept-nodes this) (b .said) in
         record {
           output = b .output;
@@ -149,8 +149,8 @@ module _ (file : List ℕ) (j : Input) (p : Parts) (g : Good p) (s : j ≡ input
                 let z = sym is ∙ q in
                 let x : nodeOf root ≡ root′ = cc z in
                 let y : this .table ≡ k = cc z in
-                subst (λ (l : Table). ReportText (j .recording) (nodes l) root′ (b .output)) y
-                (subst (λ (m : Node). ReportText (j .recording) (nodes (this .table)) m (b .output)) x text);
+                subst (λ (l : Table). ReportText (j .recording) (tableNodes l) root′ (b .output)) y
+                (subst (λ (m : Node). ReportText (j .recording) (tableNodes (this .table)) m (b .output)) x text);
             else = λ f. absurd (f (nodeOf root) (this .table) (tallyOf c, is));
           };
           wrote = b .wrote;
@@ -159,15 +159,15 @@ module _ (file : List ℕ) (j : Input) (p : Parts) (g : Good p) (s : j ≡ input
 -- ---- the file
 
 module _ (file : List ℕ) (bytes : Bytes file) (l : Lent) (wide : Wide l) (a : ReadAnswer) (marks lengths words unary binary : List ℕ)
-    (e : after (said a) marks lengths words unary binary ≡ readOf file l) {old new : List ℕ} {x : ℕ} where
+    (e : readAfter (saidRead a) marks lengths words unary binary ≡ readOf file l) {old new : List ℕ} {x : ℕ} where
   pub good-explained : {r m n u b constants bound : ℕ} (h : Handed file bytes l wide a marks lengths words unary binary e r m n u b constants bound)
       → Stands (ToldOf file (input file bytes l wide a marks lengths words unary binary e h benchRoom)) old x new → ExplanationOf file old x new
   good-explained h v =
-      let told = subst (λ (i : Input). Told i (BenchSays file) (v .output)) (same file bytes l wide a marks lengths words unary binary e h benchRoom) (v .said) in
+      let told = subst (λ (i : Input). Explained i (BenchSays file) (v .output)) (same file bytes l wide a marks lengths words unary binary e h benchRoom) (v .said) in
       record {
         output = v .output;
         explains = subst (λ (g : Got Parts). Explains g (v .output)) (sym (h .is))
-            (subst (λ (g : Got Parts). Told (inputOf (h .parts) benchRoom) (Says g benchRoom) (v .output)) (h .is) told);
+            (subst (λ (g : Got Parts). Explained (fileInput (h .parts) benchRoom) (Says g benchRoom) (v .output)) (h .is) told);
         wrote = v .wrote;
       }
 

@@ -11,30 +11,30 @@ use Rattle.file.specs.Offence.{wholeFile}
 use Rattle.formula.specs.Nodes.{Node}
 use Rattle.walk.specs.Walk.{Ending, found, none, full, Tally, ended}
 use Rattle.walk.specs.Input.{search}
-use Rattle.walk.specs.Kept.{Table, nodes}
+use Rattle.walk.specs.Kept.{Table, tableNodes}
 use Rattle.walk.proofs.Promises.{walk-ends}
 use Rattle.writing.specs.Writing.{Wrote}
 use Rattle.writing.proofs.Writing.{wrote-unique, wrote-length}
-use Rattle.lines.specs.Bench.{inputOf}
+use Rattle.lines.specs.Bench.{benchRoom, fileInput}
 use Rattle.lines.proofs.Unique.{says-one}
 use Rattle.report.proofs.Unique.{one-report}
-use Rattle.explanation.specs.Explanation.{benchRoom, Finds, Explains, ExplanationOf}
+use Rattle.explanation.specs.Explanation.{Finds, Explains, ExplanationOf}
 
-told-one : (p : Parts) (next : ℕ) (x y : List ℕ) (e : Ending) (k : Table) (n : Tally) → search (inputOf p benchRoom) ≡ ended e k n → Explains (got p next) x
+told-one : (p : Parts) (next : ℕ) (x y : List ℕ) (e : Ending) (k : Table) (n : Tally) → search (fileInput p benchRoom) ≡ ended e k n → Explains (got p next) x
     → Explains (got p next) y → x ≡ y
 told-one p next x y (found root) k n q a b =
-    one-report (inputOf p benchRoom .recording) (nodes k) root x y (a .report root k (n, q)) (b .report root k (n, q))
+    one-report (fileInput p benchRoom .recording) (tableNodes k) root x y (a .report root k (n, q)) (b .report root k (n, q))
 told-one p next x y none k n q a b =
-    let no : (root : Node) (l : Table) → Finds (inputOf p benchRoom) root l → ⊥ = λ root l (m, h). (let z : _≡_ {A = ℕ} 0 1 = cc (sym q ∙ h) in omega arith) in
+    let no : (root : Node) (l : Table) → Finds (fileInput p benchRoom) root l → ⊥ = λ root l (m, h). (let z : _≡_ {A = ℕ} 0 1 = cc (sym q ∙ h) in omega arith) in
     says-one (got p next) benchRoom x y (a .else no) (b .else no)
 told-one p next x y (full s) k n q a b =
-    let no : (root : Node) (l : Table) → Finds (inputOf p benchRoom) root l → ⊥ = λ root l (m, h). (let z : _≡_ {A = ℕ} 0 1 = cc (sym q ∙ h) in omega arith) in
+    let no : (root : Node) (l : Table) → Finds (fileInput p benchRoom) root l → ⊥ = λ root l (m, h). (let z : _≡_ {A = ℕ} 0 1 = cc (sym q ∙ h) in omega arith) in
     says-one (got p next) benchRoom x y (a .else no) (b .else no)
 
 explains-one : (g : Got Parts) (x y : List ℕ) → Explains g x → Explains g y → x ≡ y
 explains-one (bad o) x y a b = says-one (bad o) benchRoom x y a b
 explains-one (got p next) x y a b =
-    let (e, k, n, q) = walk-ends (inputOf p benchRoom) in
+    let (e, k, n, q) = walk-ends (fileInput p benchRoom) in
     told-one p next x y e k n q a b
 
 -- what is answered, and what the text holds

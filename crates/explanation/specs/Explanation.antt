@@ -9,28 +9,24 @@ use Rattle.file.specs.Offence.{wholeFile}
 use Rattle.formula.specs.Nodes.{Node}
 use Rattle.walk.specs.Walk.{Tally, found, ended}
 use Rattle.walk.specs.Input.{Input, search}
-use Rattle.walk.specs.Kept.{Table, nodes}
+use Rattle.walk.specs.Kept.{Table, tableNodes}
 use Rattle.writing.specs.Writing.{Wrote}
-use Rattle.lines.specs.Bench.{inputOf, Says}
+use Rattle.lines.specs.Bench.{benchRoom, fileInput, Says}
 use Rattle.report.specs.Lines.{ReportText}
-
--- "searches with C = 200", as at the bench
-abbrev pub benchRoom : ℕ
-benchRoom = 200
 
 -- the search over this input finds a formula: its root, and the table that is kept
 abbrev pub Finds : Input → Node → Table → Type 0
 Finds i root k = (n : Tally) × (search i ≡ ended (found root) k n)
 
 -- where a formula is found its whole output is the report, else the bench's first line (docs/DECISIONS.md): what the bench says where none is found is that line alone
-pub record Told (i : Input) (bench : List ℕ → Type 0) (out : List ℕ) : Type 0 where
-  pub report : (root : Node) (k : Table) → Finds i root k → ReportText (i .recording) (nodes k) root out
+pub record Explained (i : Input) (bench : List ℕ → Type 0) (out : List ℕ) : Type 0 where
+  pub report : (root : Node) (k : Table) → Finds i root k → ReportText (i .recording) (tableNodes k) root out
   pub else : ((root : Node) (k : Table) → Finds i root k → ⊥) → bench out
 
 -- a broken file has the bench's line
 abbrev pub Explains : Got Parts → List ℕ → Type 0
 Explains (bad o) out = Says (bad o) benchRoom out
-Explains (got p next) out = Told (inputOf p benchRoom) (Says (got p next) benchRoom) out
+Explains (got p next) out = Explained (fileInput p benchRoom) (Says (got p next) benchRoom) out
 
 -- the output stands at the start of the text, as far as there is room, and the rest of it stays
 pub record ExplanationOf (file old : List ℕ) (r : ℕ) (new : List ℕ) : Type 0 where

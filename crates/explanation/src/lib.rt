@@ -10,18 +10,17 @@ ghost use Rattle.session.specs.Recording.{recording};
 ghost use Rattle.formula.specs.Kinds.{nodeOf, nodes};
 ghost use Rattle.verdict.specs.Check.{checkRows};
 ghost use Rattle.walk.specs.Input.{inputOf};
+ghost use Rattle.report.specs.Promises.{mostReport};
+ghost use Rattle.lines.specs.Bench.{benchRoom};
 ghost use Rattle.explanation.specs.Explanation.{ExplanationOf};
 ghost use Rattle.explanation.specs.Inner.{Stands, OfGood, BenchSays, ToldOf, ReportOf};
-
-// "searches with C = 200", as at the bench
-const ROOM: usize = 200;
 
 // What the bench says, by the bench's own function.
 fn bench(file: &[u8], text: &mut [u8]) -> usize
     ensures { λ n. ⌜ Stands (BenchSays (now (file .entry))) (now (text .entry)) n (now (text .exit)) ⌝ }
 {
-    let mut lines = [0u8; 512];
-    let length = lines::of_file(file, ROOM, &mut lines);
+    let mut lines = [0u8; lines::LONGEST];
+    let length = lines::of_file(file, lines::BENCH_ROOM, &mut lines);
     writing::put(text, 0, &lines[..length])
 }
 
@@ -40,7 +39,7 @@ fn reported(
     text: &mut [u8],
 ) -> usize
     requires { ⌜ Decided (checkRows (recording r m (now marks) (now lengths) (now words)) (nodes (now codes) (now lefts) (now rights) (now sizes)) (nodeOf root)) 0
-        × (15562 ≤ length (now text)) ⌝ }
+        × (mostReport ≤ length (now text)) ⌝ }
     ensures { λ n. ⌜ Stands (ReportOf (recording r m (now (marks .entry)) (now (lengths .entry)) (now (words .entry)))
         (nodes (now (codes .entry)) (now (lefts .entry)) (now (rights .entry)) (now (sizes .entry))) (nodeOf root)) (now (text .entry)) n (now (text .exit)) ⌝ }
 {
@@ -78,9 +77,9 @@ fn searched(
     binary: &[u8],
     text: &mut [u8],
 ) -> usize
-    requires { ⌜ OfGood (inputOf r m bound 200 constants (now marks) (now lengths) (now words) (now unary) (now binary)) × (15562 ≤ length (now text)) ⌝ }
+    requires { ⌜ OfGood (inputOf r m bound benchRoom constants (now marks) (now lengths) (now words) (now unary) (now binary)) × (mostReport ≤ length (now text)) ⌝ }
     ensures { λ n. ⌜ Stands (ToldOf (now (file .entry))
-        (inputOf r m bound 200 constants (now (marks .entry)) (now (lengths .entry)) (now (words .entry)) (now (unary .entry)) (now (binary .entry))))
+        (inputOf r m bound benchRoom constants (now (marks .entry)) (now (lengths .entry)) (now (words .entry)) (now (unary .entry)) (now (binary .entry))))
         (now (text .entry)) n (now (text .exit)) ⌝ }
 {
     let mut codes = [0u8; rules::ROOM];
@@ -92,7 +91,7 @@ fn searched(
         r,
         m,
         bound,
-        ROOM,
+        lines::BENCH_ROOM,
         constants,
         marks,
         lengths,

@@ -18,7 +18,7 @@ use Rattle.table.specs.Slices.{Cols}
 use Rattle.search.specs.Search.{Searched}
 use Rattle.search.proofs.Promises.{search-unique}
 use Rattle.nodes_in.specs.Lists.{plain, codesOf, leftsOf, rightsOf, sizesOf}
-use Rattle.nodes_out.specs.Columns.{columns}
+use Rattle.nodes_out.specs.Columns.{nodeCols}
 
 pub check-face-unique : (i : Recording) (ns : List Node) (root : walk.Node) (v w : Verdict)
     → CheckAnswer i (plain ns) root (saidVerdict v) → CheckAnswer i (plain ns) root (saidVerdict w) → v ≡ w
@@ -53,9 +53,9 @@ one-list (n ∷ ns) (m ∷ ms) c l r s =
 
 -- the answer, the nodes and the matrices
 pub search-face-unique : (i : Input) (ns : List Node) (old : List ℕ) (a b : SearchAnswer) (ms ls : List Node) (new later : List ℕ)
-    → Searched i (columns ns old) a (columns ms new) → Searched i (columns ns old) b (columns ls later) → (a ≡ b) × (ms ≡ ls) × (new ≡ later)
+    → Searched i (nodeCols ns old) a (nodeCols ms new) → Searched i (nodeCols ns old) b (nodeCols ls later) → (a ≡ b) × (ms ≡ ls) × (new ≡ later)
 search-face-unique i ns old a b ms ls new later p q =
-    let e = search-unique i (columns ns old) a b (columns ms new) (columns ls later) p q in
+    let e = search-unique i (nodeCols ns old) a b (nodeCols ms new) (nodeCols ls later) p q in
     let t = e .1 in (
       e .0,
       one-list ms ls (ap (λ (x : Cols). x .codes) t) (ap (λ (x : Cols). x .lefts) t) (ap (λ (x : Cols). x .rights) t) (ap (λ (x : Cols). x .sizes) t),

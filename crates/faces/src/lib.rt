@@ -16,7 +16,7 @@ ghost use Rattle.reader.specs.Parsing.{saidParsed, Parses};
 ghost use Rattle.search.specs.Search.{Searched};
 ghost use Rattle.walk.specs.Input.{inputOf};
 ghost use Rattle.nodes_in.specs.Lists.{plain};
-ghost use Rattle.nodes_out.specs.Columns.{columns, fields};
+ghost use Rattle.nodes_out.specs.Columns.{nodeCols, fields};
 
 // The analyst's check of a node list, whoever wrote it.
 pub fn check(
@@ -59,9 +59,9 @@ pub fn search(
 ) -> SearchAnswer
     ensures { λ answer. ⌜ Searched
         (inputOf r m bound room constants (now (marks .entry)) (now (lengths .entry)) (now (words .entry)) (now (unary .entry)) (now (binary .entry)))
-        (columns (now (nodes .entry)) (now (matrices .entry)))
+        (nodeCols (now (nodes .entry)) (now (matrices .entry)))
         answer
-        (columns (now (nodes .exit)) (now (matrices .exit))) ⌝ }
+        (nodeCols (now (nodes .exit)) (now (matrices .exit))) ⌝ }
 {
     let done = nodes_out::search(
         r,

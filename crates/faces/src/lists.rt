@@ -3,7 +3,7 @@ use formula::kinds::Node;
 use nodes_in::SEEN;
 use nodes_in::count_of;
 use nodes_out::Done;
-use nodes_out::ROOM;
+use rules::ROOM;
 use rules::kinds::Place;
 use search::SearchAnswer;
 ghost use mathlib.Core.Path.{_≡_};

@@ -1,8 +1,8 @@
 // The nodes of a formula that is read, put over the first of a lent list.
 use formula::kinds::Node;
-use nodes_out::ROOM;
 use nodes_out::Read;
 use reader::Parsed;
+use rules::ROOM;
 ghost use mathlib.Core.Path.{_≡_};
 ghost use Prim.Native.Nat.{_≤_};
 ghost use lib.ListN.{length};

@@ -16,11 +16,12 @@ use lib.Seq.{take-all, take-append-seam}
 use Rattle.words.specs.Word.{width}
 use Rattle.names.specs.Names.{nameLength, letter, name, isTaken, notTaken, namesUpTo}
 use Rattle.names.specs.Reserved.{reserved}
-use Rattle.reading.specs.Reading.{Got, got, bad, Reader, andThen, each, byte, within, counted, isIn, atEnd}
+use Rattle.reading.specs.Reading.{Got, got, bad, Reader, andThen, eachItem, byte, within, counted, atEnd}
 use Rattle.reading.proofs.Readers.{got-bad}
-use Rattle.sections.specs.Numbers.{propositions, fileSessions, bound}
+use Rattle.sections.specs.Numbers.{filePropositions, fileSessions}
+use Rattle.rules.specs.Limits.{mostSize}
 use Rattle.file.specs.Format.{Parts}
-use Rattle.file.specs.Offence.{number, eightBytes, session, allSessions, isUnary, isBinary, code, codes, settings, parts, wholeFile}
+use Rattle.file.specs.Offence.{number, eightBytes, session, allSessions, isUnary, isBinary, code, allCodes, settings, parts, wholeFile}
 use Rattle.file.specs.Promises.{StaysRefused, longestItem, RefusedAlike}
 use Rattle.file.proofs.Prefix.{same-byte, same-name, same-word}
 
@@ -59,8 +60,8 @@ module _ (Gone Out : ℕ → Type 0) where
 
     module _ (f g : List ℕ) where
       each-alike : {A : Type 0} (item : List A → Reader A) → ((before : List A) → Alike (item before f) (item before g)) → (n : ℕ) (before : List A)
-          → Alike (each item n before f) (each item n before g)
-      unfolding each
+          → Alike (eachItem item n before f) (eachItem item n before g)
+      unfolding eachItem
       each-alike item w zero before = got-alike before
       each-alike item w (suc n) before = then-alike (item before f) (item before g) _ _ (w before) (λ a. each-alike item w n (before ++ (a ∷ [])))
 
@@ -74,10 +75,10 @@ module _ (Gone Out : ℕ → Type 0) where
         settings-alike =
             then-alike (byte (within 2 2) f) (byte (within 2 2) g) _ _ (bytes (within 2 2)) λ n.
             then-alike (byte (within 0 1) f) (byte (within 0 1) g) _ _ (bytes (within 0 1)) λ c.
-            then-alike (byte (within 1 bound) f) (byte (within 1 bound) g) _ _ (bytes (within 1 bound)) λ b.
+            then-alike (byte (within 1 mostSize) f) (byte (within 1 mostSize) g) _ _ (bytes (within 1 mostSize)) λ b.
             got-alike (record { constants = c; bound = b })
 
-        codes-alike : (group : ℕ → Bool) → Alike (codes group f) (codes group g)
+        codes-alike : (group : ℕ → Bool) → Alike (allCodes group f) (allCodes group g)
         codes-alike group = counted-alike 0 255 (code group) (λ before. bytes _)
 
         module _ (names : (before : List (List ℕ)) → Alike (name before f) (name before g)) (words : (n : ℕ) → Alike (eightBytes n f) (eightBytes n g)) where
@@ -86,16 +87,16 @@ module _ (Gone Out : ℕ → Type 0) where
           session-alike m =
               then-alike (byte (within 0 1) f) (byte (within 0 1) g) _ _ (bytes (within 0 1)) λ mark.
               then-alike (byte (within 0 width) f) (byte (within 0 width) g) _ _ (bytes (within 0 width)) λ n.
-              then-alike (each (λ _. eightBytes n) m [] f) (each (λ _. eightBytes n) m [] g) _ _ (each-alike (λ _. eightBytes n) (λ _. words n) m []) λ ws.
+              then-alike (eachItem (λ _. eightBytes n) m [] f) (eachItem (λ _. eightBytes n) m [] g) _ _ (each-alike (λ _. eightBytes n) (λ _. words n) m []) λ ws.
               got-alike (record { mark = mark; length = n; words = ws })
 
           parts-alike : Alike (parts f) (parts g)
           unfolding parts
           parts-alike =
-              then-alike (namesUpTo propositions f) (namesUpTo propositions g) _ _ (counted-alike 1 propositions name names) λ ns.
+              then-alike (namesUpTo filePropositions f) (namesUpTo filePropositions g) _ _ (counted-alike 1 filePropositions name names) λ ns.
               then-alike (allSessions (length ns) f) (allSessions (length ns) g) _ _ (counted-alike 1 fileSessions (λ _. session (length ns)) (λ _. session-alike (length ns))) λ ss.
-              then-alike (codes isUnary f) (codes isUnary g) _ _ (codes-alike isUnary) λ us.
-              then-alike (codes isBinary f) (codes isBinary g) _ _ (codes-alike isBinary) λ bs.
+              then-alike (allCodes isUnary f) (allCodes isUnary g) _ _ (codes-alike isUnary) λ us.
+              then-alike (allCodes isBinary f) (allCodes isBinary g) _ _ (codes-alike isBinary) λ bs.
               then-alike (settings f) (settings g) _ _ settings-alike λ s.
               got-alike (record { names = ns; sessions = ss; unary = us; binary = bs; constants = s .constants; bound = s .bound })
 
@@ -253,5 +254,5 @@ refused-alike file other o e s =
 -- agreement up to and with the offending byte is too little: of two names `a` the second is refused at 3, its length byte, and the file that ends after
 -- that byte at 4
 pub one-byte-too-little : (wholeFile (2 ∷ 1 ∷ 97 ∷ 1 ∷ 97 ∷ []) ≡ bad 3) × (wholeFile (2 ∷ 1 ∷ 97 ∷ 1 ∷ []) ≡ bad 4)
-unfolding atEnd parts each byte name reserved
+unfolding atEnd parts eachItem byte name reserved
 one-byte-too-little = (refl, refl)

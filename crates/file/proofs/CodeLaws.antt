@@ -5,7 +5,7 @@ use mathlib.Core.Bool.{true}
 use mathlib.Core.List.{List, [], _∷_, _++_, flatMap}
 use Prim.Native.Nat.{ℕ, _+_, _≤_}
 use native.Mathlib.Omega.{arith}
-use Rattle.sections.specs.Numbers.{bound}
+use Rattle.rules.specs.Limits.{mostSize}
 use Rattle.reading.specs.Reading.{one, section, got, byte, within}
 use Rattle.file.specs.Format.{GoodUnary, GoodBinary}
 use Rattle.file.specs.Offence.{isUnary, isBinary, Settings, settings}
@@ -34,7 +34,7 @@ good-binary before c g = (subst (λ (x : ℕ). isBinary x ≡ true) (g .0 .1) (b
 pub record Set (s : Settings) : Type 0 where
   pub constants : s .constants ≤ 1
   pub some : 1 ≤ s .bound
-  pub low : s .bound ≤ bound
+  pub low : s .bound ≤ mostSize
 
 abbrev pub settingsBytes : Settings → List ℕ
 settingsBytes s = section one (s .constants ∷ s .bound ∷ [])
@@ -47,13 +47,13 @@ module _ (file : List ℕ) where
       let k = byte-sound (within 2 2) file at (t .2) in
       let u = in-turn (byte (within 0 1) file (t .1)) _ (t .3) in
       let c = byte-sound (within 0 1) file (t .1) (u .2) in
-      let v = in-turn (byte (within 1 bound) file (u .1)) _ (u .3) in
-      let b = byte-sound (within 1 bound) file (u .1) (v .2) in
+      let v = in-turn (byte (within 1 mostSize) file (u .1)) _ (u .3) in
+      let b = byte-sound (within 1 mostSize) file (u .1) (v .2) in
       let two : t .0 ≡ 2 = omega (arith, within-low 2 2 (t .0) (k .0), within-high 2 2 (t .0) (k .0)) in
       let is : record { constants = u .0; bound = v .0 } ≡ s = got-value (v .3) in
       let n : v .1 ≡ next = got-next (v .3) in
       let good : Set (record { constants = u .0; bound = v .0 }) =
-      record { constants = within-high 0 1 (u .0) (c .0); some = within-low 1 bound (v .0) (b .0); low = within-high 1 bound (v .0) (b .0) } in
+      record { constants = within-high 0 1 (u .0) (c .0); some = within-low 1 mostSize (v .0) (b .0); low = within-high 1 mostSize (v .0) (b .0) } in
       let count = subst (λ (x : ℕ). Spans file at (one x) (t .1)) two (k .1) in
       let spans = both file (one 2) (one (u .0) ++ one (v .0)) count (both file (one (u .0)) (one (v .0)) (c .1) (b .1)) in
       (subst Set is good, subst (λ (x : Settings). Spans file at (settingsBytes x) next) is (subst (λ (x : ℕ). Spans file at (settingsBytes (record { constants = u .0; bound = v .0 })) x) n spans))
@@ -66,5 +66,5 @@ module _ (file : List ℕ) where
       rw (
         byte-complete (within 2 2) file at 2 refl (first file (one 2) (one (s .constants) ++ one (s .bound)) r),
         byte-complete (within 0 1) file (at + 1) (s .constants) (within-is 0 1 (s .constants) (omega arith) (g .constants)) (first file (one (s .constants)) (one (s .bound)) a),
-        byte-complete (within 1 bound) file (at + 1 + 1) (s .bound) (within-is 1 bound (s .bound) (g .some) (g .low)) b,
+        byte-complete (within 1 mostSize) file (at + 1 + 1) (s .bound) (within-is 1 mostSize (s .bound) (g .some) (g .low)) b,
       )

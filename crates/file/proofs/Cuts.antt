@@ -13,11 +13,13 @@ use lib.Dec.{ltb, leb}
 use lib.ListN.{length, getD, take, drop, length-take, length-append}
 use lib.Seq.{take-nil, take-take, getD-take, drop-append-seam}
 use Rattle.words.specs.Word.{width}
-use Rattle.sections.specs.Numbers.{fileSessions, propositions, bound}
+use Rattle.sections.specs.Numbers.{fileSessions, filePropositions}
+use Rattle.rules.specs.Limits.{mostSize}
 use Rattle.names.specs.Names.{nameLength, letter, name, isTaken, notTaken, namesUpTo}
-use Rattle.file.specs.Format.{FileSession, Parts, fileBytes, Good}
-use Rattle.reading.specs.Reading.{got, bad, Reader, andThen, each, byte, within, counted, atEnd}
-use Rattle.file.specs.Offence.{number, eightBytes, session, allSessions, isUnary, isBinary, code, codes, Settings, settings, parts, wholeFile}
+use Rattle.file.specs.Format.{FileSession, Parts, fileBytes}
+use Rattle.reading.specs.Reading.{got, bad, Reader, andThen, eachItem, byte, within, counted, atEnd}
+use Rattle.file.specs.Offence.{number, eightBytes, session, allSessions, isUnary, isBinary, code, allCodes, Settings, settings, parts}
+use Rattle.file.specs.Promises.{CutShort, FirstExtra}
 use Rattle.reading.proofs.Readers.{got-bad, got-next, in-turn, byte-sound}
 use Rattle.reading.proofs.Steps.{byte-next}
 use Rattle.reading.proofs.Spans.{Spans}
@@ -33,13 +35,13 @@ drop-take (suc n) (suc k) (a ∷ l) = let z : suc k - suc n ≡ k - n = omega ar
 -- ---- what is left to read of a session, of the settings and of a file, from each item on
 
 abbrev from-words : ℕ → ℕ → ℕ → Reader FileSession
-from-words m mark n f b = andThen (each (λ _. eightBytes n) m [] f b) (λ words next. got (record { mark = mark; length = n; words = words }) next)
+from-words m mark n f b = andThen (eachItem (λ _. eightBytes n) m [] f b) (λ words next. got (record { mark = mark; length = n; words = words }) next)
 
 abbrev from-length : ℕ → ℕ → Reader FileSession
 from-length m mark f a = andThen (byte (within 0 width) f a) (λ n b. from-words m mark n f b)
 
 abbrev from-bound : ℕ → Reader Settings
-from-bound constants f b = andThen (byte (within 1 bound) f b) (λ bound next. got (record { constants = constants; bound = bound }) next)
+from-bound constants f b = andThen (byte (within 1 mostSize) f b) (λ bound next. got (record { constants = constants; bound = bound }) next)
 
 abbrev from-mark : Reader Settings
 from-mark f a = andThen (byte (within 0 1) f a) (λ constants b. from-bound constants f b)
@@ -51,10 +53,10 @@ abbrev from-settings : List (List ℕ) → List FileSession → List ℕ → Lis
 from-settings ns ss us bs f d = andThen (settings f d) (λ s next. got (all ns ss us bs s) next)
 
 abbrev from-binary : List (List ℕ) → List FileSession → List ℕ → Reader Parts
-from-binary ns ss us f c = andThen (codes isBinary f c) (λ bs d. from-settings ns ss us bs f d)
+from-binary ns ss us f c = andThen (allCodes isBinary f c) (λ bs d. from-settings ns ss us bs f d)
 
 abbrev from-unary : List (List ℕ) → List FileSession → Reader Parts
-from-unary ns ss f b = andThen (codes isUnary f b) (λ us c. from-binary ns ss us f c)
+from-unary ns ss f b = andThen (allCodes isUnary f b) (λ us c. from-binary ns ss us f c)
 
 abbrev from-sessions : List (List ℕ) → Reader Parts
 from-sessions ns f a = andThen (allSessions (length ns) f a) (λ ss b. from-unary ns ss f b)
@@ -96,13 +98,13 @@ module _ (file : List ℕ) (k : ℕ) (short : k ≤ length file) where
         λ h l. let le : length front ≤ at = omega (arith, n .1, front-length) in rw (le-ltb at (length front) le) (ap bad front-length),
       )
 
-  cut-each : {A : Type 0} (item : List A → Reader A) → ((before : List A) → Cut (item before)) → (n : ℕ) (before : List A) → Cut (each item n before)
-  unfolding each
+  cut-each : {A : Type 0} (item : List A → Reader A) → ((before : List A) → Cut (item before)) → (n : ℕ) (before : List A) → Cut (eachItem item n before)
+  unfolding eachItem
   cut-each item c zero before = cut-done before
-  cut-each item c (suc n) before = cut-then (item before) (λ a. each item n (before ++ (a ∷ []))) (c before) (λ a. cut-each item c n (before ++ (a ∷ [])))
+  cut-each item c (suc n) before = cut-then (item before) (λ a. eachItem item n (before ++ (a ∷ []))) (c before) (λ a. cut-each item c n (before ++ (a ∷ [])))
 
   cut-counted : {A : Type 0} (lo hi : ℕ) (item : List A → Reader A) → ((before : List A) → Cut (item before)) → Cut (counted lo hi item)
-  cut-counted lo hi item c = cut-then (byte (within lo hi)) (λ n. each item n []) (cut-byte (within lo hi)) (λ n. cut-each item c n [])
+  cut-counted lo hi item c = cut-then (byte (within lo hi)) (λ n. eachItem item n []) (cut-byte (within lo hi)) (λ n. cut-each item c n [])
 
   cut-name : (before : List (List ℕ)) → Cut (name before)
   unfolding name
@@ -144,7 +146,7 @@ module _ (file : List ℕ) (k : ℕ) (short : k ≤ length file) where
   cut-session m =
       cut-then (byte (within 0 1)) (from-length m) (cut-byte (within 0 1)) λ mark.
       cut-then (byte (within 0 width)) (from-words m mark) (cut-byte (within 0 width)) λ n.
-      cut-then (each (λ _. eightBytes n) m []) (λ words _ next. got (record { mark = mark; length = n; words = words }) next) (cut-each (λ _. eightBytes n) (λ _. cut-word n) m []) λ words.
+      cut-then (eachItem (λ _. eightBytes n) m []) (λ words _ next. got (record { mark = mark; length = n; words = words }) next) (cut-each (λ _. eightBytes n) (λ _. cut-word n) m []) λ words.
       cut-done (record { mark = mark; length = n; words = words })
 
   cut-settings : Cut settings
@@ -152,21 +154,20 @@ module _ (file : List ℕ) (k : ℕ) (short : k ≤ length file) where
   cut-settings =
       cut-then (byte (within 2 2)) (λ _. from-mark) (cut-byte (within 2 2)) λ _.
       cut-then (byte (within 0 1)) from-bound (cut-byte (within 0 1)) λ constants.
-      cut-then (byte (within 1 bound)) (λ b _ next. got (record { constants = constants; bound = b }) next) (cut-byte (within 1 bound)) λ b.
+      cut-then (byte (within 1 mostSize)) (λ b _ next. got (record { constants = constants; bound = b }) next) (cut-byte (within 1 mostSize)) λ b.
       cut-done (record { constants = constants; bound = b })
 
   cut-parts : Cut parts
   unfolding parts
   cut-parts =
-      cut-then (namesUpTo propositions) from-sessions (cut-counted 1 propositions name cut-name) λ ns.
+      cut-then (namesUpTo filePropositions) from-sessions (cut-counted 1 filePropositions name cut-name) λ ns.
       cut-then (allSessions (length ns)) (from-unary ns) (cut-counted 1 fileSessions (λ _. session (length ns)) (λ _. cut-session (length ns))) λ ss.
-      cut-then (codes isUnary) (from-binary ns ss) (cut-counted 0 255 (code isUnary) (λ b. cut-byte _)) λ us.
-      cut-then (codes isBinary) (from-settings ns ss us) (cut-counted 0 255 (code isBinary) (λ b. cut-byte _)) λ bs.
+      cut-then (allCodes isUnary) (from-binary ns ss) (cut-counted 0 255 (code isUnary) (λ b. cut-byte _)) λ us.
+      cut-then (allCodes isBinary) (from-settings ns ss us) (cut-counted 0 255 (code isBinary) (λ b. cut-byte _)) λ bs.
       cut-then settings (λ s _ next. got (all ns ss us bs s) next) cut-settings λ s.
       cut-done (all ns ss us bs s)
 
--- a good file cut short is refused at its length
-pub cut-short : (p : Parts) → Good p → (k : ℕ) → k < length (fileBytes p) → wholeFile (take k (fileBytes p)) ≡ bad k
+pub cut-short : CutShort
 unfolding atEnd
 cut-short p g k h =
     let file = fileBytes p in
@@ -174,8 +175,7 @@ cut-short p g k h =
     let c = cut-parts file k (omega arith) 0 p (length file) whole in
     rw (c .2 (omega arith) h)
 
--- and with anything after it at the first extra byte
-pub first-extra : (p : Parts) → Good p → (b : ℕ) (more : List ℕ) → wholeFile (fileBytes p ++ (b ∷ more)) ≡ bad (length (fileBytes p))
+pub first-extra : FirstExtra
 unfolding atEnd
 first-extra p g b more =
     let run = fileBytes p in

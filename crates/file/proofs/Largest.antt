@@ -11,11 +11,12 @@ use Rattle.words.specs.Word.{Wf}
 use Rattle.words.proofs.At.{lt-wf}
 use Rattle.file.specs.Format.{FileSession, Parts, fileBytes, GoodSession, Good}
 use Rattle.sequence.specs.Operators.{decode}
-use Rattle.reading.specs.Reading.{one, section, got, each, byte}
+use Rattle.reading.specs.Reading.{one, section, got, eachItem, byte}
 use Rattle.names.specs.Reserved.{reserved}
 use Rattle.names.specs.Names.{nameBytes, GoodName, name, namesUpTo}
 use Rattle.rules.specs.Lists.{Each}
-use Rattle.file.specs.Offence.{codes, isUnary, isBinary}
+use Rattle.file.specs.Offence.{allCodes, isUnary, isBinary}
+use Rattle.file.specs.Promises.{mostFile, Largest, SomeLargest}
 use Rattle.reading.proofs.Lists.{ones}
 use Rattle.file.proofs.CodeLaws.{unary-good, good-unary, binary-good, good-binary}
 use Rattle.reading.proofs.Ends.{each-map}
@@ -33,7 +34,7 @@ unfolding Each flatMap
 names-size [] before e = omega arith
 names-size (n ∷ l) before e = omega (arith, length-append (nameBytes n) (flatMap nameBytes l), name-size before n (e .0), names-size l (before ++ (n ∷ [])) (e .1))
 
-pub largest : (p : Parts) → Good p → length (fileBytes p) ≤ 4450
+pub largest : Largest
 largest p g =
     let w : 2 + 8 * length (p .names) ≤ 130 = omega (arith, g .fewNames) in
     let s : length (p .sessions) * (2 + 8 * length (p .names)) ≤ 32 * 130 = mul-le-mul (g .fewSessions) w in
@@ -54,7 +55,7 @@ names : List (List ℕ)
 names = names-of 16
 
 names-there : namesUpTo 16 (section nameBytes names) 0 ≡ got names 273
-unfolding names names-of name-of each byte name reserved flatMap
+unfolding names names-of name-of eachItem byte name reserved flatMap
 names-there = refl
 
 repeated : {A : Type 0} (P : A → Type 0) (a : A) → P a → (n : ℕ) (before : List A) → Each (λ _ x. P x) before (replicate n a)
@@ -72,21 +73,21 @@ longest-good = record { mark = lit≤ tt; short = lit≤ tt; count = refl; words
 unary : List ℕ
 unary = 0 ∷ 1 ∷ 2 ∷ 3 ∷ 4 ∷ []
 
-unary-there : codes isUnary (section one unary) 0 ≡ got unary 6
-unfolding unary each byte flatMap decode
+unary-there : allCodes isUnary (section one unary) 0 ≡ got unary 6
+unfolding unary eachItem byte flatMap decode
 unary-there = refl
 
 binary : List ℕ
 binary = 5 ∷ 6 ∷ 7 ∷ 8 ∷ 9 ∷ 10 ∷ []
 
-binary-there : codes isBinary (section one binary) 0 ≡ got binary 7
-unfolding binary each byte flatMap decode
+binary-there : allCodes isBinary (section one binary) 0 ≡ got binary 7
+unfolding binary eachItem byte flatMap decode
 binary-there = refl
 
 pub biggest : Parts
 biggest = record { names = names; sessions = replicate 32 longest; unary = unary; binary = binary; constants = 1; bound = 31 }
 
-pub biggest-good : Good biggest
+biggest-good : Good biggest
 unfolding biggest names names-of unary binary
 biggest-good =
     record {
@@ -103,6 +104,9 @@ biggest-good =
       lowBound = lit≤ tt;
     }
 
-pub biggest-size : length (fileBytes biggest) ≡ 4450
+biggest-size : length (fileBytes biggest) ≡ mostFile
 unfolding biggest names names-of name-of unary binary flatMap
 biggest-size = sym (layout biggest (fileBytes biggest) biggest-good refl .room)
+
+pub some-largest : SomeLargest
+some-largest = (biggest, biggest-good, biggest-size)

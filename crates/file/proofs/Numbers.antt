@@ -8,6 +8,7 @@ use native.Mathlib.Omega.{arith}
 use lib.ListN.{length, getD}
 use Rattle.file.specs.Format.{lowFirst}
 use Rattle.file.specs.Offence.{number}
+pub use Rattle.file.specs.Promises.{Bytes}
 
 pub length-low : (k w : ℕ) → length (lowFirst k w) ≡ k
 unfolding lowFirst
@@ -20,10 +21,6 @@ number-low zero w h = omega arith
 number-low (suc k) w h =
     let l : w < 256 ^ k * 256 = rw pow-suc at h in
     omega (arith, number-low k (w / 256) (omega arith))
-
--- a list of bytes
-abbrev pub Bytes : List ℕ → Type 0
-Bytes l = (i : ℕ) → getD l i 0 < 256
 
 pub low-number : (l : List ℕ) → Bytes l → lowFirst (length l) (number l) ≡ l
 unfolding lowFirst number

@@ -10,11 +10,13 @@ use borrow.Author.Tests.{ltb-false, leb-false}
 use lib.Dec.{ltb, leb, eqb}
 use lib.ListN.{length, getD, take, drop, length-append}
 use Rattle.words.specs.Word.{width}
-use Rattle.sections.specs.Numbers.{fileSessions, propositions, bound}
+use Rattle.sections.specs.Numbers.{fileSessions, filePropositions}
+use Rattle.rules.specs.Limits.{mostSize}
 use Rattle.names.specs.Names.{nameLength, letter, name, isTaken, notTaken, namesUpTo, wholeNames}
 use Rattle.rules.specs.Lists.{Each}
-use Rattle.reading.specs.Reading.{Got, got, bad, Reader, andThen, each, byte, within, counted, atEnd}
-use Rattle.file.specs.Offence.{number, eightBytes, session, allSessions, isUnary, isBinary, code, codes, settings, parts, wholeFile}
+use Rattle.reading.specs.Reading.{Got, got, bad, Reader, andThen, eachItem, byte, within, counted, atEnd}
+use Rattle.file.specs.Offence.{number, eightBytes, session, allSessions, isUnary, isBinary, code, allCodes, settings, parts, wholeFile}
+use Rattle.file.specs.Promises.{mostFile}
 use Rattle.reading.proofs.Lists.{within-high}
 use Rattle.reading.proofs.Readers.{got-bad, byte-sound}
 use Rattle.sections.proofs.CodeLaws.{New, new-sound}
@@ -55,20 +57,20 @@ module _ (file : List ℕ) where
       go false q h g = let k : length file ≡ o = cc in omega (arith, ltb-false at (length file) h)
 
   row-upto : {A : Type 0} (item : List A → Reader A) (w : ℕ) → ((before : List A) (at : ℕ) → Upto (at + w) (item before file at)) → (n : ℕ) (before : List A) (at : ℕ)
-      → Upto (at + n * w) (each item n before file at)
-  unfolding each
+      → Upto (at + n * w) (eachItem item n before file at)
+  unfolding eachItem
   row-upto item w u zero before at = omega arith
   row-upto item w u (suc n) before at =
-      next-upto (item before file at) (λ a next. each item n (before ++ (a ∷ [])) file next) (u before at) (omega (arith, suc-mul n w))
-      (λ a next e h. higher (each item n (before ++ (a ∷ [])) file next) (row-upto item w u n (before ++ (a ∷ [])) next) (omega (arith, suc-mul n w)))
+      next-upto (item before file at) (λ a next. eachItem item n (before ++ (a ∷ [])) file next) (u before at) (omega (arith, suc-mul n w))
+      (λ a next e h. higher (eachItem item n (before ++ (a ∷ [])) file next) (row-upto item w u n (before ++ (a ∷ [])) next) (omega (arith, suc-mul n w)))
 
   counted-upto : {A : Type 0} (lo hi : ℕ) (item : List A → Reader A) (w : ℕ) → ((before : List A) (at : ℕ) → Upto (at + w) (item before file at)) → (at : ℕ)
       → Upto (at + 1 + hi * w) (counted lo hi item file at)
   counted-upto lo hi item w u at =
-      next-upto (byte (within lo hi) file at) (λ n next. each item n [] file next) (byte-upto (within lo hi) at) (omega arith)
+      next-upto (byte (within lo hi) file at) (λ n next. eachItem item n [] file next) (byte-upto (within lo hi) at) (omega arith)
       (λ n next e h.
       let few = within-high lo hi n (byte-sound (within lo hi) file at e .0) in
-      higher (each item n [] file next) (row-upto item w u n [] next) (omega (arith, mul-le-mul-right w few)))
+      higher (eachItem item n [] file next) (row-upto item w u n [] next) (omega (arith, mul-le-mul-right w few)))
 
   -- ---- names
 
@@ -101,7 +103,7 @@ module _ (file : List ℕ) where
   session-upto m at =
       next-upto (byte (within 0 1) file at) _ (byte-upto (within 0 1) at) (omega arith) λ mark a e h.
       next-upto (byte (within 0 width) file a) _ (byte-upto (within 0 width) a) (omega arith) λ n b d i.
-      next-upto (each (λ _. eightBytes n) m [] file b) _ (row-upto (λ _. eightBytes n) 8 (λ _. word-upto n) m [] b) (omega arith) λ words next f j.
+      next-upto (eachItem (λ _. eightBytes n) m [] file b) _ (row-upto (λ _. eightBytes n) 8 (λ _. word-upto n) m [] b) (omega arith) λ words next f j.
       (omega arith)
 
   -- ---- codes: as many as there are in the group, since none comes twice
@@ -112,26 +114,26 @@ module _ (file : List ℕ) where
   each-more fit (x ∷ l) before a e f = (e .0, each-more fit l (before ++ (x ∷ [])) a (e .1) (rw append-assoc f))
 
   module _ (group : ℕ → Bool) (most : ℕ) (few : (l : List ℕ) → Each (New group) [] l → length l ≤ most) where
-    row-of-codes : (n : ℕ) (before : List ℕ) (at : ℕ) → Each (New group) [] before → Upto (at + (most - length before)) (each (code group) n before file at)
-    unfolding each
+    row-of-codes : (n : ℕ) (before : List ℕ) (at : ℕ) → Each (New group) [] before → Upto (at + (most - length before)) (eachItem (code group) n before file at)
+    unfolding eachItem
     row-of-codes zero before at e = omega arith
     row-of-codes (suc n) before at e = go (λ c next f. row-of-codes n (before ++ (c ∷ [])) next f) (code group before file at) refl
       where
-        go : ((c next : ℕ) → Each (New group) [] (before ++ (c ∷ [])) → Upto (next + (most - length (before ++ (c ∷ [])))) (each (code group) n (before ++ (c ∷ [])) file next))
-            → (g : Got ℕ) → code group before file at ≡ g → Upto (at + (most - length before)) (andThen g (λ c next. each (code group) n (before ++ (c ∷ [])) file next))
+        go : ((c next : ℕ) → Each (New group) [] (before ++ (c ∷ [])) → Upto (next + (most - length (before ++ (c ∷ [])))) (eachItem (code group) n (before ++ (c ∷ [])) file next))
+            → (g : Got ℕ) → code group before file at ≡ g → Upto (at + (most - length before)) (andThen g (λ c next. eachItem (code group) n (before ++ (c ∷ [])) file next))
         go below (bad o) d = omega (arith, byte-bad _ at d)
         go below (got c next) d =
             let t = new-sound group file before at c next d in
             let f = each-more (New group) before [] c e (t .0) in
             let k = few (before ++ (c ∷ [])) f in
             let l = length-append before (c ∷ []) in
-            higher (each (code group) n (before ++ (c ∷ [])) file next) (below c next f) (omega (arith, t .1 .end))
+            higher (eachItem (code group) n (before ++ (c ∷ [])) file next) (below c next f) (omega (arith, t .1 .end))
 
-    pub codes-upto : (at : ℕ) → Upto (at + 1 + most) (codes group file at)
+    pub codes-upto : (at : ℕ) → Upto (at + 1 + most) (allCodes group file at)
     unfolding Each
     codes-upto at =
-        next-upto (byte (within 0 255) file at) (λ n next. each (code group) n [] file next) (byte-upto (within 0 255) at) (omega arith)
-        (λ n next e h. higher (each (code group) n [] file next) (row-of-codes n [] next tt) (omega arith))
+        next-upto (byte (within 0 255) file at) (λ n next. eachItem (code group) n [] file next) (byte-upto (within 0 255) at) (omega arith)
+        (λ n next e h. higher (eachItem (code group) n [] file next) (row-of-codes n [] next tt) (omega arith))
 
   -- ---- the whole
 
@@ -140,23 +142,23 @@ module _ (file : List ℕ) where
   settings-upto at =
       next-upto (byte (within 2 2) file at) _ (byte-upto (within 2 2) at) (omega arith) λ k a e h.
       next-upto (byte (within 0 1) file a) _ (byte-upto (within 0 1) a) (omega arith) λ c b d i.
-      next-upto (byte (within 1 bound) file b) _ (byte-upto (within 1 bound) b) (omega arith) λ v next f j.
+      next-upto (byte (within 1 mostSize) file b) _ (byte-upto (within 1 mostSize) b) (omega arith) λ v next f j.
       (omega arith)
 
-  pub names-upto : (at : ℕ) → Upto (at + 273) (namesUpTo propositions file at)
-  names-upto at = higher (namesUpTo propositions file at) (counted-upto 1 propositions name 17 name-upto at) (omega arith)
+  pub names-upto : (at : ℕ) → Upto (at + 273) (namesUpTo filePropositions file at)
+  names-upto at = higher (namesUpTo filePropositions file at) (counted-upto 1 filePropositions name 17 name-upto at) (omega arith)
 
-  pub sessions-upto : (m : ℕ) → m ≤ propositions → (at : ℕ) → Upto (at + 4161) (allSessions m file at)
+  pub sessions-upto : (m : ℕ) → m ≤ filePropositions → (at : ℕ) → Upto (at + 4161) (allSessions m file at)
   sessions-upto m h at =
       higher (allSessions m file at) (counted-upto 1 fileSessions (λ _. session m) (2 + m * 8) (λ _. session-upto m) at) (omega arith)
 
-  pub parts-upto : Upto 4450 (parts file 0)
+  pub parts-upto : Upto mostFile (parts file 0)
   unfolding parts
   parts-upto =
-      next-upto (namesUpTo propositions file 0) _ (names-upto 0) (omega arith) λ ns a e h.
-      next-upto (allSessions (length ns) file a) _ (sessions-upto (length ns) (names-sound file propositions 0 e .few) a) (omega arith) λ ss b f i.
-      next-upto (codes isUnary file b) _ (codes-upto isUnary 5 few-unary b) (omega arith) λ us c g j.
-      next-upto (codes isBinary file c) _ (codes-upto isBinary 6 few-binary c) (omega arith) λ bs d k l.
+      next-upto (namesUpTo filePropositions file 0) _ (names-upto 0) (omega arith) λ ns a e h.
+      next-upto (allSessions (length ns) file a) _ (sessions-upto (length ns) (names-sound file filePropositions 0 e .few) a) (omega arith) λ ss b f i.
+      next-upto (allCodes isUnary file b) _ (codes-upto isUnary 5 few-unary b) (omega arith) λ us c g j.
+      next-upto (allCodes isBinary file c) _ (codes-upto isBinary 6 few-binary c) (omega arith) λ bs d k l.
       next-upto (settings file d) _ (settings-upto d) (omega arith) λ s next m n.
       (omega arith)
 
@@ -170,9 +172,9 @@ module _ (file : List ℕ) where
       go false = u
 
   -- the offset of a refusal is at most 4,450, for every byte string
-  pub offset-small : (o : ℕ) → wholeFile file ≡ bad o → o ≤ 4450
-  offset-small o e = subst (Upto 4450) e (end-upto (parts file 0) 4450 parts-upto)
+  pub offset-small : (o : ℕ) → wholeFile file ≡ bad o → o ≤ mostFile
+  offset-small o e = subst (Upto mostFile) e (end-upto (parts file 0) mostFile parts-upto)
 
   -- and of a names section at most 273
   pub names-offset-small : (o : ℕ) → wholeNames file ≡ bad o → o ≤ 273
-  names-offset-small o e = subst (Upto 273) e (end-upto (namesUpTo propositions file 0) 273 (higher (namesUpTo propositions file 0) (names-upto 0) (omega arith)))
+  names-offset-small o e = subst (Upto 273) e (end-upto (namesUpTo filePropositions file 0) 273 (higher (namesUpTo filePropositions file 0) (names-upto 0) (omega arith)))

@@ -12,11 +12,12 @@ use borrow.Author.Tests.{lt-ltb, le-leb, ne-eqb}
 use lib.ListN.{length, getD, take, drop, length-take, length-append}
 use lib.Seq.{getD-take, take-all, take-take}
 use Rattle.words.specs.Word.{width}
-use Rattle.sections.specs.Numbers.{fileSessions, propositions, bound}
+use Rattle.sections.specs.Numbers.{fileSessions, filePropositions}
+use Rattle.rules.specs.Limits.{mostSize}
 use Rattle.names.specs.Names.{nameLength, letter, name, namesUpTo}
 use Rattle.rules.specs.Lists.{Each}
-use Rattle.reading.specs.Reading.{Got, got, bad, Reader, andThen, each, byte, within, counted, atEnd}
-use Rattle.file.specs.Offence.{eightBytes, session, allSessions, isUnary, isBinary, code, codes, settings, parts, wholeFile}
+use Rattle.reading.specs.Reading.{Got, got, bad, Reader, andThen, eachItem, byte, within, counted, atEnd}
+use Rattle.file.specs.Offence.{eightBytes, session, allSessions, isUnary, isBinary, code, allCodes, settings, parts, wholeFile}
 use Rattle.reading.proofs.Lists.{within-high}
 use Rattle.reading.proofs.Readers.{byte-sound}
 use Rattle.sections.proofs.CodeLaws.{New, new-sound}
@@ -42,8 +43,8 @@ module _ (front file : List ℕ) (k : ℕ) (short : k ≤ length front) (long : 
 
   module _ {A : Type 0} (item : List A → Reader A) (w : ℕ) (ends : (before : List A) (at : ℕ) → Upto (at + w) (item before file at))
       (same : (before : List A) (at : ℕ) → at + w ≤ k → item before front at ≡ item before file at) where
-    same-row : (n : ℕ) (before : List A) (at : ℕ) → at + n * w ≤ k → each item n before front at ≡ each item n before file at
-    unfolding each
+    same-row : (n : ℕ) (before : List A) (at : ℕ) → at + n * w ≤ k → eachItem item n before front at ≡ eachItem item n before file at
+    unfolding eachItem
     same-row zero before at h = refl
     same-row (suc n) before at h =
         same-then (item before front at) (item before file at) _ _ (same before at (omega (arith, suc-mul n w))) (ends before at)
@@ -86,8 +87,9 @@ module _ (front file : List ℕ) (k : ℕ) (short : k ≤ length front) (long : 
   -- ---- codes: after as many as there are in the group, one more byte is looked at and refused
 
   module _ (group : ℕ → Bool) (most : ℕ) (few : (l : List ℕ) → Each (New group) [] l → length l ≤ most) where
-    same-row-of-codes : (n : ℕ) (before : List ℕ) (at : ℕ) → Each (New group) [] before → at + (most - length before) < k → each (code group) n before front at ≡ each (code group) n before file at
-    unfolding each
+    same-row-of-codes : (n : ℕ) (before : List ℕ) (at : ℕ) → Each (New group) [] before → at + (most - length before) < k
+        → eachItem (code group) n before front at ≡ eachItem (code group) n before file at
+    unfolding eachItem
     same-row-of-codes zero before at e h = refl
     same-row-of-codes (suc n) before at e h =
         same-then (code group before front at) (code group before file at) _ _ (same-byte _ at (omega arith)) (byte-upto file _ at)
@@ -96,7 +98,7 @@ module _ (front file : List ℕ) (k : ℕ) (short : k ≤ length front) (long : 
         let f = each-more file (New group) before [] c e (t .0) in
         same-row-of-codes n (before ++ (c ∷ [])) next f (omega (arith, few (before ++ (c ∷ [])) f, length-append before (c ∷ []))))
 
-    same-codes : (at : ℕ) → at + 1 + most < k → codes group front at ≡ codes group file at
+    same-codes : (at : ℕ) → at + 1 + most < k → allCodes group front at ≡ allCodes group file at
     unfolding Each
     same-codes at h =
         same-then (byte (within 0 255) front at) (byte (within 0 255) file at) _ _ (same-byte (within 0 255) at (omega arith)) (byte-upto file (within 0 255) at)
@@ -109,23 +111,23 @@ module _ (front file : List ℕ) (k : ℕ) (short : k ≤ length front) (long : 
   same-settings at h =
       same-then (byte (within 2 2) front at) (byte (within 2 2) file at) _ _ (same-byte (within 2 2) at (omega arith)) (byte-upto file (within 2 2) at) λ n a e i.
       same-then (byte (within 0 1) front a) (byte (within 0 1) file a) _ _ (same-byte (within 0 1) a (omega arith)) (byte-upto file (within 0 1) a) λ c b d j.
-      rw (same-byte (within 1 bound) b (omega arith))
+      rw (same-byte (within 1 mostSize) b (omega arith))
 
-  same-names : (at : ℕ) → at + 273 ≤ k → namesUpTo propositions front at ≡ namesUpTo propositions file at
-  same-names at h = same-counted name 17 (name-upto file) same-name 1 propositions at (omega arith)
+  same-names : (at : ℕ) → at + 273 ≤ k → namesUpTo filePropositions front at ≡ namesUpTo filePropositions file at
+  same-names at h = same-counted name 17 (name-upto file) same-name 1 filePropositions at (omega arith)
 
-  same-sessions : (m : ℕ) → m ≤ propositions → (at : ℕ) → at + 4161 ≤ k → allSessions m front at ≡ allSessions m file at
+  same-sessions : (m : ℕ) → m ≤ filePropositions → (at : ℕ) → at + 4161 ≤ k → allSessions m front at ≡ allSessions m file at
   same-sessions m l at h = same-counted (λ _. session m) (2 + m * 8) (λ _. session-upto file m) (λ _. same-session m) 1 fileSessions at (omega arith)
 
   module _ (beyond : 4450 < k) where
     same-parts : parts front 0 ≡ parts file 0
     unfolding parts
     same-parts =
-        same-then (namesUpTo propositions front 0) (namesUpTo propositions file 0) _ _ (same-names 0 (omega arith)) (names-upto file 0) λ ns a e h.
-        let few = names-sound file propositions 0 e .few in
+        same-then (namesUpTo filePropositions front 0) (namesUpTo filePropositions file 0) _ _ (same-names 0 (omega arith)) (names-upto file 0) λ ns a e h.
+        let few = names-sound file filePropositions 0 e .few in
         same-then (allSessions (length ns) front a) (allSessions (length ns) file a) _ _ (same-sessions (length ns) few a (omega arith)) (sessions-upto file (length ns) few a) λ ss b f i.
-        same-then (codes isUnary front b) (codes isUnary file b) _ _ (same-codes isUnary 5 few-unary b (omega arith)) (codes-upto file isUnary 5 few-unary b) λ us c g j.
-        same-then (codes isBinary front c) (codes isBinary file c) _ _ (same-codes isBinary 6 few-binary c (omega arith)) (codes-upto file isBinary 6 few-binary c) λ bs d l m.
+        same-then (allCodes isUnary front b) (allCodes isUnary file b) _ _ (same-codes isUnary 5 few-unary b (omega arith)) (codes-upto file isUnary 5 few-unary b) λ us c g j.
+        same-then (allCodes isBinary front c) (allCodes isBinary file c) _ _ (same-codes isBinary 6 few-binary c (omega arith)) (codes-upto file isBinary 6 few-binary c) λ bs d l m.
         rw (same-settings d (omega arith))
 
     -- both have more bytes than any parts

@@ -8,45 +8,46 @@ use native.Mathlib.Omega.{arith}
 use borrow.Author.Tests.{eq-eqb, ne-eqb}
 use lib.Dec.{eqb}
 use lib.ListN.{length, getD}
-use Rattle.reading.specs.declared.Step.{Step}
-use Rattle.reading.specs.declared.Step.the-variants.{Read, Broken}
+use Rattle.reading.specs.declared.ReadStep.{ReadStep}
+use Rattle.reading.specs.declared.ReadStep.the-variants.{Read, Broken}
 use Rattle.file.specs.declared.Tail.{Tail}
 use Rattle.file.specs.declared.Tail.the-variants.{Read as TailRead, Broken as TailBroken}
 use Rattle.file.specs.declared.ReadAnswer.{ReadAnswer}
 use Rattle.file.specs.declared.ReadAnswer.the-variants.{Parts as AllParts, Broken as FileBroken}
-use Rattle.sections.specs.Numbers.{propositions, bound}
+use Rattle.sections.specs.Numbers.{filePropositions}
+use Rattle.rules.specs.Limits.{mostSize}
 use Rattle.names.specs.Names.{nameBytes, namesUpTo}
 use Rattle.file.specs.Format.{FileSession, Parts}
 use Rattle.reading.specs.Reading.{section, Got, got, bad, andThen, byte, within, atEnd, stepOf}
-use Rattle.file.specs.Offence.{allSessions, isUnary, isBinary, codes, Settings, settings, parts, wholeFile}
-use Rattle.file.specs.Inner.{tailOf, tailAt, numbersOf, answerOf}
+use Rattle.file.specs.Offence.{allSessions, isUnary, isBinary, allCodes, Settings, settings, parts, wholeFile}
+use Rattle.file.specs.Inner.{tailOf, tailAt, numbersOf, readAnswerOf}
 use Rattle.reading.proofs.Steps.{step-read, step-broken, byte-read, byte-next}
 use Rattle.names.proofs.NameLaws.{names-sound}
 
 module _ (file : List ℕ) where
   -- ---- settings, with nothing after them
 
-  module _ (at : ℕ) (r : Step) (e : r ≡ stepOf (λ b. b) (byte (within 2 2) file at)) where
+  module _ (at : ℕ) (r : ReadStep) (e : r ≡ stepOf (λ b. b) (byte (within 2 2) file at)) where
     pub tail-no-count : {o : ℕ} → r ≡ Broken o → TailBroken o ≡ tailOf (tailAt file at)
     unfolding settings atEnd
     tail-no-count q = rw (step-broken (λ b. b) r (byte (within 2 2) file at) e q)
 
-    module _ {k a : ℕ} (q : r ≡ Read k a) (s : Step) (d : s ≡ stepOf (λ b. b) (byte (within 0 1) file a)) where
+    module _ {k a : ℕ} (q : r ≡ Read k a) (s : ReadStep) (d : s ≡ stepOf (λ b. b) (byte (within 0 1) file a)) where
       pub tail-no-mark : {o : ℕ} → s ≡ Broken o → TailBroken o ≡ tailOf (tailAt file at)
       unfolding settings atEnd
       tail-no-mark p = rw (byte-read r (byte (within 2 2) file at) e q, step-broken (λ b. b) s (byte (within 0 1) file a) d p)
 
-      module _ {c b : ℕ} (p : s ≡ Read c b) (t : Step) (h : t ≡ stepOf (λ b. b) (byte (within 1 bound) file b)) where
+      module _ {c b : ℕ} (p : s ≡ Read c b) (t : ReadStep) (h : t ≡ stepOf (λ b. b) (byte (within 1 mostSize) file b)) where
         pub tail-no-bound : {o : ℕ} → t ≡ Broken o → TailBroken o ≡ tailOf (tailAt file at)
         unfolding settings atEnd
-        tail-no-bound g = rw (byte-read r (byte (within 2 2) file at) e q, byte-read s (byte (within 0 1) file a) d p, step-broken (λ b. b) t (byte (within 1 bound) file b) h g)
+        tail-no-bound g = rw (byte-read r (byte (within 2 2) file at) e q, byte-read s (byte (within 0 1) file a) d p, step-broken (λ b. b) t (byte (within 1 mostSize) file b) h g)
 
         module _ {v next : ℕ} (g : t ≡ Read v next) where
           mark-there : (a < length file) × (b ≡ a + 1) × (getD file a 0 ≡ c)
           mark-there = byte-next (within 0 1) file a (byte-read s (byte (within 0 1) file a) d p)
 
           bound-there : (b < length file) × (next ≡ b + 1) × (getD file b 0 ≡ v)
-          bound-there = byte-next (within 1 bound) file b (byte-read t (byte (within 1 bound) file b) h g)
+          bound-there = byte-next (within 1 mostSize) file b (byte-read t (byte (within 1 mostSize) file b) h g)
 
           pub tail-mark-in : a < length file
           tail-mark-in = mark-there .0
@@ -56,7 +57,7 @@ module _ (file : List ℕ) where
 
           pub tail-extra : (next ≡ length file → ⊥) → TailBroken next ≡ tailOf (tailAt file at)
           unfolding settings atEnd
-          tail-extra n = rw (byte-read r (byte (within 2 2) file at) e q, byte-read s (byte (within 0 1) file a) d p, byte-read t (byte (within 1 bound) file b) h g, ne-eqb next (length file) n)
+          tail-extra n = rw (byte-read r (byte (within 2 2) file at) e q, byte-read s (byte (within 0 1) file a) d p, byte-read t (byte (within 1 mostSize) file b) h g, ne-eqb next (length file) n)
 
           pub tail-whole : next ≡ length file → TailRead (getD file a 0) (getD file b 0) ≡ tailOf (tailAt file at)
           unfolding settings atEnd
@@ -64,7 +65,7 @@ module _ (file : List ℕ) where
               rw (
                 byte-read r (byte (within 2 2) file at) e q,
                 byte-read s (byte (within 0 1) file a) d p,
-                byte-read t (byte (within 1 bound) file b) h g,
+                byte-read t (byte (within 1 mostSize) file b) h g,
                 eq-eqb next (length file) n,
                 mark-there .2,
                 bound-there .2,
@@ -82,50 +83,50 @@ module _ (file : List ℕ) where
       go true = refl
       go false = refl
 
-  module _ (r : Step) (e : r ≡ stepOf length (namesUpTo propositions file 0)) where
-    pub judge-names : {o : ℕ} → r ≡ Broken o → FileBroken o ≡ answerOf file
+  module _ (r : ReadStep) (e : r ≡ stepOf length (namesUpTo filePropositions file 0)) where
+    pub judge-names : {o : ℕ} → r ≡ Broken o → FileBroken o ≡ readAnswerOf file
     unfolding parts atEnd
-    judge-names q = rw (step-broken length r (namesUpTo propositions file 0) e q)
+    judge-names q = rw (step-broken length r (namesUpTo filePropositions file 0) e q)
 
     module _ {m a : ℕ} (q : r ≡ Read m a) where
-      names-read : (ns : List (List ℕ)) × (namesUpTo propositions file 0 ≡ got ns a) × (length ns ≡ m)
-      names-read = step-read length r (namesUpTo propositions file 0) e q
+      names-read : (ns : List (List ℕ)) × (namesUpTo filePropositions file 0 ≡ got ns a) × (length ns ≡ m)
+      names-read = step-read length r (namesUpTo filePropositions file 0) e q
 
       ns : List (List ℕ)
       ns = names-read .0
 
       names-end : length (section nameBytes ns) ≡ a
       unfolding ns
-      names-end = omega (arith, names-sound file propositions 0 (names-read .1) .spans .end)
+      names-end = omega (arith, names-sound file filePropositions 0 (names-read .1) .spans .end)
 
-      module _ (s : Step) (d : s ≡ stepOf length (allSessions m file a)) where
+      module _ (s : ReadStep) (d : s ≡ stepOf length (allSessions m file a)) where
         sessions-step : s ≡ stepOf length (allSessions (length ns) file a)
         unfolding ns
         sessions-step = d ∙ ap (λ (k : ℕ). stepOf length (allSessions k file a)) (sym (names-read .2))
 
-        pub judge-sessions : {o : ℕ} → s ≡ Broken o → FileBroken o ≡ answerOf file
+        pub judge-sessions : {o : ℕ} → s ≡ Broken o → FileBroken o ≡ readAnswerOf file
         unfolding parts atEnd ns
         judge-sessions p = rw (names-read .1, step-broken length s (allSessions (length ns) file a) sessions-step p)
 
-        module _ {n b : ℕ} (p : s ≡ Read n b) (t : Step) (f : t ≡ stepOf length (codes isUnary file b)) where
+        module _ {n b : ℕ} (p : s ≡ Read n b) (t : ReadStep) (f : t ≡ stepOf length (allCodes isUnary file b)) where
           sessions-read : (ss : List FileSession) × (allSessions (length ns) file a ≡ got ss b) × (length ss ≡ n)
           sessions-read = step-read length s (allSessions (length ns) file a) sessions-step p
 
-          pub judge-unary : {o : ℕ} → t ≡ Broken o → FileBroken o ≡ answerOf file
+          pub judge-unary : {o : ℕ} → t ≡ Broken o → FileBroken o ≡ readAnswerOf file
           unfolding parts atEnd ns
-          judge-unary g = rw (names-read .1, sessions-read .1, step-broken length t (codes isUnary file b) f g)
+          judge-unary g = rw (names-read .1, sessions-read .1, step-broken length t (allCodes isUnary file b) f g)
 
-          module _ {u c : ℕ} (g : t ≡ Read u c) (w : Step) (h : w ≡ stepOf length (codes isBinary file c)) where
-            unary-read : (us : List ℕ) × (codes isUnary file b ≡ got us c) × (length us ≡ u)
-            unary-read = step-read length t (codes isUnary file b) f g
+          module _ {u c : ℕ} (g : t ≡ Read u c) (w : ReadStep) (h : w ≡ stepOf length (allCodes isBinary file c)) where
+            unary-read : (us : List ℕ) × (allCodes isUnary file b ≡ got us c) × (length us ≡ u)
+            unary-read = step-read length t (allCodes isUnary file b) f g
 
-            pub judge-binary : {o : ℕ} → w ≡ Broken o → FileBroken o ≡ answerOf file
+            pub judge-binary : {o : ℕ} → w ≡ Broken o → FileBroken o ≡ readAnswerOf file
             unfolding parts atEnd ns
-            judge-binary k = rw (names-read .1, sessions-read .1, unary-read .1, step-broken length w (codes isBinary file c) h k)
+            judge-binary k = rw (names-read .1, sessions-read .1, unary-read .1, step-broken length w (allCodes isBinary file c) h k)
 
             module _ {v i : ℕ} (k : w ≡ Read v i) (x : Tail) (y : x ≡ tailOf (tailAt file i)) where
-              binary-read : (bs : List ℕ) × (codes isBinary file c ≡ got bs i) × (length bs ≡ v)
-              binary-read = step-read length w (codes isBinary file c) h k
+              binary-read : (bs : List ℕ) × (allCodes isBinary file c ≡ got bs i) × (length bs ≡ v)
+              binary-read = step-read length w (allCodes isBinary file c) h k
 
               whole : Settings → Parts
               whole z = record { names = ns; sessions = sessions-read .0; unary = unary-read .0; binary = binary-read .0; constants = z .constants; bound = z .bound }
@@ -143,13 +144,13 @@ module _ (file : List ℕ) where
               answer-is (bad o) = refl
               answer-is (got z next) = rw (sessions-read .2, names-read .2, names-end, unary-read .2, binary-read .2)
 
-              judged : answer x ≡ answerOf file
+              judged : answer x ≡ readAnswerOf file
               judged = ap answer y ∙ answer-is (tailAt file i) ∙ ap numbersOf (sym file-is)
 
-              pub judge-tail : {o : ℕ} → x ≡ TailBroken o → FileBroken o ≡ answerOf file
+              pub judge-tail : {o : ℕ} → x ≡ TailBroken o → FileBroken o ≡ readAnswerOf file
               unfolding answer
               judge-tail z = ap answer (sym z) ∙ judged
 
-              pub judge-whole : {constants bound : ℕ} → x ≡ TailRead constants bound → AllParts n m a u v constants bound ≡ answerOf file
+              pub judge-whole : {constants bound : ℕ} → x ≡ TailRead constants bound → AllParts n m a u v constants bound ≡ readAnswerOf file
               unfolding answer
               judge-whole z = ap answer (sym z) ∙ judged

@@ -15,7 +15,7 @@ use lib.Seq.{drop-drop, getD-take, getD-drop}
 use Rattle.words.specs.Word.{width, Wf}
 use Rattle.words.proofs.At.{lt-wf, wf-lt}
 use Rattle.file.specs.Format.{FileSession, wordBytes, sessionBytes, lowFirst, GoodSession}
-use Rattle.reading.specs.Reading.{one, got, bad, each, byte, within}
+use Rattle.reading.specs.Reading.{one, got, bad, eachItem, byte, within}
 use Rattle.file.specs.Offence.{number, eightBytes, session}
 use Rattle.reading.proofs.Spans.{Spans, both, first, second, taken}
 use Rattle.reading.proofs.Lists.{within-high, within-is}
@@ -83,7 +83,7 @@ module _ (file : List ℕ) where
       let u = in-turn (byte (within 0 width) file (t .1)) _ (t .3) in
       let length = byte-sound (within 0 width) file (t .1) (u .2) in
       let short = within-high 0 width (u .0) (length .0) in
-      let v = in-turn (each (λ _. eightBytes (u .0)) m [] file (u .1)) _ (u .3) in
+      let v = in-turn (eachItem (λ _. eightBytes (u .0)) m [] file (u .1)) _ (u .3) in
       let r = row-sound (λ _. eightBytes (u .0)) (Fits (u .0)) wordBytes file (words-sound bs (u .0) short) m [] (u .1) (v .2) in
       let w : v .0 ≡ r .new = r .is in
       let is : record { mark = t .0; length = u .0; words = v .0 } ≡ s = got-value (v .3) in

@@ -2,7 +2,6 @@
 -- of session data and the search's own tests, a writer's bytes read back give the parts, and any two allowed results are equal.
 -- Assumes nothing.
 use mathlib.Core.Path.{_≡_, refl, sym, ap, _∙_}
-use mathlib.Core.Logic.{_↔_}
 use mathlib.Core.Bool.{true}
 use mathlib.Core.List.{List, [], _∷_, _++_, map, flatMap, List·Memᴰ, List·Memᴰ·head, List·Memᴰ·tail, Memᴰ·cast}
 use Prim.Native.Nat.{ℕ, zero, suc, _+_, _*_, _≤_, _<_}
@@ -21,38 +20,34 @@ use Rattle.names.specs.Names.{nameBytes, wholeNames}
 use Rattle.rules.specs.Lists.{Each}
 use Rattle.file.specs.Offence.{wholeFile}
 use Rattle.session.specs.Data.{dataRows}
+use Rattle.session.specs.Recording.{recording}
 use Rattle.rules.specs.Answers.{Said}
-use Rattle.file.specs.Reading.{said, Lent, lent, After, after, marksOf, lengthsOf, wordsOf, roomFor, readOf}
+use Rattle.file.specs.Reading.{saidRead, Lent, lent, After, readAfter, marksOf, lengthsOf, wordsOf, roomFor, readOf}
 use Rattle.reading.proofs.Readers.{got-bad, got-value}
 use Rattle.reading.proofs.Ends.{each-at}
 use Rattle.names.proofs.Theorems.{names-accepts}
-use Rattle.file.proofs.Numbers.{Bytes}
+use Rattle.file.specs.Promises.{Bytes, AcceptsGood, RefusesOthers, BytesReadBack, OneReading}
 use Rattle.file.proofs.Whole.{passed-is-good, good-passes}
 use Rattle.file.proofs.Positions.{length-all-words}
 use Rattle.session.proofs.DataLaws.{is-0, inside, roomy, block}
 
 -- ---- the format
 
-module _ (file : List ℕ) (bytes : Bytes file) where
-  -- a byte string is read as parts exactly where it is the bytes of these parts, and they are good
-  pub accepts : (p : Parts) → (wholeFile file ≡ got p (length file)) ↔ (Good p × (fileBytes p ≡ file))
-  accepts p = (λ e. passed-is-good file bytes p (length file) e, λ t. good-passes file p (t .0) (t .1))
+pub accepts-good : AcceptsGood
+accepts-good file bytes p = (λ e. passed-is-good file bytes p (length file) e, λ t. good-passes file p (t .0) (t .1))
 
-  -- the reader refuses a byte string exactly where it is no good file
-  pub refuses : ((o : ℕ) × (wholeFile file ≡ bad o)) ↔ (GoodFile file → ⊥)
-  refuses = (λ e g. got-bad (sym (good-passes file (g .0) (g .1) (g .2)) ∙ e .1), λ n. go n (wholeFile file) refl)
-    where
-      go : (GoodFile file → ⊥) → (g : Got Parts) → wholeFile file ≡ g → (o : ℕ) × (wholeFile file ≡ bad o)
-      go n (bad o) e = (o, e)
-      go n (got p next) e = let t = passed-is-good file bytes p next e in absurd (n (p, t .0, t .1))
+pub refuses-others : RefusesOthers
+refuses-others file bytes = (λ e g. got-bad (sym (good-passes file (g .0) (g .1) (g .2)) ∙ e .1), λ n. go n (wholeFile file) refl)
+  where
+    go : (GoodFile file → ⊥) → (g : Got Parts) → wholeFile file ≡ g → (o : ℕ) × (wholeFile file ≡ bad o)
+    go n (bad o) e = (o, e)
+    go n (got p next) e = let t = passed-is-good file bytes p next e in absurd (n (p, t .0, t .1))
 
--- a writer's bytes, read back, give the parts
-pub round-trip : (p : Parts) → Good p → wholeFile (fileBytes p) ≡ got p (length (fileBytes p))
-round-trip p g = good-passes (fileBytes p) p g refl
+pub bytes-read-back : BytesReadBack
+bytes-read-back p g = good-passes (fileBytes p) p g refl
 
--- so a good file has one reading
-pub one-reading : (p q : Parts) → Good p → Good q → fileBytes p ≡ fileBytes q → p ≡ q
-one-reading p q g h e = got-value (sym (good-passes (fileBytes q) p g e) ∙ round-trip q h)
+pub one-reading : OneReading
+one-reading p q g h e = got-value (sym (good-passes (fileBytes q) p g e) ∙ bytes-read-back q h)
 
 -- ---- a names section
 
@@ -96,7 +91,7 @@ module _ (m : ℕ) where
       (words-good ss (before ++ (s ∷ [])) (e .1) i (omega arith) p l)
 
 -- what the reader hands out passes the tests of session data, whatever stands after it in the lent slices
-pub handed-out-passes : (p : Parts) → Good p → (x y z : List ℕ) → Decided (dataRows (length (p .sessions)) (length (p .names)) (marksOf p ++ x) (lengthsOf p ++ y) (wordsOf p ++ z)) 0
+pub handed-out-passes : (p : Parts) → Good p → (x y z : List ℕ) → Decided (dataRows (recording (length (p .sessions)) (length (p .names)) (marksOf p ++ x) (lengthsOf p ++ y) (wordsOf p ++ z))) 0
 handed-out-passes p g x y z =
     is-0 r m (marksOf p ++ x) (lengthsOf p ++ y) (wordsOf p ++ z)
     (inside r m (g .someSessions) (g .fewSessions) (g .someNames) (g .fewNames))
@@ -126,7 +121,7 @@ handed-out-passes p g x y z =
 
 -- in the words of the contract: where `read` answers parts, the slices that it leaves pass
 pub read-passes : (file : List ℕ) → Bytes file → (l : Lent) (p : Parts) (next : ℕ) → wholeFile file ≡ got p next → roomFor p l ≡ true
-    → Decided (dataRows (length (p .sessions)) (length (p .names)) (readOf file l .left .marks) (readOf file l .left .lengths) (readOf file l .left .words)) 0
+    → Decided (dataRows (recording (length (p .sessions)) (length (p .names)) (readOf file l .left .marks) (readOf file l .left .lengths) (readOf file l .left .words))) 0
 read-passes file bytes l p next e room =
     let g = passed-is-good file bytes p next e .0 in
     rw (e, room) (handed-out-passes p g (drop (length (marksOf p)) (l .marks)) (drop (length (lengthsOf p)) (l .lengths)) (drop (length (wordsOf p)) (l .words)))
@@ -153,7 +148,7 @@ binary-once p g i j h k e = each-at GoodBinary 0 (p .binary) [] (g .binary) j k 
 
 -- ---- any two allowed results are equal
 
-said-one : (a b : ReadAnswer) → said a ≡ said b → a ≡ b
+said-one : (a b : ReadAnswer) → saidRead a ≡ saidRead b → a ≡ b
 said-one (AllParts r m n u v c d) (AllParts r′ m′ n′ u′ v′ c′ d′) e =
     let t : r ∷ m ∷ n ∷ u ∷ v ∷ c ∷ d ∷ [] ≡ r′ ∷ m′ ∷ n′ ∷ u′ ∷ v′ ∷ c′ ∷ d′ ∷ [] = ap (λ (s : Said). s .values) e in
     cc
@@ -167,8 +162,9 @@ said-one Room (Broken o) e = let t : _≡_ {A = ℕ} 3 8 = ap (λ (s : Said). s 
 said-one Room Room e = refl
 
 -- `read`: the answer and the later contents of all five lent slices
-pub read-unique : (file : List ℕ) (l : Lent) (a b : ReadAnswer) (m n u v w m′ n′ u′ v′ w′ : List ℕ) → after (said a) m n u v w ≡ readOf file l → after (said b) m′ n′ u′ v′ w′ ≡ readOf file l
+pub read-unique : (file : List ℕ) (l : Lent) (a b : ReadAnswer) (m n u v w m′ n′ u′ v′ w′ : List ℕ) → readAfter (saidRead a) m n u v w ≡ readOf file l
+    → readAfter (saidRead b) m′ n′ u′ v′ w′ ≡ readOf file l
     → (a ≡ b) × (lent m n u v w ≡ lent m′ n′ u′ v′ w′)
 read-unique file l a b m n u v w m′ n′ u′ v′ w′ p q =
-    let e : after (said a) m n u v w ≡ after (said b) m′ n′ u′ v′ w′ = p ∙ sym q in
+    let e : readAfter (saidRead a) m n u v w ≡ readAfter (saidRead b) m′ n′ u′ v′ w′ = p ∙ sym q in
     (said-one a b (ap (λ (x : After). x .answer) e), ap (λ (x : After). x .left) e)

@@ -7,12 +7,12 @@ use Prim.Native.Nat.{ℕ, _+_, _≤_, _<_}
 use native.Mathlib.Omega.{arith}
 use lib.Dec.{lit<, lit≤}
 use lib.ListN.{length}
-use Rattle.sections.specs.Numbers.{propositions, fileSessions}
+use Rattle.sections.specs.Numbers.{filePropositions, fileSessions}
 use Rattle.file.specs.Format.{Parts, FileSession, sessionBytes, fileBytes, Good}
 use Rattle.reading.specs.Reading.{one, section, got}
 use Rattle.names.specs.Names.{nameBytes, namesUpTo}
 use Rattle.rules.specs.Lists.{Each}
-use Rattle.file.specs.Offence.{session, code, isUnary, isBinary, allSessions, codes, Settings, settings, parts, wholeFile}
+use Rattle.file.specs.Offence.{session, code, isUnary, isBinary, allSessions, allCodes, Settings, settings, parts, wholeFile}
 use Rattle.reading.proofs.Spans.{Spans, both, first, second}
 use Rattle.sequence.specs.Operators.{Unary, Binary, unaryCode, binaryCode, not, weakNext, strongNext, finally, globally, or, and, until, release, implies, equiv}
 use Rattle.reading.proofs.Readers.{got-value, got-next, in-turn, Section, section-sound, section-complete}
@@ -65,10 +65,10 @@ module _ (file : List ℕ) where
   abbrev pub Codes : (ℕ → Bool) → ℕ → List ℕ → ℕ → Type 0
   Codes group at all next = Section (code group) (New group) one file 0 255 at all next
 
-  pub codes-sound : (group : ℕ → Bool) (at : ℕ) {all : List ℕ} {next : ℕ} → codes group file at ≡ got all next → Codes group at all next
+  pub codes-sound : (group : ℕ → Bool) (at : ℕ) {all : List ℕ} {next : ℕ} → allCodes group file at ≡ got all next → Codes group at all next
   codes-sound group at e = section-sound (code group) (New group) one file (new-sound group file) 0 255 at e
 
-  pub codes-complete : (group : ℕ → Bool) (at : ℕ) (all : List ℕ) {next : ℕ} → Codes group at all next → codes group file at ≡ got all next
+  pub codes-complete : (group : ℕ → Bool) (at : ℕ) (all : List ℕ) {next : ℕ} → Codes group at all next → allCodes group file at ≡ got all next
   codes-complete group at all w = section-complete (code group) (New group) one file (new-complete group file) 0 255 at all w
 
   -- ---- the parts
@@ -76,13 +76,13 @@ module _ (file : List ℕ) where
   pub parts-sound : Bytes file → (at : ℕ) (p : Parts) (next : ℕ) → parts file at ≡ got p next → Good p × Spans file at (fileBytes p) next
   unfolding parts
   parts-sound bs at p next e =
-      let t = in-turn (namesUpTo propositions file at) _ e in
-      let n = names-sound file propositions at (t .2) in
+      let t = in-turn (namesUpTo filePropositions file at) _ e in
+      let n = names-sound file filePropositions at (t .2) in
       let u = in-turn (allSessions (length (t .0)) file (t .1)) _ (t .3) in
       let s = all-sound bs (length (t .0)) (t .1) (u .2) in
-      let v = in-turn (codes isUnary file (u .1)) _ (u .3) in
+      let v = in-turn (allCodes isUnary file (u .1)) _ (u .3) in
       let c = codes-sound isUnary (u .1) (v .2) in
-      let w = in-turn (codes isBinary file (v .1)) _ (v .3) in
+      let w = in-turn (allCodes isBinary file (v .1)) _ (v .3) in
       let d = codes-sound isBinary (v .1) (w .2) in
       let x = in-turn (settings file (w .1)) _ (w .3) in
       let f = settings-sound file (w .1) (x .0) (x .1) (x .2) in
@@ -127,7 +127,7 @@ module _ (file : List ℕ) where
       let r3 = second file g (h ++ k) r2 in
       let r4 = second file h k r3 in
       rw (
-        names-complete file propositions at (p .names) (record { some = w .someNames; few = w .fewNames; fits = w .names; spans = first file a (b ++ (g ++ (h ++ k))) r }),
+        names-complete file filePropositions at (p .names) (record { some = w .someNames; few = w .fewNames; fits = w .names; spans = first file a (b ++ (g ++ (h ++ k))) r }),
         all-complete (length (p .names)) (at + length a) (p .sessions) (record { some = w .someSessions; few = w .fewSessions; fits = w .sessions; spans = first file b (g ++ (h ++ k)) r1 }),
         codes-complete isUnary (at + length a + length b) (p .unary) (record { some = omega arith; few = omega (arith, few-unary (p .unary) us); fits = us; spans = first file g (h ++ k) r2 }),
         codes-complete isBinary (at + length a + length b + length g) (p .binary) (record { some = omega arith; few = omega (arith, few-binary (p .binary) bs); fits = bs; spans = first file h k r3 }),

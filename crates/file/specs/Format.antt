@@ -6,7 +6,8 @@ use Prim.Native.Nat.{ℕ, zero, suc, _/_, _%_, _≤_}
 use lib.ListN.{length}
 use Rattle.words.specs.Word.{width, WfRecorded}
 use Rattle.sequence.specs.Operators.{Unary, Binary, unaryCode, binaryCode}
-use Rattle.sections.specs.Numbers.{fileSessions, propositions, bound}
+use Rattle.sections.specs.Numbers.{fileSessions, filePropositions}
+use Rattle.rules.specs.Limits.{mostSize}
 pub use Rattle.sections.specs.Sections.{FileSession}
 use Rattle.reading.specs.Reading.{section, one}
 use Rattle.names.specs.Names.{nameBytes, GoodName}
@@ -64,7 +65,7 @@ GoodBinary before c = ((op : Binary) × (binaryCode op ≡ c)) × (List·Memᴰ 
 -- r and m within their numbers (1), B and the constants mark (2)
 pub record Good (p : Parts) : Type 0 where
   pub someNames : 1 ≤ length (p .names)
-  pub fewNames : length (p .names) ≤ propositions
+  pub fewNames : length (p .names) ≤ filePropositions
   pub names : Each GoodName [] (p .names)
   pub someSessions : 1 ≤ length (p .sessions)
   pub fewSessions : length (p .sessions) ≤ fileSessions
@@ -73,7 +74,7 @@ pub record Good (p : Parts) : Type 0 where
   pub binary : Each GoodBinary [] (p .binary)
   pub constants : p .constants ≤ 1
   pub someBound : 1 ≤ p .bound
-  pub lowBound : p .bound ≤ bound
+  pub lowBound : p .bound ≤ mostSize
 
 -- a good file is the bytes of some good parts
 abbrev pub GoodFile : List ℕ → Type 0

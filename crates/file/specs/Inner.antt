@@ -1,7 +1,10 @@
 -- How the reader's private functions speak of what they found. No public contract cites this file, so nothing here has to be believed.
 -- Assumes nothing.
+use mathlib.Core.Path.{_≡_}
+use mathlib.Core.Bool.{Bool, true, false, _&&_}
 use mathlib.Core.List.{List, [], _∷_, _++_}
-use Prim.Native.Nat.{ℕ, zero, suc, _+_, _*_}
+use Prim.Native.Nat.{ℕ, zero, suc, _+_, _*_, _≤_}
+use lib.Dec.{leb}
 use lib.ListN.{length, getD, take, drop}
 use Rattle.file.specs.declared.Tail.{Tail}
 use Rattle.file.specs.declared.Tail.the-variants.{Read as TailRead, Broken as TailBroken}
@@ -26,8 +29,15 @@ numbersOf (got p next) =
     AllParts (length (p .sessions)) (length (p .names)) (length (section nameBytes (p .names))) (length (p .unary)) (length (p .binary)) (p .constants) (p .bound)
 numbersOf (bad o) = FileBroken o
 
-abbrev pub answerOf : List ℕ → ReadAnswer
-answerOf file = numbersOf (wholeFile file)
+abbrev pub readAnswerOf : List ℕ → ReadAnswer
+readAnswerOf file = numbersOf (wholeFile file)
+
+-- ---- the room
+
+-- whether slices of these lengths have room for r sessions, n words, u codes and v codes
+pub record Enough (marks lengths words unary binary r n u v : ℕ) (b : Bool) : Type 0 where
+  pub fits : b ≡ true → (r ≤ marks) × (r ≤ lengths) × (n ≤ words) × (u ≤ unary) × (v ≤ binary)
+  pub lacks : b ≡ false → (leb r marks && (leb r lengths && (leb n words && (leb u unary && leb v binary)))) ≡ false
 
 -- ---- the writing pass
 

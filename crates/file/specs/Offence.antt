@@ -5,11 +5,12 @@
 use mathlib.Core.List.{List}
 use Prim.Native.Nat.{ℕ}
 use lib.ListN.{length}
-use Rattle.sections.specs.Numbers.{propositions, bound}
+use Rattle.sections.specs.Numbers.{filePropositions}
+use Rattle.rules.specs.Limits.{mostSize}
 use Rattle.reading.specs.Reading.{Got, got, Reader, andThen, byte, within, atEnd}
 use Rattle.names.specs.Names.{namesUpTo}
 unfoldable pub use Rattle.sections.specs.Sections.{number, eightBytes, session}
-pub use Rattle.sections.specs.Sections.{allSessions, isUnary, isBinary, code, codes}
+pub use Rattle.sections.specs.Sections.{allSessions, isUnary, isBinary, code, allCodes}
 use Rattle.file.specs.Format.{Parts}
 
 -- ---- settings
@@ -23,17 +24,17 @@ unfoldable pub settings : Reader Settings
 settings file at =
     andThen (byte (within 2 2) file at) (λ _ a.
     andThen (byte (within 0 1) file a) (λ constants b.
-    andThen (byte (within 1 bound) file b) (λ bound next.
+    andThen (byte (within 1 mostSize) file b) (λ bound next.
     got (record { constants = constants; bound = bound }) next)))
 
 -- ---- the whole
 
 unfoldable pub parts : Reader Parts
 parts file at =
-    andThen (namesUpTo propositions file at) (λ ns a.
+    andThen (namesUpTo filePropositions file at) (λ ns a.
     andThen (allSessions (length ns) file a) (λ ss b.
-    andThen (codes isUnary file b) (λ us c.
-    andThen (codes isBinary file c) (λ bs d.
+    andThen (allCodes isUnary file b) (λ us c.
+    andThen (allCodes isBinary file c) (λ bs d.
     andThen (settings file d) (λ s next.
     got (record { names = ns; sessions = ss; unary = us; binary = bs; constants = s .constants; bound = s .bound }) next)))))
 

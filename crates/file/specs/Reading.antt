@@ -17,10 +17,10 @@ abbrev pub tooLittleRoom : Said
 tooLittleRoom = record { number = 3; values = [] }
 
 -- the values: r, m, bytes of the names section, unary codes, binary codes, constants mark, B
-abbrev pub said : ReadAnswer → Said
-said (AllParts r m names unary binary constants bound) = record { number = 0; values = r ∷ m ∷ names ∷ unary ∷ binary ∷ constants ∷ bound ∷ [] }
-said (Broken o) = broken o
-said Room = tooLittleRoom
+abbrev pub saidRead : ReadAnswer → Said
+saidRead (AllParts r m names unary binary constants bound) = record { number = 0; values = r ∷ m ∷ names ∷ unary ∷ binary ∷ constants ∷ bound ∷ [] }
+saidRead (Broken o) = broken o
+saidRead Room = tooLittleRoom
 
 -- ---- a session file
 
@@ -40,8 +40,8 @@ pub record After : Type 0 where
   pub answer : Said
   pub left : Lent
 
-abbrev pub after : Said → List ℕ → List ℕ → List ℕ → List ℕ → List ℕ → After
-after answer marks lengths words unary binary = record { answer = answer; left = lent marks lengths words unary binary }
+abbrev pub readAfter : Said → List ℕ → List ℕ → List ℕ → List ℕ → List ℕ → After
+readAfter answer marks lengths words unary binary = record { answer = answer; left = lent marks lengths words unary binary }
 
 -- what the parts hand out: marks, lengths and words, m per session
 abbrev pub marksOf : Parts → List ℕ

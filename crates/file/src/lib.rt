@@ -4,20 +4,23 @@ mod fill;
 
 use fill::fill_bytes;
 use fill::fill_words;
-use reading::Step;
+use reading::ReadStep;
 use reading::byte_within;
 use sections::codes::codes_section;
 use sections::sessions::sessions_section;
 ghost use mathlib.Core.Path.{_≡_};
 ghost use Prim.Native.Nat.{_+_, _<_};
-ghost use Rattle.file.specs.Reading.{said, after, lent, readOf};
-ghost use Rattle.file.specs.Inner.{tailOf, tailAt, answerOf};
+ghost use Rattle.file.specs.Reading.{saidRead, readAfter, lent, readOf};
+ghost use Rattle.file.specs.Inner.{tailOf, tailAt, readAnswerOf, Enough};
 
 // Document 01's numbers for a file; for the contracts they are in sections' specs/Numbers.antt. The count is the file's own, since a later request raises
 // the library's alone.
 const PROPOSITIONS: usize = 16;
 
 const BOUND: usize = rules::BOUND;
+
+// "the largest good file is 4,450 bytes"
+pub const LARGEST: usize = 4450;
 
 // What a file is: its parts' numbers (sessions r, propositions m, the bytes of the names section, codes of each group, constants mark, bound B),
 // broken at an offset, or good with too little room lent.
@@ -47,13 +50,13 @@ fn tail_at(file: &[u8], at: usize) -> Tail
 {
     let count = byte_within(file, at, 2, 2);
     match count {
-        Step::Read { value: _, next: a } => {
+        ReadStep::Read { value: _, next: a } => {
             let mark = byte_within(file, a, 0, 1);
             match mark {
-                Step::Read { value: _, next: b } => {
+                ReadStep::Read { value: _, next: b } => {
                     let bound = byte_within(file, b, 1, crate::BOUND);
                     match bound {
-                        Step::Read { value: _, next } => {
+                        ReadStep::Read { value: _, next } => {
                             if next == file.len() {
                                 Tail::Read {
                                     constants: file[a],
@@ -63,32 +66,32 @@ fn tail_at(file: &[u8], at: usize) -> Tail
                                 Tail::Broken(next)
                             }
                         }
-                        Step::Broken(o) => Tail::Broken(o),
+                        ReadStep::Broken(o) => Tail::Broken(o),
                     }
                 }
-                Step::Broken(o) => Tail::Broken(o),
+                ReadStep::Broken(o) => Tail::Broken(o),
             }
         }
-        Step::Broken(o) => Tail::Broken(o),
+        ReadStep::Broken(o) => Tail::Broken(o),
     }
 }
 
 // The numbers of a good file's parts, or the offset that offends.
 fn judge(file: &[u8]) -> ReadAnswer
-    ensures { λ r. ⌜ r ≡ answerOf (now (file .entry)) ⌝ }
+    ensures { λ r. ⌜ r ≡ readAnswerOf (now (file .entry)) ⌝ }
 {
     let names = names::section(file, crate::PROPOSITIONS);
     match names {
-        Step::Read { value: m, next: a } => {
+        ReadStep::Read { value: m, next: a } => {
             let sessions = sessions_section(file, a, m);
             match sessions {
-                Step::Read { value: r, next: b } => {
+                ReadStep::Read { value: r, next: b } => {
                     let unary = codes_section(file, b, true);
                     match unary {
-                        Step::Read { value: u, next: c } => {
+                        ReadStep::Read { value: u, next: c } => {
                             let binary = codes_section(file, c, false);
                             match binary {
-                                Step::Read { value: v, next: d } => {
+                                ReadStep::Read { value: v, next: d } => {
                                     let tail = tail_at(file, d);
                                     match tail {
                                         Tail::Read { constants, bound } => ReadAnswer::Parts {
@@ -103,17 +106,49 @@ fn judge(file: &[u8]) -> ReadAnswer
                                         Tail::Broken(o) => ReadAnswer::Broken(o),
                                     }
                                 }
-                                Step::Broken(o) => ReadAnswer::Broken(o),
+                                ReadStep::Broken(o) => ReadAnswer::Broken(o),
                             }
                         }
-                        Step::Broken(o) => ReadAnswer::Broken(o),
+                        ReadStep::Broken(o) => ReadAnswer::Broken(o),
                     }
                 }
-                Step::Broken(o) => ReadAnswer::Broken(o),
+                ReadStep::Broken(o) => ReadAnswer::Broken(o),
             }
         }
-        Step::Broken(o) => ReadAnswer::Broken(o),
+        ReadStep::Broken(o) => ReadAnswer::Broken(o),
     }
+}
+
+// Whether slices of these lengths have room for r sessions, n words, u codes and v codes.
+fn enough(
+    marks: usize,
+    lengths: usize,
+    words: usize,
+    unary: usize,
+    binary: usize,
+    r: usize,
+    n: usize,
+    u: usize,
+    v: usize,
+) -> bool
+    ensures { λ b. ⌜ Enough marks lengths words unary binary r n u v b ⌝ }
+{
+    if marks < r {
+        return false;
+    }
+    if lengths < r {
+        return false;
+    }
+    if words < n {
+        return false;
+    }
+    if unary < u {
+        return false;
+    }
+    if binary < v {
+        return false;
+    }
+    true
 }
 
 // Reads a session file into lent slices: marks and lengths, one a session; words, m a session; the codes of each group. The whole file is judged before
@@ -126,7 +161,7 @@ pub fn read(
     unary: &mut [u8],
     binary: &mut [u8],
 ) -> ReadAnswer
-    ensures { λ r. ⌜ after (said r) (now (marks .exit)) (now (lengths .exit)) (now (words .exit)) (now (unary .exit)) (now (binary .exit))
+    ensures { λ r. ⌜ readAfter (saidRead r) (now (marks .exit)) (now (lengths .exit)) (now (words .exit)) (now (unary .exit)) (now (binary .exit))
         ≡ readOf (now (file .entry)) (lent (now (marks .entry)) (now (lengths .entry)) (now (words .entry)) (now (unary .entry)) (now (binary .entry))) ⌝ }
 {
     let answer = judge(file);
@@ -140,30 +175,28 @@ pub fn read(
             constants: _,
             bound: _,
         } => {
-            if marks.len() < r {
-                return ReadAnswer::Room;
+            if enough(
+                marks.len(),
+                lengths.len(),
+                words.len(),
+                unary.len(),
+                binary.len(),
+                r,
+                m * r,
+                u,
+                v,
+            ) {
+                let stride = 2 + 8 * m;
+                let at = names + 1;
+                let codes = at + r * stride;
+                fill_bytes(marks, file, at, stride, r);
+                fill_bytes(lengths, file, at + 1, stride, r);
+                fill_words(words, file, at, m, r);
+                fill_bytes(unary, file, codes + 1, 1, u);
+                fill_bytes(binary, file, codes + u + 2, 1, v);
+                return answer;
             }
-            if lengths.len() < r {
-                return ReadAnswer::Room;
-            }
-            if words.len() < m * r {
-                return ReadAnswer::Room;
-            }
-            if unary.len() < u {
-                return ReadAnswer::Room;
-            }
-            if binary.len() < v {
-                return ReadAnswer::Room;
-            }
-            let stride = 2 + 8 * m;
-            let at = names + 1;
-            let codes = at + r * stride;
-            fill_bytes(marks, file, at, stride, r);
-            fill_bytes(lengths, file, at + 1, stride, r);
-            fill_words(words, file, at, m, r);
-            fill_bytes(unary, file, codes + 1, 1, u);
-            fill_bytes(binary, file, codes + u + 2, 1, v);
-            answer
+            ReadAnswer::Room
         }
         ReadAnswer::Broken(o) => ReadAnswer::Broken(o),
         // the judging pass is lent no room, so that it never says this

@@ -175,18 +175,6 @@ module _ (m : ℕ) (k : List Node) (b : ℕ) (n : Node) where
   fits-small (unary op e l r s q) = q
   fits-small (binary op e l r s q) = q
 
-  -- the children of a node that fits stand below it
-  pub left-under : Fits m k b n → IsUnary (n .code) ⊎ IsBinary (n .code) → n .left < b
-  left-under (leaf c e l i t z) (inl v) = absurd (not-unary-leaf (n .code) v (c, sym e))
-  left-under (leaf c e l i t z) (inr v) = absurd (not-binary-leaf (n .code) v (c, sym e))
-  left-under (unary op e l t z v) w = l
-  left-under (binary op e l t z v) w = l
-
-  pub right-under : Fits m k b n → IsBinary (n .code) → n .right < b
-  right-under (leaf c e l i t z) u = absurd (not-binary-leaf (n .code) u (c, sym e))
-  right-under (unary op e l t z v) u = absurd (not-both (n .code) (op, sym e) u)
-  right-under (binary op e l t z v) u = t
-
   -- the number of a proposition that fits
   pub proposition-under : Fits m k b n → n .code ≡ propositionCode → n .left < m
   proposition-under (leaf c f l i t z) e = let q = leaf-is c (sym f ∙ e) in let v = subst (LeafIn m) (q .1) i in omega (arith, l ∙ ap leafNumber (q .1))
@@ -203,6 +191,31 @@ module _ (m : ℕ) (k : List Node) (b : ℕ) (n : Node) where
 pub constant-fits : (m : ℕ) (k : List Node) (b : ℕ) (n : Node) → 17 ≤ n .code → n .code ≤ 18 → n .left ≡ 0 → n .right ≡ 0 → n .size ≡ 1 → Fits m k b n
 constant-fits m k b n l h e r s =
     elim (ℕ-discrete (n .code) 17) [ yes c ↦ leaf (constant false) c e tt r s | no c ↦ leaf (constant true) (omega arith) e tt r s ]
+
+-- ---- children
+
+module _ (m : ℕ) (k : List Node) (all : AllFit m k (length k)) where
+  -- a node that fits below its own place fits in the whole list
+  listed-fits : (p : ℕ) → p < length k → Fits m k (length k) (nodeAt k p)
+  listed-fits p h = later (all p h)
+    where
+      later : Fits m k p (nodeAt k p) → Fits m k (length k) (nodeAt k p)
+      later (leaf c e l i r s) = leaf c e l i r s
+      later (unary op e l r s q) = unary op e (omega arith) r s q
+      later (binary op e l r s q) = binary op e (omega arith) (omega arith) s q
+
+  -- a child fits as its node does, and is smaller
+  pub left-fits : (n : Node) → Fits m k (length k) n → IsUnary (n .code) ⊎ IsBinary (n .code)
+      → Fits m k (length k) (nodeAt k (n .left)) × (nodeAt k (n .left) .size < n .size)
+  left-fits n (leaf c e l i t z) (inl v) = absurd (not-unary-leaf (n .code) v (c, sym e))
+  left-fits n (leaf c e l i t z) (inr v) = absurd (not-binary-leaf (n .code) v (c, sym e))
+  left-fits n (unary op e l t z v) w = (listed-fits (n .left) l, omega arith)
+  left-fits n (binary op e l t z v) w = (listed-fits (n .left) l, omega arith)
+
+  pub right-fits : (n : Node) → Fits m k (length k) n → IsBinary (n .code) → Fits m k (length k) (nodeAt k (n .right)) × (nodeAt k (n .right) .size < n .size)
+  right-fits n (leaf c e l i t z) u = absurd (not-binary-leaf (n .code) u (c, sym e))
+  right-fits n (unary op e l t z v) u = absurd (not-both (n .code) (op, sym e) u)
+  right-fits n (binary op e l t z v) u = (listed-fits (n .right) t, omega arith)
 
 -- ---- the whole list
 

@@ -8,26 +8,26 @@ use Prim.Native.Nat.{ℕ, _+_, _≤_, _<_}
 use native.Mathlib.Nat.{eq-or-lt-of-le}
 use native.Mathlib.Omega.{arith}
 use lib.ListN.{length}
-use Rattle.rules.specs.Refusals.{Row, Decided}
+use Rattle.rules.specs.Refusals.{Decided}
 use Rattle.rules.proofs.Refusals.{decided-given, decided-not}
 use Rattle.formula.specs.Nodes.{Node, nodeAt}
 use Rattle.rules.specs.Limits.{mostRoom}
 use Rattle.formula.specs.Rule.{Fault, brokenList}
 use Rattle.formula.specs.Rule.Broken.{tooMany, listed, rooted}
 use Rattle.formula.specs.Faultless.{Fits, AllFit}
-use Rattle.formula.specs.Inner.{Judged, AllJudged}
+use Rattle.formula.specs.Inner.{NodeJudged, AllJudged}
 use Rattle.formula.proofs.Faults.{fits-whole}
 
 module _ (m : ℕ) (k : List Node) where
   -- one node more
-  pub fit-more : {i : ℕ} {n : Node} {r : Bool} → AllFit m k i → n ≡ nodeAt k i → Judged m k i n r → r ≡ true → AllFit m k (i + 1)
+  pub fit-more : {i : ℕ} {n : Node} {r : Bool} → AllFit m k i → n ≡ nodeAt k i → NodeJudged m k i n r → r ≡ true → AllFit m k (i + 1)
   fit-more {i} {n} {r} all e j q p h =
-      let f : Fits m k i n = subst (Judged m k i n) q j in
+      let f : Fits m k i n = subst (NodeJudged m k i n) q j in
       let g : Fits m k i (nodeAt k i) = subst (Fits m k i) e f in
       ⊎-elim (λ s. subst (λ (x : ℕ). Fits m k x (nodeAt k x)) (sym s) g) (λ s. all p s) (eq-or-lt-of-le {n = p} {m = i} (omega arith))
 
-  pub fault-at : {i : ℕ} {n : Node} {r : Bool} → n ≡ nodeAt k i → Judged m k i n r → r ≡ false → Fault m k i (nodeAt k i)
-  fault-at {i} {n} {r} e j q = let f : Fault m k i n = subst (Judged m k i n) q j in subst (Fault m k i) e f
+  pub fault-at : {i : ℕ} {n : Node} {r : Bool} → n ≡ nodeAt k i → NodeJudged m k i n r → r ≡ false → Fault m k i (nodeAt k i)
+  fault-at {i} {n} {r} e j q = let f : Fault m k i n = subst (NodeJudged m k i n) q j in subst (Fault m k i) e f
 
   module _ (root : Node) {n : ℕ} (e : length k ≡ n) where
     pub too-many : mostRoom < n → Decided (brokenList m k root ∷ []) 9
@@ -36,21 +36,14 @@ module _ (m : ℕ) (k : List Node) where
     pub list-fails : {a : Bool} → AllJudged m k n a → a ≡ false → Decided (brokenList m k root ∷ []) 9
     list-fails j q = let f : (p : ℕ) × (p < n) × Fault m k p (nodeAt k p) = subst (AllJudged m k n) q j in decided-given (brokenList m k root) (listed (f .0) (omega (arith, f .1)) (f .2))
 
-    pub root-fails : {b : Bool} → Judged m k n root b → b ≡ false → Decided (brokenList m k root ∷ []) 9
+    pub root-fails : {b : Bool} → NodeJudged m k n root b → b ≡ false → Decided (brokenList m k root ∷ []) 9
     root-fails j q =
-        let f : Fault m k n root = subst (Judged m k n root) q j in
+        let f : Fault m k n root = subst (NodeJudged m k n root) q j in
         decided-given (brokenList m k root) (rooted (subst (λ (x : ℕ). Fault m k x root) (sym e) f))
 
-    pub all-pass : {a b : Bool} → n ≤ mostRoom → AllJudged m k n a → a ≡ true → Judged m k n root b → b ≡ true → Decided (brokenList m k root ∷ []) 0
+    pub all-pass : {a b : Bool} → n ≤ mostRoom → AllJudged m k n a → a ≡ true → NodeJudged m k n root b → b ≡ true → Decided (brokenList m k root ∷ []) 0
     all-pass h j q i r =
         let f : AllFit m k n = subst (AllJudged m k n) q j in
-        let g : Fits m k n root = subst (Judged m k n root) r i in
+        let g : Fits m k n root = subst (NodeJudged m k n root) r i in
         decided-not (brokenList m k root)
         (fits-whole m k root (omega arith) (subst (AllFit m k) (sym e) f) (subst (λ (x : ℕ). Fits m k x root) (sym e) g))
-
--- a number that is decided stays, whatever comes after
-pub decided-early : (rows more : List Row) (a : ℕ) → Decided rows a → (a ≡ 0 → ⊥) → Decided (rows ++ more) a
-unfolding Decided
-decided-early [] more a d n = absurd (n d)
-decided-early (row ∷ rows) more a (inl p) n = inl p
-decided-early (row ∷ rows) more a (inr p) n = inr (p .0, decided-early rows more a (p .1) n)

@@ -15,6 +15,10 @@ node code left right size = record { code = code; left = left; right = right; si
 abbrev pub nodeOf : Node → walk.Node
 nodeOf n = node (n .code) (n .left .0) (n .right .0) (n .size)
 
+-- no node: what stands past the end of a list of nodes, and the root while there is none
+abbrev pub noNode : Node
+noNode = record { code = 0; left = record { 0 = 0 }; right = record { 0 = 0 }; size = 0 }
+
 -- "(the whole lent slice, for print too)": where the four lists differ in length, their count is the shortest one's
 abbrev pub countOf : List ℕ → List ℕ → List ℕ → List ℕ → ℕ
 countOf codes lefts rights sizes = min (length codes) (min (length lefts) (min (length rights) (length sizes)))

@@ -6,13 +6,11 @@ use operators::Group;
 use rules::kinds::Place;
 ghost use mathlib.Core.Path.{_≡_};
 ghost use mathlib.Core.List.{[], _∷_};
-ghost use Prim.Native.Nat.{_≤_, _<_};
 ghost use Rattle.formula.specs.Nodes.{nodeAt};
 ghost use Rattle.rules.specs.Refusals.{Decided};
 ghost use Rattle.formula.specs.Kinds.{nodeOf, countOf, nodes};
-ghost use Rattle.rules.specs.Kinds.{mostNumber};
 ghost use Rattle.formula.specs.Rule.{IsUnary, IsBinary, brokenList};
-ghost use Rattle.formula.specs.Inner.{Judged, AllJudged};
+ghost use Rattle.formula.specs.Inner.{NodeJudged, AllJudged, LeafJudged, UnaryJudged, BinaryJudged};
 
 // How many nodes four slices have: as many as the shortest.
 pub fn count(codes: &[u8], lefts: &[u16], rights: &[u16], sizes: &[u8]) -> usize
@@ -55,26 +53,17 @@ pub fn node_at(codes: &[u8], lefts: &[u16], rights: &[u16], sizes: &[u8], at: us
     }
 }
 
-// The size of the node at a place.
-fn size_at(codes: &[u8], lefts: &[u16], rights: &[u16], sizes: &[u8], at: usize) -> usize
-    requires { ⌜ at < countOf (now codes) (now lefts) (now rights) (now sizes) ⌝ }
-    ensures { λ r. ⌜ (r ≡ nodeAt (nodes (now (codes .entry)) (now (lefts .entry)) (now (rights .entry)) (now (sizes .entry))) at .size) × (r ≤ mostNumber) ⌝ }
+// The size of the node at a place; 0 where there is none.
+fn size_at(codes: &[u8], lefts: &[u16], rights: &[u16], sizes: &[u8], at: Place) -> u8
+    ensures { λ r. ⌜ nodeAt (nodes (now (codes .entry)) (now (lefts .entry)) (now (rights .entry)) (now (sizes .entry))) (at .0) .size ≡ r ⌝ }
 {
-    sizes[at] as usize
+    node_at(codes, lefts, rights, sizes, at.0 as usize).size
 }
 
 // A node whose code is no operator's.
-fn leaf_good(
-    m: usize,
-    codes: &[u8],
-    lefts: &[u16],
-    rights: &[u16],
-    sizes: &[u8],
-    below: usize,
-    node: Node,
-) -> bool
+fn leaf_good(m: usize, node: Node) -> bool
     requires { ⌜ (IsUnary (node .code) → ⊥) × (IsBinary (node .code) → ⊥) ⌝ }
-    ensures { λ r. ⌜ Judged m (nodes (now (codes .entry)) (now (lefts .entry)) (now (rights .entry)) (now (sizes .entry))) below (nodeOf node) r ⌝ }
+    ensures { λ r. ⌜ LeafJudged m (nodeOf node) r ⌝ }
 {
     if node.code < PROPOSITION {
         return false;
@@ -100,28 +89,19 @@ fn leaf_good(
     true
 }
 
-fn unary_good(
-    m: usize,
-    codes: &[u8],
-    lefts: &[u16],
-    rights: &[u16],
-    sizes: &[u8],
-    below: usize,
-    node: Node,
-) -> bool
-    requires { ⌜ (below ≤ countOf (now codes) (now lefts) (now rights) (now sizes)) × IsUnary (node .code) ⌝ }
-    ensures { λ r. ⌜ Judged m (nodes (now (codes .entry)) (now (lefts .entry)) (now (rights .entry)) (now (sizes .entry))) below (nodeOf node) r ⌝ }
+// A unary operator's node, whose child has size l.
+fn unary_good(below: usize, node: Node, l: u8) -> bool
+    requires { ⌜ IsUnary (node .code) ⌝ }
+    ensures { λ r. ⌜ UnaryJudged below (nodeOf node) l r ⌝ }
 {
-    let left = node.left.0 as usize;
-    if below <= left {
+    if below <= node.left.0 as usize {
         return false;
     }
     if node.right.0 != 0 {
         return false;
     }
-    let l = size_at(codes, lefts, rights, sizes, left);
     let size = node.size as usize;
-    if size != 1 + l {
+    if size != 1 + l as usize {
         return false;
     }
     if rules::BOUND < size {
@@ -130,30 +110,19 @@ fn unary_good(
     true
 }
 
-fn binary_good(
-    m: usize,
-    codes: &[u8],
-    lefts: &[u16],
-    rights: &[u16],
-    sizes: &[u8],
-    below: usize,
-    node: Node,
-) -> bool
-    requires { ⌜ (below ≤ countOf (now codes) (now lefts) (now rights) (now sizes)) × IsBinary (node .code) ⌝ }
-    ensures { λ r. ⌜ Judged m (nodes (now (codes .entry)) (now (lefts .entry)) (now (rights .entry)) (now (sizes .entry))) below (nodeOf node) r ⌝ }
+// A binary operator's node, whose children have the sizes l and r.
+fn binary_good(below: usize, node: Node, l: u8, r: u8) -> bool
+    requires { ⌜ IsBinary (node .code) ⌝ }
+    ensures { λ a. ⌜ BinaryJudged below (nodeOf node) l r a ⌝ }
 {
-    let left = node.left.0 as usize;
-    if below <= left {
+    if below <= node.left.0 as usize {
         return false;
     }
-    let right = node.right.0 as usize;
-    if below <= right {
+    if below <= node.right.0 as usize {
         return false;
     }
-    let l = size_at(codes, lefts, rights, sizes, left);
-    let r = size_at(codes, lefts, rights, sizes, right);
     let size = node.size as usize;
-    if size != 1 + l + r {
+    if size != 1 + l as usize + r as usize {
         return false;
     }
     if rules::BOUND < size {
@@ -172,20 +141,23 @@ fn node_good(
     below: usize,
     node: Node,
 ) -> bool
-    requires { ⌜ below ≤ countOf (now codes) (now lefts) (now rights) (now sizes) ⌝ }
-    ensures { λ r. ⌜ Judged m (nodes (now (codes .entry)) (now (lefts .entry)) (now (rights .entry)) (now (sizes .entry))) below (nodeOf node) r ⌝ }
+    ensures { λ r. ⌜ NodeJudged m (nodes (now (codes .entry)) (now (lefts .entry)) (now (rights .entry)) (now (sizes .entry))) below (nodeOf node) r ⌝ }
 {
     let group = operators::operator_of(node.code).group;
     match group {
-        Group::Unary => unary_good(m, codes, lefts, rights, sizes, below, node),
-        Group::Binary => binary_good(m, codes, lefts, rights, sizes, below, node),
-        Group::Neither => leaf_good(m, codes, lefts, rights, sizes, below, node),
+        Group::Unary => unary_good(below, node, size_at(codes, lefts, rights, sizes, node.left)),
+        Group::Binary => binary_good(
+            below,
+            node,
+            size_at(codes, lefts, rights, sizes, node.left),
+            size_at(codes, lefts, rights, sizes, node.right),
+        ),
+        Group::Neither => leaf_good(m, node),
     }
 }
 
 // Each of the first n nodes, reachable or not.
 fn nodes_good(m: usize, codes: &[u8], lefts: &[u16], rights: &[u16], sizes: &[u8], n: usize) -> bool
-    requires { ⌜ n ≤ countOf (now codes) (now lefts) (now rights) (now sizes) ⌝ }
     ensures { λ r. ⌜ AllJudged m (nodes (now (codes .entry)) (now (lefts .entry)) (now (rights .entry)) (now (sizes .entry))) n r ⌝ }
 {
     let mut i: usize = 0;

@@ -9,13 +9,13 @@ use borrow.Author.Tests.{lt-ltb, eq-eqb, eqb-true}
 use lib.Dec.{eqb}
 use lib.ListN.{length, length-append}
 use Rattle.sequence.specs.Operators.{Unary, unaryToken}
-use Rattle.grammar.specs.Token.{Atom, name, constant, Token, pre, mid, atom, opens, closes, spell, spellAtom, isWord, Good, Apart, SpelledBy, end, gap, token}
+use Rattle.grammar.specs.Token.{Atom, name, constant, Token, pre, mid, atom, opens, closes, spell, spellAtom, isWord, GoodToken, NoWordByte, SpelledBy, end, gap, token}
 use Rattle.sequence.specs.Operators.Unary.{not, weakNext, strongNext, finally, globally}
 use Rattle.sequence.specs.Operators.Binary.{or, and, until, release, implies, equiv}
 use Rattle.names.specs.Names.{sameBytes}
-use Rattle.grammar.specs.Scan.{Kind, wordy, square, sign, kind, Class, prefixed, leafy, neither, classify, State, ready, apart, after, word, rest, Step, dead, go, emit}
-use Rattle.grammar.specs.Scan.{onReady, onReadySign, onAfter, onAfterSign, onWord, onApart, step, Scan, good, bad, finish, behind, follow, scan}
-use Rattle.grammar.specs.Passing.{ahead}
+use Rattle.grammar.specs.Scan.{Kind, wordy, square, sign, kind, Class, prefixed, leafy, neither, classify, ScanState, ready, apart, after, word, rest, ScanStep, dead, go, emit}
+use Rattle.grammar.specs.Scan.{onReady, onReadySign, onAfter, onAfterSign, onWord, onApart, scanStep, Scan, good, bad, scanEnd, behind, follow, scan}
+use Rattle.grammar.specs.Passing.{scanAhead}
 use Rattle.grammar.proofs.Flat.{Phase, awaits, has, Flat, done, leaves, prefixes, opened, infixes, closed}
 use Rattle.reading.proofs.Lists.{true-false}
 use Rattle.grammar.proofs.Words.{WordBytes, KindIs, kind-is, kind-word, letter-word, Begun, class-name, letter-first}
@@ -23,11 +23,11 @@ use Rattle.grammar.proofs.Words.{WordBytes, KindIs, kind-is, kind-word,
 pub bad-good : {k : ℕ} {ts : List Token} → bad k ≡ good ts → ⊥
 bad-good e = let z : _≡_ {A = ℕ} 0 1 = cc in omega arith
 
-emit-ahead : (t : Token) (x : Step) (f : State → Scan) → follow (emit t x) f ≡ ahead 0 (t ∷ []) (follow x f)
+emit-ahead : (t : Token) (x : ScanStep) (f : ScanState → Scan) → follow (emit t x) f ≡ scanAhead 0 (t ∷ []) (follow x f)
 emit-ahead t dead f = refl
 emit-ahead t (go out s) f = in-front (f s)
   where
-    in-front : (x : Scan) → behind (t ∷ out) x ≡ ahead 0 (t ∷ []) (behind out x)
+    in-front : (x : Scan) → behind (t ∷ out) x ≡ scanAhead 0 (t ∷ []) (behind out x)
     in-front (good us) = refl
     in-front (bad k) = ap bad (omega arith)
 
@@ -39,7 +39,7 @@ NoSquare [] = Unit
 NoSquare (b ∷ text) = eqb b 91 ≡ false
 
 no-square : (d : ℕ) (text : List ℕ) {ts : List Token} → scan (ready d) text ≡ good ts → NoSquare text
-unfolding scan step kind
+unfolding scan scanStep kind
 no-square d [] e = tt
 no-square d (b ∷ text) {ts} e = by-test (eqb b 91) refl
   where
@@ -57,13 +57,13 @@ module _ (w : List ℕ) (d : ℕ) where
       by-test false q = refl
 
   -- a whole word, where no word goes on: a prefix operator, a leaf, or neither
-  pub ended-prefix : {u : Unary} → classify w ≡ prefixed u → (text : List ℕ) → Apart text → (sameBytes w (unaryToken weakNext) ≡ true → NoSquare text)
-      → scan (word w d) text ≡ ahead 0 (pre u ∷ []) (scan (ready d) text)
-  unfolding scan step finish
+  pub ended-prefix : {u : Unary} → classify w ≡ prefixed u → (text : List ℕ) → NoWordByte text → (sameBytes w (unaryToken weakNext) ≡ true → NoSquare text)
+      → scan (word w d) text ≡ scanAhead 0 (pre u ∷ []) (scan (ready d) text)
+  unfolding scan scanStep scanEnd
   ended-prefix {u} c [] a n = rw c
   ended-prefix {u} c (b ∷ text) a n = at-kind (kind b) (kind-is b)
     where
-      at-kind : (k : Kind) → KindIs b k → follow (onWord w d b k) (λ t. scan t text) ≡ ahead 0 (pre u ∷ []) (follow (onReady d b k) (λ t. scan t text))
+      at-kind : (k : Kind) → KindIs b k → follow (onWord w d b k) (λ t. scan t text) ≡ scanAhead 0 (pre u ∷ []) (follow (onReady d b k) (λ t. scan t text))
       at-kind (wordy l) h = absurd (true-false (h .0) a)
       at-kind square h = strong (sameBytes w (unaryToken weakNext)) refl
         where
@@ -72,22 +72,22 @@ module _ (w : List ℕ) (d : ℕ) where
           strong false q = refl
       at-kind (sign s) h = rw c (emit-ahead (pre u) (onReadySign d s) (λ t. scan t text))
 
-  pub ended-leaf : {l : Atom} → classify w ≡ leafy l → (text : List ℕ) → Apart text → scan (word w d) text ≡ ahead 0 (atom l ∷ []) (scan (after d) text)
-  unfolding scan step finish
+  pub ended-leaf : {l : Atom} → classify w ≡ leafy l → (text : List ℕ) → NoWordByte text → scan (word w d) text ≡ scanAhead 0 (atom l ∷ []) (scan (after d) text)
+  unfolding scan scanStep scanEnd
   ended-leaf {l} c [] a = at-depth d
     where
-      at-depth : (d : ℕ) → finish (word w d) ≡ ahead 0 (atom l ∷ []) (finish (after d))
+      at-depth : (d : ℕ) → scanEnd (word w d) ≡ scanAhead 0 (atom l ∷ []) (scanEnd (after d))
       at-depth zero = rw c
       at-depth (suc d) = rw c
   ended-leaf {l} c (b ∷ text) a = at-kind (kind b) (kind-is b)
     where
-      at-kind : (k : Kind) → KindIs b k → follow (onWord w d b k) (λ t. scan t text) ≡ ahead 0 (atom l ∷ []) (follow (onAfter d b k) (λ t. scan t text))
+      at-kind : (k : Kind) → KindIs b k → follow (onWord w d b k) (λ t. scan t text) ≡ scanAhead 0 (atom l ∷ []) (follow (onAfter d b k) (λ t. scan t text))
       at-kind (wordy l) h = absurd (true-false (h .0) a)
       at-kind square h = rw (only-next c (λ q. let z : _≡_ {A = ℕ} 0 1 = cc in omega arith))
       at-kind (sign s) h = rw c (emit-ahead (atom l) (onAfterSign d s) (λ t. scan t text))
 
-  pub ended-neither : classify w ≡ neither → (text : List ℕ) → Apart text → scan (word w d) text ≡ bad 0
-  unfolding scan step finish
+  pub ended-neither : classify w ≡ neither → (text : List ℕ) → NoWordByte text → scan (word w d) text ≡ bad 0
+  unfolding scan scanStep scanEnd
   ended-neither c [] a = rw c
   ended-neither c (b ∷ text) a = at-kind (kind b) (kind-is b)
     where
@@ -97,15 +97,15 @@ module _ (w : List ℕ) (d : ℕ) where
       at-kind (sign s) h = rw c
 
   -- so a text with these tokens
-  pub prefix-good : {u : Unary} → classify w ≡ prefixed u → (text : List ℕ) → Apart text → {ts : List Token} → scan (ready d) text ≡ good ts → scan (word w d) text ≡ good (pre u ∷ ts)
-  prefix-good {u} c text a e = ended-prefix c text a (λ x. no-square d text e) ∙ ap (ahead 0 (pre u ∷ [])) e
+  pub prefix-good : {u : Unary} → classify w ≡ prefixed u → (text : List ℕ) → NoWordByte text → {ts : List Token} → scan (ready d) text ≡ good ts → scan (word w d) text ≡ good (pre u ∷ ts)
+  prefix-good {u} c text a e = ended-prefix c text a (λ x. no-square d text e) ∙ ap (scanAhead 0 (pre u ∷ [])) e
 
-  pub leaf-good : {l : Atom} → classify w ≡ leafy l → (text : List ℕ) → Apart text → {ts : List Token} → scan (after d) text ≡ good ts → scan (word w d) text ≡ good (atom l ∷ ts)
-  leaf-good {l} c text a e = ended-leaf c text a ∙ ap (ahead 0 (atom l ∷ [])) e
+  pub leaf-good : {l : Atom} → classify w ≡ leafy l → (text : List ℕ) → NoWordByte text → {ts : List Token} → scan (after d) text ≡ good ts → scan (word w d) text ≡ good (atom l ∷ ts)
+  leaf-good {l} c text a e = ended-leaf c text a ∙ ap (scanAhead 0 (atom l ∷ [])) e
 
 module _ (d : ℕ) (text : List ℕ) {ts : List Token} where
   grow-word : (v w : List ℕ) → WordBytes w → length (v ++ w) ≤ 16 → scan (word (v ++ w) d) text ≡ good ts → scan (word v d) (w ++ text) ≡ good ts
-  unfolding scan step
+  unfolding scan scanStep
   grow-word v [] ok h e = rw append-nil at e
   grow-word v (b ∷ w) ok h e =
       let n = length-append v (b ∷ w) in
@@ -114,7 +114,7 @@ module _ (d : ℕ) (text : List ℕ) {ts : List Token} where
       rw (kind-word b (ok .0), lt-ltb (length v) 16 (omega arith), i)
 
   pub read-word : (w : List ℕ) → Begun w → scan (word w d) text ≡ good ts → scan (ready d) (w ++ text) ≡ good ts
-  unfolding scan step
+  unfolding scan scanStep
   read-word [] ok e = absurd (ok .letters)
   read-word (b ∷ w) ok e =
       let l = ok .letters in
@@ -122,8 +122,8 @@ module _ (d : ℕ) (text : List ℕ) {ts : List Token} where
       rw (kind-word b (letter-word b (l .0)), l .0, i)
 
 -- after `U` and `R`
-pub read-apart : (d : ℕ) (text : List ℕ) → Apart text → scan (apart d) text ≡ scan (ready d) text
-unfolding scan step finish
+pub read-apart : (d : ℕ) (text : List ℕ) → NoWordByte text → scan (apart d) text ≡ scan (ready d) text
+unfolding scan scanStep scanEnd
 read-apart d [] a = refl
 read-apart d (b ∷ text) a = at-kind (kind b) (kind-is b)
   where
@@ -135,19 +135,19 @@ read-apart d (b ∷ text) a = at-kind (kind b) (kind-is b)
 -- ---- tokens of several bytes
 
 pub read-rest : (d : ℕ) (c : ℕ) (cs : List ℕ) (t : Token) (text : List ℕ) {ts : List Token} → scan (ready d) text ≡ good ts → scan (rest c cs t d) (c ∷ (cs ++ text)) ≡ good (t ∷ ts)
-unfolding scan step
+unfolding scan scanStep
 read-rest d c [] t text e = rw (eq-eqb c c refl, e)
 read-rest d c (b ∷ cs) t text e = rw (eq-eqb c c refl, read-rest d b cs t text e)
 
 -- ---- whole texts
 
-abbrev pub at : Phase → ℕ → State
+abbrev pub at : Phase → ℕ → ScanState
 at awaits d = ready d
 at has d = after d
 
 module _ {ts : List Token} (text : List ℕ) (ih : (p : Phase) (d : ℕ) → Flat p d ts → scan (at p d) text ≡ good ts) where
-  read-token : (t : Token) → Good t → (isWord t ≡ true → Apart text) → {p : Phase} {d : ℕ} → Flat p d (t ∷ ts) → scan (at p d) (spell t ++ text) ≡ good (t ∷ ts)
-  unfolding scan step kind classify
+  read-token : (t : Token) → GoodToken t → (isWord t ≡ true → NoWordByte text) → {p : Phase} {d : ℕ} → Flat p d (t ∷ ts) → scan (at p d) (spell t ++ text) ≡ good (t ∷ ts)
+  unfolding scan scanStep kind classify
   read-token (pre not) g a {d = d} (prefixes u f) = rw (ih awaits d f)
   read-token (pre weakNext) g a {d = d} (prefixes u f) = read-word d text (unaryToken weakNext) (record { letters = (refl, tt); short = omega arith })
       (prefix-good (unaryToken weakNext) d refl text (a refl) (ih awaits d f))
@@ -173,7 +173,7 @@ module _ {ts : List Token} (text : List ℕ) (ih : (p : Phase) (d : ℕ) → Fla
   read-token closes g a (closed {d} f) = rw (ih has d f)
 
 pub complete : {ts : List Token} {text : List ℕ} → SpelledBy ts text → {p : Phase} {d : ℕ} → Flat p d ts → scan (at p d) text ≡ good ts
-unfolding scan step kind finish
+unfolding scan scanStep kind scanEnd
 complete end done = refl
 complete (gap s) {p = awaits} f = rw (complete s f)
 complete (gap s) {p = has} f = rw (complete s f)

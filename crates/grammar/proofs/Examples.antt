@@ -9,7 +9,7 @@ use Rattle.grammar.specs.Token.{Typed, name, constant}
 use Rattle.sequence.specs.Operators.Unary.{not, weakNext, strongNext, finally, globally}
 use Rattle.sequence.specs.Operators.Binary.{or, and, until, release, implies, equiv}
 use Rattle.grammar.specs.Grammar.{Reads, Refused11}
-use Rattle.grammar.specs.Scan.{bad, scan, scanText, step, kind, classify, finish}
+use Rattle.grammar.specs.Scan.{bad, scan, scanText, scanStep, kind, classify, scanEnd}
 use Rattle.grammar.specs.Reader.{got, readText, readInfix}
 use Rattle.grammar.proofs.Theorems.{scan-refused, read-formula}
 
@@ -54,7 +54,7 @@ refusals =
     ∷ []
 
 refused : map (λ r. scanText (r .text)) refusals ≡ map (λ r. bad (r .offset)) refusals
-unfolding refusals scan step kind classify finish
+unfolding refusals scan scanStep kind classify scanEnd
 refused = refl
 
 -- ---- read, with the tree
@@ -85,15 +85,15 @@ readings =
     ∷ []
 
 read : map (λ r. readText (r .text)) readings ≡ map (λ r. got (r .tree) []) readings
-unfolding readings scan step kind classify finish readInfix
+unfolding readings scan scanStep kind classify scanEnd readInfix
 read = refl
 
 -- ---- so the definitions themselves say it of a text: `U p`, and `p & q & r`
 
 refused-first : Refused11 (85 ∷ 32 ∷ 112 ∷ []) 1
-unfolding scan step kind classify finish
+unfolding scan scanStep kind classify scanEnd
 refused-first = scan-refused refl
 
 left-and : Reads (112 ∷ 32 ∷ 38 ∷ 32 ∷ 113 ∷ 32 ∷ 38 ∷ 32 ∷ 114 ∷ []) (binary and (binary and P Q) R)
-unfolding scan step kind classify finish readInfix
+unfolding scan scanStep kind classify scanEnd readInfix
 left-and = read-formula (112 ∷ 32 ∷ 38 ∷ 32 ∷ 113 ∷ 32 ∷ 38 ∷ 32 ∷ 114 ∷ []) refl

@@ -7,12 +7,13 @@ use mathlib.Core.Option.{Option, some, none}
 use Prim.Native.Nat.{ℕ}
 use native.Mathlib.Omega.{arith}
 use lib.Dec.{eqb}
-use Rattle.grammar.specs.Token.{name, constant, Token, pre, mid, atom, opens, closes, spell, spellAtom, isWord, Good, Apart, SpelledBy, end, gap, token}
+use Rattle.grammar.specs.Token.{name, constant, Token, pre, mid, atom, opens, closes, spell, spellAtom, isWord, GoodToken, NoWordByte, SpelledBy, end, gap, token}
 use Rattle.sequence.specs.Operators.Unary.{not, weakNext, strongNext, finally, globally}
 use Rattle.sequence.specs.Operators.Binary.{or, and, until, release, implies, equiv}
 use Rattle.sequence.specs.Operators.{unaryToken, binaryToken}
 use Rattle.names.specs.Names.{sameBytes}
 use Rattle.grammar.specs.Scan.{Sign, blank, bang, opener, closer, amp, bar, dash, less, other, Kind, wordy, square, sign, kind, Class, prefixed, leafy, neither, classify}
+use Rattle.grammar.specs.Promises.{OneSpelling}
 use Rattle.reading.proofs.Lists.{true-false}
 use Rattle.grammar.proofs.Words.{WordBytes, LetterFirst, KindIs, kind-is, kind-word, letter-word, class-name, letter-first}
 
@@ -93,7 +94,7 @@ emitted t (go out s) f {ts} e = in-front (f s) e
     in-front none e = absurd (let z : _≡_ {A = ℕ} 0 1 = cc in omega arith)
     in-front (some us) e = let q : out ++ us ≡ ts = cc in ap (λ (l : List Token). some (t ∷ l)) q
 
-ended : (w : List ℕ) (text : List ℕ) → Apart text → {ts : List Token} → lex free text ≡ some ts → lex (word w) text ≡ some (wordToken w (classify w) ∷ ts)
+ended : (w : List ℕ) (text : List ℕ) → NoWordByte text → {ts : List Token} → lex free text ≡ some ts → lex (word w) text ≡ some (wordToken w (classify w) ∷ ts)
 unfolding lex
 ended w [] a {ts} e = let q : [] ≡ ts = cc in ap (λ (l : List Token). some (wordToken w (classify w) ∷ l)) q
 ended w (b ∷ text) a {ts} e = at-kind (kind b) (kind-is b) e
@@ -116,7 +117,7 @@ module _ (text : List ℕ) {ts : List Token} where
   begun [] l e = absurd l
   begun (b ∷ w) l e = rw (kind-word b (letter-word b (l .0)), l .0, grown (b ∷ []) w (l .1) e)
 
-whole : (text : List ℕ) {ts : List Token} (t : Token) (w : List ℕ) → LetterFirst w → wordToken w (classify w) ≡ t → Apart text → lex free text ≡ some ts → lex free (w ++ text) ≡ some (t ∷ ts)
+whole : (text : List ℕ) {ts : List Token} (t : Token) (w : List ℕ) → LetterFirst w → wordToken w (classify w) ≡ t → NoWordByte text → lex free text ≡ some ts → lex free (w ++ text) ≡ some (t ∷ ts)
 whole text {ts} t w l c a e = begun text w l (ended w text a e ∙ ap (λ (x : Token). some (x ∷ ts)) c)
 
 lexed : {ts : List Token} {text : List ℕ} → SpelledBy ts text → lex free text ≡ some ts
@@ -125,7 +126,7 @@ lexed end = refl
 lexed (gap s) = rw (lexed s)
 lexed (token {ts} {text} t g a s) = by-token t g a (lexed s)
   where
-    by-token : (t : Token) → Good t → (isWord t ≡ true → Apart text) → lex free text ≡ some ts → lex free (spell t ++ text) ≡ some (t ∷ ts)
+    by-token : (t : Token) → GoodToken t → (isWord t ≡ true → NoWordByte text) → lex free text ≡ some ts → lex free (spell t ++ text) ≡ some (t ∷ ts)
     by-token (pre not) g a e = rw e
     by-token (pre weakNext) g a e = whole text (pre weakNext) (unaryToken weakNext) (refl, tt) refl (a refl) e
     by-token (pre strongNext) g a e = rw e
@@ -143,5 +144,5 @@ lexed (token {ts} {text} t g a s) = by-token t g a (lexed s)
     by-token opens g a e = rw e
     by-token closes g a e = rw e
 
-pub one-spelling : {ts us : List Token} {text : List ℕ} → SpelledBy ts text → SpelledBy us text → ts ≡ us
+pub one-spelling : {ts us : List Token} {text : List ℕ} → OneSpelling ts us text
 one-spelling s r = let p = lexed s in let q = lexed r in cc

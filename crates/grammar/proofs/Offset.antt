@@ -6,28 +6,28 @@ use mathlib.Core.List.{List, [], _∷_, _++_}
 use Prim.Native.Nat.{ℕ, zero, suc, _≤_, _<_}
 use native.Mathlib.Omega.{arith}
 use lib.ListN.{length, take}
-use Rattle.grammar.specs.Token.{Atom, Token, closes, Apart}
-use Rattle.grammar.specs.Scan.{kind, Class, prefixed, leafy, neither, classify, State, ready, apart, after, word, rest, Step, dead, go, step, Scan, good, bad, finish}
+use Rattle.grammar.specs.Token.{Atom, Token, closes, NoWordByte}
+use Rattle.grammar.specs.Scan.{kind, Class, prefixed, leafy, neither, classify, ScanState, ready, apart, after, word, rest, ScanStep, dead, go, scanStep, Scan, good, bad, scanEnd}
 use Rattle.grammar.specs.Scan.{finishWord, behind, follow, scan}
 use Rattle.grammar.proofs.Words.{ClassIs, class-is}
 use Rattle.grammar.proofs.Complete.{bad-good, prefix-good, leaf-good, read-word, read-rest}
 
 -- ---- from every state on
 
-abbrev Ends : State → Type 0
+abbrev Ends : ScanState → Type 0
 Ends s = (text : List ℕ) × (ts : List Token) × (scan s text ≡ good ts)
 
 closers : ℕ → List ℕ
 closers zero = []
 closers (suc d) = 41 ∷ closers d
 
-closers-apart : (d : ℕ) → Apart (closers d)
+closers-apart : (d : ℕ) → NoWordByte (closers d)
 unfolding closers
 closers-apart zero = tt
 closers-apart (suc d) = refl
 
 after-ends : (d : ℕ) → (ts : List Token) × (scan (after d) (closers d) ≡ good ts)
-unfolding closers scan step kind finish
+unfolding closers scan scanStep kind scanEnd
 after-ends zero = (_, refl)
 after-ends (suc d) = (_, ap (behind (closes ∷ [])) (after-ends d .1))
 
@@ -39,11 +39,11 @@ unfolding classify
 ready-ends d = (112 ∷ closers d, _, read-word d (closers d) (112 ∷ []) (record { letters = (refl, tt); short = omega arith }) (leaf-ends (112 ∷ []) d refl .1))
 
 ready-gap : (d : ℕ) (text : List ℕ) {ts : List Token} → scan (ready d) text ≡ good ts → scan (ready d) (32 ∷ text) ≡ good ts
-unfolding scan step kind
+unfolding scan scanStep kind
 ready-gap d text e = rw e
 
 word-ends : (w : List ℕ) (d : ℕ) → Ends (word w d)
-unfolding scan step kind classify
+unfolding scan scanStep kind classify
 word-ends w d = by-class (classify w) refl (class-is w)
   where
     by-class : (c : Class) → classify w ≡ c → ClassIs w c → Ends (word w d)
@@ -52,8 +52,8 @@ word-ends w d = by-class (classify w) refl (class-is w)
     by-class neither e (inl u) = let g = leaf-ends (85 ∷ 112 ∷ []) d refl in (112 ∷ closers d, g .0, rw (u, g .1))
     by-class neither e (inr r) = let g = leaf-ends (82 ∷ 112 ∷ []) d refl in (112 ∷ closers d, g .0, rw (r, g .1))
 
-ends : (s : State) → Ends s
-unfolding scan step kind
+ends : (s : ScanState) → Ends s
+unfolding scan scanStep kind
 ends (ready d) = ready-ends d
 ends (apart d) = let r = ready-ends d in (32 ∷ r .0, r .1, rw (r .2))
 ends (after d) = let g = after-ends d in (closers d, g .0, g .1)
@@ -70,15 +70,15 @@ of-behind out (good ts) e = absurd (good-bad e)
 of-behind out (bad j) e = (j, cc, refl)
 
 -- whatever stands before it goes on to a formula
-pub before-bad : (s : State) (text : List ℕ) {k : ℕ} → scan s text ≡ bad k → (j : ℕ) → j ≤ k → (more : List ℕ) × (ts : List Token) × (scan s (take j text ++ more) ≡ good ts)
+pub before-bad : (s : ScanState) (text : List ℕ) {k : ℕ} → scan s text ≡ bad k → (j : ℕ) → j ≤ k → (more : List ℕ) × (ts : List Token) × (scan s (take j text ++ more) ≡ good ts)
 unfolding scan
 before-bad s text e zero h = ends s
 before-bad s [] e (suc j) h = ends s
-before-bad s (b ∷ text) {k} e (suc j) h = by-step (step s b) refl e (λ t i l g. before-bad t text g j l)
+before-bad s (b ∷ text) {k} e (suc j) h = by-step (scanStep s b) refl e (λ t i l g. before-bad t text g j l)
   where
-    by-step : (x : Step) → step s b ≡ x → follow x (λ t. scan t text) ≡ bad k
-        → ((t : State) (i : ℕ) → j ≤ i → scan t text ≡ bad i → (more : List ℕ) × (ts : List Token) × (scan t (take j text ++ more) ≡ good ts))
-        → (more : List ℕ) × (ts : List Token) × (follow (step s b) (λ t. scan t (take j text ++ more)) ≡ good ts)
+    by-step : (x : ScanStep) → scanStep s b ≡ x → follow x (λ t. scan t text) ≡ bad k
+        → ((t : ScanState) (i : ℕ) → j ≤ i → scan t text ≡ bad i → (more : List ℕ) × (ts : List Token) × (scan t (take j text ++ more) ≡ good ts))
+        → (more : List ℕ) × (ts : List Token) × (follow (scanStep s b) (λ t. scan t (take j text ++ more)) ≡ good ts)
     by-step dead q g ih = let z : zero ≡ k = cc in absurd (omega arith)
     by-step (go out t) q g ih =
         let b = of-behind out (scan t text) g in
@@ -91,8 +91,8 @@ at-end-word (leafy l) zero e = absurd (good-bad e)
 at-end-word (leafy l) (suc d) e = cc
 at-end-word neither d e = cc
 
-at-end : (s : State) {k : ℕ} → finish s ≡ bad k → k ≡ zero
-unfolding finish
+at-end : (s : ScanState) {k : ℕ} → scanEnd s ≡ bad k → k ≡ zero
+unfolding scanEnd
 at-end (ready d) e = cc
 at-end (apart d) e = cc
 at-end (after zero) e = absurd (good-bad e)
@@ -101,14 +101,14 @@ at-end (word w d) e = at-end-word (classify w) d e
 at-end (rest c cs t d) e = cc
 
 -- and with the byte at it nothing does, unless the text has ended
-pub at-bad : (s : State) (text : List ℕ) {k : ℕ} → scan s text ≡ bad k → ((k < length text) × ((more : List ℕ) → scan s (take (suc k) text ++ more) ≡ bad k)) ⊎ (k ≡ length text)
+pub at-bad : (s : ScanState) (text : List ℕ) {k : ℕ} → scan s text ≡ bad k → ((k < length text) × ((more : List ℕ) → scan s (take (suc k) text ++ more) ≡ bad k)) ⊎ (k ≡ length text)
 unfolding scan
 at-bad s [] e = inr (at-end s e)
-at-bad s (b ∷ text) {k} e = by-step (step s b) refl e (λ t i g. at-bad t text g)
+at-bad s (b ∷ text) {k} e = by-step (scanStep s b) refl e (λ t i g. at-bad t text g)
   where
-    by-step : (x : Step) → step s b ≡ x → follow x (λ t. scan t text) ≡ bad k
-        → ((t : State) (i : ℕ) → scan t text ≡ bad i → ((i < length text) × ((more : List ℕ) → scan t (take (suc i) text ++ more) ≡ bad i)) ⊎ (i ≡ length text))
-        → ((k < length (b ∷ text)) × ((more : List ℕ) → follow (step s b) (λ t. scan t (take k text ++ more)) ≡ bad k)) ⊎ (k ≡ length (b ∷ text))
+    by-step : (x : ScanStep) → scanStep s b ≡ x → follow x (λ t. scan t text) ≡ bad k
+        → ((t : ScanState) (i : ℕ) → scan t text ≡ bad i → ((i < length text) × ((more : List ℕ) → scan t (take (suc i) text ++ more) ≡ bad i)) ⊎ (i ≡ length text))
+        → ((k < length (b ∷ text)) × ((more : List ℕ) → follow (scanStep s b) (λ t. scan t (take k text ++ more)) ≡ bad k)) ⊎ (k ≡ length (b ∷ text))
     by-step dead q g ih = let z : k ≡ zero = cc in inl (omega arith, λ more. rw (q, z))
     by-step (go out t) q g ih =
         let b = of-behind out (scan t text) g in

@@ -10,14 +10,15 @@ use lib.Seq.{drop-cons, drop-drop, drop-length}
 use Rattle.sequence.specs.Operators.{Unary, Binary, unaryToken}
 use Rattle.formula.specs.Formula.{leaf, unary, binary, size}
 use Rattle.formula.specs.Nodes.{Node, Codes}
-use Rattle.grammar.specs.Nodes.{node, nodesOf}
-use Rattle.grammar.specs.Token.{Typed, Atom, Token, pre, mid, atom, Apart}
+use Rattle.grammar.specs.Nodes.{nodesOf}
+use Rattle.formula.specs.Kinds.{node}
+use Rattle.grammar.specs.Token.{Typed, Atom, Token, pre, mid, atom, NoWordByte}
 use Rattle.sequence.specs.Operators.Unary.{weakNext}
 use Rattle.grammar.specs.Grammar.{level, leftLevel, rightLevel, operand, prefix, between, Reads, Refused11}
 use Rattle.grammar.specs.Grammar as grammar
 use Rattle.names.specs.Names.{sameBytes}
-use Rattle.grammar.specs.Scan.{prefixed, leafy, neither, classify, State, ready, after, word, dead, go, step, Scan, good, bad, finish, behind, scan, scanText}
-use Rattle.grammar.specs.Passing.{ahead, Passes, Stops, Peek, op, nothing, cut, peek, IfOp, QuietAt, Expression, Continues}
+use Rattle.grammar.specs.Scan.{prefixed, leafy, neither, classify, ScanState, ready, after, word, dead, go, scanStep, Scan, good, bad, scanEnd, behind, scan, scanText}
+use Rattle.grammar.specs.Passing.{scanAhead, ScanPasses, Stops, Peek, op, nothing, cut, peek, IfOp, QuietAt, Expression, Continues}
 use Rattle.grammar.proofs.Levels.{sides, takes-over, lower}
 use Rattle.grammar.proofs.Complete.{NoSquare, ended-prefix, ended-leaf, ended-neither}
 use Rattle.grammar.proofs.Sound.{sound}
@@ -26,52 +27,52 @@ use Rattle.grammar.proofs.Theorems.{scan-refused}
 
 -- ---- one after the other
 
-ahead-ahead : (m n : ℕ) (ts us : List Token) (x : Scan) → ahead m ts (ahead n us x) ≡ ahead (m + n) (ts ++ us) x
+ahead-ahead : (m n : ℕ) (ts us : List Token) (x : Scan) → scanAhead m ts (scanAhead n us x) ≡ scanAhead (m + n) (ts ++ us) x
 ahead-ahead m n ts us (good vs) = ap good (sym (append-assoc ts us vs))
 ahead-ahead m n ts us (bad k) = ap bad (omega arith)
 
 module _ (text : List ℕ) where
-  pub pass-none : {s : State} {at : ℕ} → at ≤ length text → Passes text s at [] s at
+  pub pass-none : {s : ScanState} {at : ℕ} → at ≤ length text → ScanPasses text s at [] s at
   pass-none {s} {at} h = record { forward = omega arith; within = h; is = none (scan s (drop at text)) }
     where
-      none : (x : Scan) → x ≡ ahead (at - at) [] x
+      none : (x : Scan) → x ≡ scanAhead (at - at) [] x
       none (good ts) = refl
       none (bad k) = ap bad (omega arith)
 
-  pub pass-then : {s t u : State} {at mid next : ℕ} {ts us : List Token} → Passes text s at ts t mid → Passes text t mid us u next → Passes text s at (ts ++ us) u next
+  pub pass-then : {s t u : ScanState} {at mid next : ℕ} {ts us : List Token} → ScanPasses text s at ts t mid → ScanPasses text t mid us u next → ScanPasses text s at (ts ++ us) u next
   pass-then {s} {t} {u} {at} {mid} {next} {ts} {us} p q =
       let n : (mid - at) + (next - mid) ≡ next - at = omega (arith, p .forward, q .forward) in
       record {
         forward = omega (arith, p .forward, q .forward);
         within = q .within;
-        is = p .is ∙ ap (ahead (mid - at) ts) (q .is) ∙ ahead-ahead (mid - at) (next - mid) ts us (scan u (drop next text)) ∙ ap (λ (m : ℕ). ahead m (ts ++ us) (scan u (drop next text))) n;
+        is = p .is ∙ ap (scanAhead (mid - at) ts) (q .is) ∙ ahead-ahead (mid - at) (next - mid) ts us (scan u (drop next text)) ∙ ap (λ (m : ℕ). scanAhead m (ts ++ us) (scan u (drop next text))) n;
       }
 
-  pub pass-stop : {s t : State} {at mid k : ℕ} {ts : List Token} → Passes text s at ts t mid → Stops text t mid k → Stops text s at k
+  pub pass-stop : {s t : ScanState} {at mid k : ℕ} {ts : List Token} → ScanPasses text s at ts t mid → Stops text t mid k → Stops text s at k
   pass-stop {s} {t} {at} {mid} {k} {ts} p q =
       let n : (mid - at) + (k - mid) ≡ k - at = omega (arith, p .forward, q .forward) in
-      record { forward = omega (arith, p .forward, q .forward); within = q .within; is = p .is ∙ ap (ahead (mid - at) ts) (q .is) ∙ ap bad n }
+      record { forward = omega (arith, p .forward, q .forward); within = q .within; is = p .is ∙ ap (scanAhead (mid - at) ts) (q .is) ∙ ap bad n }
 
   -- ---- a byte
 
-  pub pass-byte : {s t : State} {at : ℕ} {out : List Token} → at < length text → step s (getD text at 0) ≡ go out t → Passes text s at out t (at + 1)
+  pub pass-byte : {s t : ScanState} {at : ℕ} {out : List Token} → at < length text → scanStep s (getD text at 0) ≡ go out t → ScanPasses text s at out t (at + 1)
   unfolding scan
   pass-byte {s} {t} {at} {out} h e =
       let m : at + 1 ≡ suc at = omega arith in
       let n : suc at - at ≡ 1 = omega arith in
       record { forward = omega arith; within = omega arith; is = rw (drop-cons text at 0 h, e, m, n) (same (scan t (drop (suc at) text))) }
     where
-      same : (x : Scan) → behind out x ≡ ahead 1 out x
+      same : (x : Scan) → behind out x ≡ scanAhead 1 out x
       same (good ts) = refl
       same (bad k) = ap bad (omega arith)
 
-  pub stop-byte : {s : State} {at : ℕ} → at < length text → step s (getD text at 0) ≡ dead → Stops text s at at
+  pub stop-byte : {s : ScanState} {at : ℕ} → at < length text → scanStep s (getD text at 0) ≡ dead → Stops text s at at
   unfolding scan
   stop-byte {s} {at} h e =
       let n : at - at ≡ 0 = omega arith in
       record { forward = omega arith; within = omega arith; is = rw (drop-cons text at 0 h, e, n) }
 
-  pub stop-end : {s : State} {at : ℕ} → at ≡ length text → finish s ≡ bad 0 → Stops text s at at
+  pub stop-end : {s : ScanState} {at : ℕ} → at ≡ length text → scanEnd s ≡ bad 0 → Stops text s at at
   unfolding scan
   stop-end {s} {at} h e =
       let n : at - at ≡ 0 = omega arith in
@@ -80,14 +81,14 @@ module _ (text : List ℕ) where
 
   -- ---- a whole word, read to its end
 
-  still : {s t : State} {at : ℕ} {ts : List Token} → at ≤ length text → scan s (drop at text) ≡ ahead 0 ts (scan t (drop at text)) → Passes text s at ts t at
+  still : {s t : ScanState} {at : ℕ} {ts : List Token} → at ≤ length text → scan s (drop at text) ≡ scanAhead 0 ts (scan t (drop at text)) → ScanPasses text s at ts t at
   still {s} {t} {at} {ts} h e = let n : at - at ≡ 0 = omega arith in record { forward = omega arith; within = h; is = rw n e }
 
-  module _ (w : List ℕ) (d : ℕ) {at : ℕ} (h : at ≤ length text) (a : Apart (drop at text)) where
-    pub word-prefix : {u : Unary} → classify w ≡ prefixed u → (sameBytes w (unaryToken weakNext) ≡ true → NoSquare (drop at text)) → Passes text (word w d) at (pre u ∷ []) (ready d) at
+  module _ (w : List ℕ) (d : ℕ) {at : ℕ} (h : at ≤ length text) (a : NoWordByte (drop at text)) where
+    pub word-prefix : {u : Unary} → classify w ≡ prefixed u → (sameBytes w (unaryToken weakNext) ≡ true → NoSquare (drop at text)) → ScanPasses text (word w d) at (pre u ∷ []) (ready d) at
     word-prefix c n = still h (ended-prefix w d c (drop at text) a n)
 
-    pub word-leaf : {l : Atom} → classify w ≡ leafy l → Passes text (word w d) at (atom l ∷ []) (after d) at
+    pub word-leaf : {l : Atom} → classify w ≡ leafy l → ScanPasses text (word w d) at (atom l ∷ []) (after d) at
     word-leaf c = still h (ended-leaf w d c (drop at text) a)
 
     pub word-neither : classify w ≡ neither → Stops text (word w d) at at
@@ -99,14 +100,14 @@ module _ (text : List ℕ) where
     at-peek : (d : ℕ) → Peeks d (after d) (drop at text) (peek (drop at text))
     at-peek d = peeks d (drop at text)
 
-    pub pass-op : {o : Binary} {n : ℕ} → peek (drop at text) ≡ op o n → (d : ℕ) → Passes text (after d) at (mid o ∷ []) (ready d) (at + n)
+    pub pass-op : {o : Binary} {n : ℕ} → peek (drop at text) ≡ op o n → (d : ℕ) → ScanPasses text (after d) at (mid o ∷ []) (ready d) (at + n)
     pass-op {o} {n} e d =
         let p = rw e at (at-peek d) in
         let l = length-drop at text in
         let m : (at + n) - at ≡ n = omega arith in
         record { forward = omega arith; within = omega (arith, p .0); is = rw (m, ← (drop-drop n at text)) (p .1) }
 
-    pub pass-nothing : {n : ℕ} → peek (drop at text) ≡ nothing n → (d : ℕ) → Passes text (after d) at [] (after d) (at + n)
+    pub pass-nothing : {n : ℕ} → peek (drop at text) ≡ nothing n → (d : ℕ) → ScanPasses text (after d) at [] (after d) (at + n)
     pass-nothing {n} e d =
         let p = rw e at (at-peek d) in
         let l = length-drop at text in
@@ -126,10 +127,10 @@ module _ (text : List ℕ) where
 
   -- ---- the returns of `prefix`
 
-  pub is-leaf : {at next : ℕ} (l : Atom) → ((d : ℕ) → Passes text (ready d) at (atom l ∷ []) (after d) next) → Expression text operand at next (leaf l)
+  pub is-leaf : {at next : ℕ} (l : Atom) → ((d : ℕ) → ScanPasses text (ready d) at (atom l ∷ []) (after d) next) → Expression text operand at next (leaf l)
   is-leaf l p = record { tokens = atom l ∷ []; passes = p; derived = grammar.alone l }
 
-  pub is-prefix : {at mid next : ℕ} {t : Typed} (u : Unary) → ((d : ℕ) → Passes text (ready d) at (pre u ∷ []) (ready d) mid) → Expression text
+  pub is-prefix : {at mid next : ℕ} {t : Typed} (u : Unary) → ((d : ℕ) → ScanPasses text (ready d) at (pre u ∷ []) (ready d) mid) → Expression text
       operand mid next t → Expression text operand at next (unary u t)
   is-prefix u p x = record { tokens = pre u ∷ x .tokens; passes = λ d. pass-then (p d) (x .passes d); derived = prefix u (x .derived) }
 
@@ -182,8 +183,8 @@ module _ (text : List ℕ) where
 
   -- ---- the whole text
 
-  pub is-formula : {end : ℕ} {t : Typed} → Expression text 0 0 end t → Passes text (after 0) end [] (after 0) (length text) → Reads text t
-  unfolding scan finish
+  pub is-formula : {end : ℕ} {t : Typed} → Expression text 0 0 end t → ScanPasses text (after 0) end [] (after 0) (length text) → Reads text t
+  unfolding scan scanEnd
   is-formula {end} {t} x p =
       let w = pass-then (x .passes 0) p in
       let e : scanText text ≡ good (x .tokens) = w .is ∙ rw (drop-length text) (ap good (append-nil (x .tokens ++ []) ∙ append-nil (x .tokens))) in

@@ -11,55 +11,55 @@ use Rattle.sequence.specs.Operators.{Binary}
 use Rattle.sequence.specs.Operators.Binary.{or, and, until, release, implies, equiv}
 use Rattle.names.specs.Names.{isNameByte}
 use Rattle.grammar.specs.Token.{Token, mid}
-use Rattle.grammar.specs.Scan.{Sign, blank, bang, opener, closer, amp, bar, dash, less, other, Kind, wordy, square, sign, kind, State, ready, apart, after, rest, dead, go}
-use Rattle.grammar.specs.Scan.{step, Scan, good, bad, finish, behind, scan}
-use Rattle.grammar.specs.Passing.{ahead, Peek, op, nothing, cut, further, expect, alone, peekSign, peekKind, peek}
+use Rattle.grammar.specs.Scan.{Sign, blank, bang, opener, closer, amp, bar, dash, less, other, Kind, wordy, square, sign, kind, ScanState, ready, apart, after, rest, dead, go}
+use Rattle.grammar.specs.Scan.{scanStep, Scan, good, bad, scanEnd, behind, scan}
+use Rattle.grammar.specs.Passing.{scanAhead, Peek, op, nothing, cut, further, expect, alone, peekSign, peekKind, peek}
 use Rattle.grammar.proofs.Words.{SignIs, KindIs, kind-is, kind-word}
 use Rattle.grammar.proofs.Complete.{read-apart}
 
 -- where no operator begins, only a closing bracket goes on
 abbrev pub Halts : List ℕ → Type 0
 Halts [] = Unit
-Halts (b ∷ text) = (b ≡ 41 → ⊥) → (d : ℕ) → step (after d) b ≡ dead
+Halts (b ∷ text) = (b ≡ 41 → ⊥) → (d : ℕ) → scanStep (after d) b ≡ dead
 
 module _ (d : ℕ) where
-  abbrev pub Peeks : State → List ℕ → Peek → Type 0
-  Peeks s text (op o n) = (n ≤ length text) × (scan s text ≡ ahead n (mid o ∷ []) (scan (ready d) (drop n text)))
-  Peeks s text (nothing n) = (n ≤ length text) × (scan s text ≡ ahead n [] (scan (after d) (drop n text))) × Halts (drop n text)
+  abbrev pub Peeks : ScanState → List ℕ → Peek → Type 0
+  Peeks s text (op o n) = (n ≤ length text) × (scan s text ≡ scanAhead n (mid o ∷ []) (scan (ready d) (drop n text)))
+  Peeks s text (nothing n) = (n ≤ length text) × (scan s text ≡ scanAhead n [] (scan (after d) (drop n text))) × Halts (drop n text)
   Peeks s text (cut n) = (n ≤ length text) × (scan s text ≡ bad n)
 
-  behind-ahead : (out ts : List Token) (n : ℕ) (x : Scan) → behind out (ahead n ts x) ≡ ahead (suc n) (out ++ ts) x
+  behind-ahead : (out ts : List Token) (n : ℕ) (x : Scan) → behind out (scanAhead n ts x) ≡ scanAhead (suc n) (out ++ ts) x
   behind-ahead out ts n (good us) = ap good (sym (append-assoc out ts us))
   behind-ahead out ts n (bad k) = ap bad (omega arith)
 
-  module _ (s : State) (b : ℕ) (text : List ℕ) where
-    at-further : (t : State) (k : Peek) → step s b ≡ go [] t → Peeks t text k → Peeks s (b ∷ text) (further k)
+  module _ (s : ScanState) (b : ℕ) (text : List ℕ) where
+    at-further : (t : ScanState) (k : Peek) → scanStep s b ≡ go [] t → Peeks t text k → Peeks s (b ∷ text) (further k)
     unfolding scan
     at-further t (op o n) e p = (omega (arith, p .0), rw (e, p .1) (behind-ahead [] (mid o ∷ []) n (scan (ready d) (drop n text))))
     at-further t (nothing n) e p = (omega (arith, p .0), rw (e, p .1) (behind-ahead [] [] n (scan (after d) (drop n text))), p .2)
     at-further t (cut n) e p = (omega (arith, p .0), rw (e, p .1))
 
-    at-op : (t : State) (o : Binary) → step s b ≡ go (mid o ∷ []) t → scan t text ≡ scan (ready d) text → Peeks s (b ∷ text) (op o 1)
+    at-op : (t : ScanState) (o : Binary) → scanStep s b ≡ go (mid o ∷ []) t → scan t text ≡ scan (ready d) text → Peeks s (b ∷ text) (op o 1)
     unfolding scan
     at-op t o e p = (omega arith, rw (e, p) (same (scan (ready d) text)))
       where
-        same : (x : Scan) → behind (mid o ∷ []) x ≡ ahead 1 (mid o ∷ []) x
+        same : (x : Scan) → behind (mid o ∷ []) x ≡ scanAhead 1 (mid o ∷ []) x
         same (good ts) = refl
         same (bad k) = ap bad (omega arith)
 
-    at-cut : step s b ≡ dead → Peeks s (b ∷ text) (cut 0)
+    at-cut : scanStep s b ≡ dead → Peeks s (b ∷ text) (cut 0)
     unfolding scan
     at-cut e = (omega arith, rw e)
 
   at-nothing : (text : List ℕ) → Halts text → Peeks (after d) text (nothing 0)
   at-nothing text h = (omega arith, same (scan (after d) text), h)
     where
-      same : (x : Scan) → x ≡ ahead 0 [] x
+      same : (x : Scan) → x ≡ scanAhead 0 [] x
       same (good ts) = refl
       same (bad k) = ap bad (omega arith)
 
   expects : (c : ℕ) (cs : List ℕ) (o : Binary) (text : List ℕ) → Peeks (rest c cs (mid o) d) text (expect (c ∷ cs) o text)
-  unfolding expect scan step finish
+  unfolding expect scan scanStep scanEnd
   expects c cs o [] = (omega arith, refl)
   expects c [] o (b ∷ text) = by-test (eqb b c) refl
     where
@@ -72,8 +72,8 @@ module _ (d : ℕ) where
       by-test ih true q = at-further (rest c (a ∷ cs) (mid o) d) b text (rest a cs (mid o) d) (expect (a ∷ cs) o text) (rw q) ih
       by-test ih false q = at-cut (rest c (a ∷ cs) (mid o) d) b text (rw q)
 
-  alones : (b : ℕ) (o : Binary) (text : List ℕ) → step (after d) b ≡ go (mid o ∷ []) (apart d) → Peeks (after d) (b ∷ text) (alone o text)
-  unfolding scan step finish
+  alones : (b : ℕ) (o : Binary) (text : List ℕ) → scanStep (after d) b ≡ go (mid o ∷ []) (apart d) → Peeks (after d) (b ∷ text) (alone o text)
+  unfolding scan scanStep scanEnd
   alones b o [] e = at-op (after d) b [] (apart d) o e refl
   alones b o (a ∷ text) e = by-test (isNameByte a) refl
     where
@@ -83,7 +83,7 @@ module _ (d : ℕ) where
 
   module _ (b : ℕ) (text : List ℕ) (below : Peek) (ih : Peeks (after d) text below) where
     peek-sign : (s : Sign) → kind b ≡ sign s → SignIs b s → Peeks (after d) (b ∷ text) (peekSign s text below)
-    unfolding step
+    unfolding scanStep
     peek-sign blank e h = at-further (after d) b text (after d) below (rw e) ih
     peek-sign bang e h = at-nothing (b ∷ text) (λ n d. rw e)
     peek-sign opener e h = at-nothing (b ∷ text) (λ n d. rw e)
@@ -95,7 +95,7 @@ module _ (d : ℕ) where
     peek-sign other e h = at-nothing (b ∷ text) (λ n d. rw e)
 
     peek-kind : (k : Kind) → kind b ≡ k → KindIs b k → Peeks (after d) (b ∷ text) (peekKind b k text below)
-    unfolding step
+    unfolding scanStep
     peek-kind (wordy l) e h = by-test (eqb b 85) (eqb b 82) refl refl
       where
         by-test : (p q : Bool) → eqb b 85 ≡ p → eqb b 82 ≡ q → Peeks (after d) (b ∷ text) (cond p (alone until text) (cond q (alone release text) (nothing 0)))

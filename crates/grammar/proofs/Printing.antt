@@ -10,9 +10,10 @@ use Rattle.sequence.specs.Operators.{unaryToken, binaryToken}
 use Rattle.formula.specs.Formula.{leaf, unary, binary, Leaf, proposition, Formula}
 use Rattle.formula.specs.Formula as formula
 use Rattle.text.specs.Text.{space, bracketed, leafText, text}
-use Rattle.grammar.specs.Token.{constant, Typed, Token, pre, mid, atom, opens, closes, Apart, SpelledBy, end, gap, token}
-use Rattle.grammar.specs.Grammar.{Derives, alone, prefix, bracket, between, Reads}
+use Rattle.grammar.specs.Token.{constant, Typed, Token, pre, mid, atom, opens, closes, NoWordByte, SpelledBy, end, gap, token}
+use Rattle.grammar.specs.Grammar.{Derives, alone, prefix, bracket, between}
 use Rattle.grammar.specs.Naming.{atomOf, typed, GoodLeaf, AllNamed}
+use Rattle.grammar.specs.Promises.{Printed}
 use Rattle.grammar.proofs.Levels.{sides, lower}
 use Rattle.grammar.proofs.Sound.{plain}
 
@@ -33,7 +34,7 @@ derives (binary o l r) = let s = sides o in lower (omega arith) (between o (lowe
 
 -- the text spells the tokens, before whatever begins with no word's byte
 abbrev Prints : List Token → List ℕ → Type 0
-Prints ts text = (us : List Token) (more : List ℕ) → Apart more → SpelledBy us more → SpelledBy (ts ++ us) (text ++ more)
+Prints ts text = (us : List Token) (more : List ℕ) → NoWordByte more → SpelledBy us more → SpelledBy (ts ++ us) (text ++ more)
 
 -- in brackets, before anything
 wrap : (ts : List Token) (text : List ℕ) → Prints ts text → {us : List Token} {more : List ℕ} → SpelledBy us more → SpelledBy (inBrackets ts ++ us) (bracketed text ++ more)
@@ -66,7 +67,7 @@ module _ (names : List (List ℕ)) where
       )
       (wrap ls (text names l) (prints l (g .0)) (gap right))
 
-  pub printed : (t : Formula) → AllNamed names t → Reads (text names t) (typed names t)
-  printed t g =
-      let s : SpelledBy (tokens (typed names t)) (text names t) = rw append-nil at (rw append-nil at (prints t g [] [] tt end)) in
-      record { tokens = tokens (typed names t); spelt = s; derived = derives (typed names t) }
+pub printed : (names : List (List ℕ)) (t : Formula) → Printed names t
+printed names t g =
+    let s : SpelledBy (tokens (typed names t)) (text names t) = rw append-nil at (rw append-nil at (prints names t g [] [] tt end)) in
+    record { tokens = tokens (typed names t); spelt = s; derived = derives (typed names t) }

@@ -12,7 +12,7 @@ use Rattle.sequence.specs.Operators.{Binary}
 use Rattle.formula.specs.Formula.{leaf, unary, binary}
 use Rattle.grammar.specs.Token.{Typed, Token, pre, mid, atom, opens, closes}
 use Rattle.grammar.specs.Grammar.{level, leftLevel, rightLevel, operand, Derives, alone, prefix, bracket, between, looser}
-use Rattle.grammar.specs.Reader.{Read, got, none, andThen, closed, readInfix, readPrefix, readMore, fuel, readTokens}
+use Rattle.grammar.specs.Reader.{Read, got, none, readThen, closed, readInfix, readPrefix, readMore, fuel, readTokens}
 use Rattle.grammar.proofs.Levels.{sides, gives-way, takes-over, lower}
 
 -- ---- the next infix operator, if one comes next
@@ -135,7 +135,7 @@ complete {ts} {t} e = rw append-nil at (whole (reads e) [] tt tt (fuel ts) (omeg
 none-got : {t : Typed} {ts : List Token} → none ≡ got t ts → ⊥
 none-got e = let z : _≡_ {A = ℕ} 0 1 = cc in omega arith
 
-in-turn : (r : Read) (f : Typed → List Token → Read) {u : Typed} {rest : List Token} → andThen r f ≡ got u rest
+in-turn : (r : Read) (f : Typed → List Token → Read) {u : Typed} {rest : List Token} → readThen r f ≡ got u rest
     → (t : Typed) × (ts : List Token) × (r ≡ got t ts) × (f t ts ≡ got u rest)
 in-turn (got t ts) f e = (t, ts, refl, e)
 in-turn none f e = absurd (none-got e)
@@ -215,7 +215,7 @@ mutual
   more-sound (suc k) n p xs t [] h d c e = stays n [] h d tt e
   more-sound (suc k) n p xs t (pre v ∷ ts) h d c e = stays n (pre v ∷ ts) h d tt e
   more-sound (suc k) n p xs t (mid o ∷ ts) {u} {rest} h d c e =
-      let pick : (b : Bool) → leb n (level o) ≡ b → cond b (andThen (readInfix k (rightLevel o) ts) (λ r more. readMore k n (binary o t r) more))
+      let pick : (b : Bool) → leb n (level o) ≡ b → cond b (readThen (readInfix k (rightLevel o) ts) (λ r more. readMore k n (binary o t r) more))
       (got t (mid o ∷ ts)) ≡ got u rest → Onward n xs (mid o ∷ ts) u rest = λ b. elim b [
         | true ↦ λ w q.
             let so = sides o in

@@ -12,10 +12,10 @@ use Rattle.sequence.specs.Operators.Unary.{not, weakNext, strongNext}
 use Rattle.sequence.specs.Operators.Binary.{or, and, until, release, implies, equiv}
 use Rattle.sequence.specs.Operators.{unaryToken}
 use Rattle.names.specs.Names.{isNameByte, sameBytes}
-use Rattle.grammar.specs.Token.{Token, pre, mid, atom, opens, closes, spell, isWord, Good, Apart, SpelledBy, end, gap, token}
+use Rattle.grammar.specs.Token.{Token, pre, mid, atom, opens, closes, spell, isWord, GoodToken, NoWordByte, SpelledBy, end, gap, token}
 use Rattle.grammar.specs.Scan.{Sign, blank, bang, opener, closer, amp, bar, dash, less, other, Kind, wordy, square, sign, kind, Class, prefixed, leafy, neither, classify}
-use Rattle.grammar.specs.Scan.{State, ready, apart, after, word, rest, Step, dead, go, emit, onReady, onReadySign, onAfter, onAfterSign, onEnded, onWord, onApart, coming}
-use Rattle.grammar.specs.Scan.{step, Scan, good, bad, finish, finishWord, behind, follow, scan}
+use Rattle.grammar.specs.Scan.{ScanState, ready, apart, after, word, rest, ScanStep, dead, go, emit, onReady, onReadySign, onAfter, onAfterSign, onEnded, onWord, onApart, coming}
+use Rattle.grammar.specs.Scan.{scanStep, Scan, good, bad, scanEnd, finishWord, behind, follow, scan}
 use Rattle.grammar.proofs.Flat.{awaits, has, Flat, done, leaves, prefixes, opened, infixes, closed}
 use Rattle.reading.proofs.Lists.{true-false}
 use Rattle.spelling.proofs.Same.{same-eq}
@@ -23,9 +23,9 @@ use Rattle.grammar.proofs.Words.{WordBytes, SignIs, KindIs, kind-is, Be
 use Rattle.grammar.proofs.Complete.{bad-good}
 
 -- what a state that takes a text's tokens says of them
-pub Means : State → List ℕ → List Token → Type 0
+pub Means : ScanState → List ℕ → List Token → Type 0
 Means (ready d) text ts = SpelledBy ts text × Flat awaits d ts
-Means (apart d) text ts = Apart text × SpelledBy ts text × Flat awaits d ts
+Means (apart d) text ts = NoWordByte text × SpelledBy ts text × Flat awaits d ts
 Means (after d) text ts = SpelledBy ts text × Flat has d ts
 Means (word w d) text ts = Begun w → SpelledBy ts (w ++ text) × Flat awaits d ts
 Means (rest c cs t d) text ts = (us : List Token) × (more : List ℕ) × (ts ≡ t ∷ us) × (text ≡ c ∷ (cs ++ more)) × SpelledBy us more × Flat awaits d us
@@ -34,7 +34,7 @@ of-behind : (out : List Token) (x : Scan) {ts : List Token} → behind out x ≡
 of-behind out (good us) e = (us, refl, cc)
 of-behind out (bad k) e = absurd (bad-good e)
 
-of-emit : (t : Token) (x : Step) (f : State → Scan) {ts : List Token} → follow (emit t x) f ≡ good ts → (us : List Token) × (follow x f ≡ good us) × (ts ≡ t ∷ us)
+of-emit : (t : Token) (x : ScanStep) (f : ScanState → Scan) {ts : List Token} → follow (emit t x) f ≡ good ts → (us : List Token) × (follow x f ≡ good us) × (ts ≡ t ∷ us)
 of-emit t dead f e = absurd (bad-good e)
 of-emit t (go out s) f e = let b = of-behind (t ∷ out) (f s) e in (out ++ b .0, ap (λ (x : Scan). behind out x) (b .1), b .2)
 
@@ -47,21 +47,21 @@ grown (a ∷ w) b g h l = record { letters = (g .letters .0, all w (g .letters .
     all (a ∷ w) o = (o .0, all w (o .1))
 
 -- a token that is no word
-pub plain : (t : Token) → Good t → isWord t ≡ false → {ts : List Token} {text : List ℕ} → SpelledBy ts text → SpelledBy (t ∷ ts) (spell t ++ text)
+pub plain : (t : Token) → GoodToken t → isWord t ≡ false → {ts : List Token} {text : List ℕ} → SpelledBy ts text → SpelledBy (t ∷ ts) (spell t ++ text)
 plain t g n s = token t g (λ w. absurd (true-false w n)) s
 
 -- the same, with the tokens and the text by equations
-plain-of : (t : Token) → Good t → isWord t ≡ false → {ts us : List Token} {text : List ℕ} (more : List ℕ) → ts ≡ t ∷ us → text ≡ spell t ++ more → SpelledBy us more → SpelledBy ts text
+plain-of : (t : Token) → GoodToken t → isWord t ≡ false → {ts us : List Token} {text : List ℕ} (more : List ℕ) → ts ≡ t ∷ us → text ≡ spell t ++ more → SpelledBy us more → SpelledBy ts text
 plain-of t g n more p q s = rw (p, q) (plain t g n s)
 
 -- ---- one byte, with the text behind it
 
-module _ (text : List ℕ) (ih : (s : State) (ts : List Token) → scan s text ≡ good ts → Means s text ts) where
-  abbrev Then : Step → List Token → Type 0
+module _ (text : List ℕ) (ih : (s : ScanState) (ts : List Token) → scan s text ≡ good ts → Means s text ts) where
+  abbrev Then : ScanStep → List Token → Type 0
   Then x ts = follow x (λ t. scan t text) ≡ good ts
 
   -- the state after a byte, and its tokens
-  next : (out : List Token) (s : State) {ts : List Token} → Then (go out s) ts → (us : List Token) × (ts ≡ out ++ us) × Means s text us
+  next : (out : List Token) (s : ScanState) {ts : List Token} → Then (go out s) ts → (us : List Token) × (ts ≡ out ++ us) × Means s text us
   next out s e = let b = of-behind out (scan s text) e in (b .0, b .2, ih s (b .0) (b .1))
 
   abbrev Ready : ℕ → ℕ → List Token → Type 0
@@ -180,8 +180,8 @@ finish-word w zero (leafy l) c {ts} e g =
 finish-word w (suc d) (leafy l) c e g = absurd (bad-good e)
 finish-word w d neither c e g = absurd (bad-good e)
 
-pub means : (text : List ℕ) (s : State) (ts : List Token) → scan s text ≡ good ts → Means s text ts
-unfolding Means scan step finish
+pub means : (text : List ℕ) (s : ScanState) (ts : List Token) → scan s text ≡ good ts → Means s text ts
+unfolding Means scan scanStep scanEnd
 means [] (ready d) ts e = absurd (bad-good e)
 means [] (apart d) ts e = absurd (bad-good e)
 means [] (after zero) ts e = let q : ts ≡ [] = cc in rw q (end, done)

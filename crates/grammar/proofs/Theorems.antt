@@ -11,8 +11,9 @@ use borrow.Author.Tests.{eq-eqb, eqb-true}
 use lib.ListN.{length, take, drop, take-append-drop}
 use lib.Seq.{take-length}
 use Rattle.grammar.specs.Token.{Typed, Token}
-use Rattle.grammar.specs.Grammar.{Derives, Reads, IsFormula, Starts, Refused11}
+use Rattle.grammar.specs.Grammar.{Reads, IsFormula, Starts, Refused11}
 use Rattle.grammar.specs.Scan.{ready, Scan, good, bad, scanText, goesOn, alive}
+use Rattle.grammar.specs.Promises.{OneDerivation, OneTree, OneOffset, FormulaNotRefused, FormulaOrOffset}
 use Rattle.grammar.specs.Reader.{got, readScan, readText}
 use Rattle.grammar.proofs.Flat.{awaits, Flat, done, flat, from-flat}
 use Rattle.grammar.proofs.Reading as reading
@@ -44,10 +45,10 @@ read-formula text {t} e = by-scan (scanText text) refl e
     by-scan (bad k) q r = absurd (let z : _≡_ {A = ℕ} 0 1 = cc in omega arith)
 
 -- one token list has at most one tree, and one text (`one-spelling`, in `Lexing`, says that it has at most one token list)
-pub one-derivation : {ts : List Token} {a b : Typed} → Derives 0 ts a → Derives 0 ts b → a ≡ b
+pub one-derivation : {ts : List Token} {a b : Typed} → OneDerivation ts a b
 one-derivation d e = let p = reading.complete d in let q = reading.complete e in cc
 
-pub one-tree : {text : List ℕ} {a b : Typed} → Reads text a → Reads text b → a ≡ b
+pub one-tree : {text : List ℕ} {a b : Typed} → OneTree text a b
 one-tree f g = let p = formula-read f in let q = formula-read g in cc
 
 -- ---- "11 with the offset of the first byte that can't continue a formula (the text's length if it ends early)"
@@ -64,8 +65,8 @@ scan-refused {text} {k} e = record {
 formula-starts : (text : List ℕ) → IsFormula text → (j : ℕ) → Starts (take j text)
 formula-starts text f j = (drop j text, rw (take-append-drop j text) f)
 
-pub not-both : {text : List ℕ} {k : ℕ} → IsFormula text → Refused11 text k → ⊥
-not-both {text} {k} f r = ⊎-elim (λ h. h .1 (formula-starts text f (suc k))) (λ h. h .1 f) (r .here)
+pub formula-not-refused : {text : List ℕ} {k : ℕ} → FormulaNotRefused text k
+formula-not-refused {text} {k} f r = ⊎-elim (λ h. h .1 (formula-starts text f (suc k))) (λ h. h .1 f) (r .here)
 
 one-side : {text : List ℕ} {j k : ℕ} → Refused11 text j → Refused11 text k → j < k → ⊥
 one-side {text} {j} {k} p q h =
@@ -74,7 +75,7 @@ one-side {text} {j} {k} p q h =
     (λ x. ⊎-elim (λ y. omega (arith, x .0, y .0)) (λ y. omega (arith, x .0, y .0)) (q .here))
     (p .here)
 
-pub one-offset : {text : List ℕ} {j k : ℕ} → Refused11 text j → Refused11 text k → j ≡ k
+pub one-offset : {text : List ℕ} {j k : ℕ} → OneOffset text j k
 one-offset {j = j} {k} p q =
     elim (decLt j k) [
       | yes h ↦ absurd (one-side p q h)
@@ -82,8 +83,8 @@ one-offset {j = j} {k} p q =
     ]
 
 -- a text is a formula, or refused with an offset
-pub decided : (text : List ℕ) → IsFormula text ⊎ ((k : ℕ) × Refused11 text k)
-decided text = by-scan (scanText text) refl
+pub formula-or-offset : (text : List ℕ) → FormulaOrOffset text
+formula-or-offset text = by-scan (scanText text) refl
   where
     by-scan : (s : Scan) → scanText text ≡ s → IsFormula text ⊎ ((k : ℕ) × Refused11 text k)
     by-scan (good ts) e = inl (scan-formula e)

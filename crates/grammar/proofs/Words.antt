@@ -10,13 +10,13 @@ use borrow.Author.Tests.{eqb-true}
 use lib.Dec.{eqb, lit≤}
 use lib.ListN.{length}
 use Rattle.rules.specs.Lists.{Each}
-use Rattle.reading.proofs.Lists.{true-false, not-in}
+use Rattle.reading.proofs.Lists.{not-in}
 use Rattle.spelling.proofs.Same.{same-refl, same-eq}
 use Rattle.names.proofs.NameLaws.{Letter}
 use Rattle.text.proofs.Tokens.{unary-reserved, binary-reserved, constant-reserved}
 use Rattle.grammar.specs.Token.{name, pre, spellAtom, isWord, GoodAtom}
-use Rattle.sequence.specs.Operators.Unary.{not, weakNext, strongNext, finally, globally}
-use Rattle.sequence.specs.Operators.Binary.{or, and, until, release, implies, equiv}
+use Rattle.sequence.specs.Operators.Unary.{weakNext, finally, globally}
+use Rattle.sequence.specs.Operators.Binary.{until, release}
 use Rattle.sequence.specs.Operators.{unaryToken, binaryToken}
 use Rattle.names.specs.Names.{nameLength, isLetter, isNameByte, sameBytes}
 use Rattle.names.specs.Reserved.{reserved}

@@ -4,9 +4,7 @@ use mathlib.Core.List.{List, [], _∷_, _++_}
 use Prim.Native.Nat.{ℕ, _+_, _-_}
 use Rattle.formula.specs.Formula.{Tree, leaf, unary, binary, size}
 use Rattle.formula.specs.Nodes.{Node, Codes}
-
-abbrev pub node : ℕ → ℕ → ℕ → ℕ → Node
-node code left right size = record { code = code; left = left; right = right; size = size }
+use Rattle.formula.specs.Kinds.{node}
 
 module _ {L U B : Type 0} (C : Codes L U B) where
   -- "unused fields are 0, and a proposition's number is its left field"

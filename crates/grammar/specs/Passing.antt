@@ -14,21 +14,21 @@ use Rattle.grammar.specs.Token.{Atom, Typed, Token}
 use Rattle.sequence.specs.Operators.Binary.{or, and, until, release, implies, equiv}
 use Rattle.names.specs.Names.{isNameByte}
 use Rattle.grammar.specs.Grammar.{level, leftLevel, Derives}
-use Rattle.grammar.specs.Scan.{Sign, blank, bang, opener, closer, amp, bar, dash, less, other, Kind, wordy, square, sign, kind, State, ready, after, Scan, good, bad, scan}
+use Rattle.grammar.specs.Scan.{Sign, blank, bang, opener, closer, amp, bar, dash, less, other, Kind, wordy, square, sign, kind, ScanState, ready, after, Scan, good, bad, scan}
 
 -- these tokens, n bytes further on
-abbrev pub ahead : ℕ → List Token → Scan → Scan
-ahead n out (good ts) = good (out ++ ts)
-ahead n out (bad k) = bad (n + k)
+abbrev pub scanAhead : ℕ → List Token → Scan → Scan
+scanAhead n out (good ts) = good (out ++ ts)
+scanAhead n out (bad k) = bad (n + k)
 
 -- from one offset to the next the text spells these tokens, and takes the scan from one state to another
-pub record Passes (text : List ℕ) (s : State) (at : ℕ) (ts : List Token) (t : State) (next : ℕ) : Type 0 where
+pub record ScanPasses (text : List ℕ) (s : ScanState) (at : ℕ) (ts : List Token) (t : ScanState) (next : ℕ) : Type 0 where
   pub forward : at ≤ next
   pub within : next ≤ length text
-  pub is : scan s (drop at text) ≡ ahead (next - at) ts (scan t (drop next text))
+  pub is : scan s (drop at text) ≡ scanAhead (next - at) ts (scan t (drop next text))
 
 -- from an offset on the scan stops at k
-pub record Stops (text : List ℕ) (s : State) (at k : ℕ) : Type 0 where
+pub record Stops (text : List ℕ) (s : ScanState) (at k : ℕ) : Type 0 where
   pub forward : at ≤ k
   pub within : k ≤ length text
   pub is : scan s (drop at text) ≡ bad (k - at)
@@ -98,7 +98,7 @@ CalmAt text n at = IfOp (λ o. leftLevel o ≤ n) Unit (peek (drop at text))
 -- an expression of this level stands between the offsets
 pub record Expression (text : List ℕ) (n at next : ℕ) (tree : Typed) : Type 0 where
   pub tokens : List Token
-  pub passes : (d : ℕ) → Passes text (ready d) at tokens (after d) next
+  pub passes : (d : ℕ) → ScanPasses text (ready d) at tokens (after d) next
   pub derived : Derives n tokens tree
 
 -- no expression: the byte at k can't continue one
@@ -111,7 +111,7 @@ pub record Continued (C : Codes Atom Unary Binary) (place : ℕ) (text : List �
   pub tree : Typed
   pub sized : size tree ≡ m
   pub tokens : List Token
-  pub passes : (d : ℕ) → Passes text (after d) at tokens (after d) next
+  pub passes : (d : ℕ) → ScanPasses text (after d) at tokens (after d) next
   pub derived : Derives n (xs ++ tokens) tree
   pub grows : nodesOf C place tree ≡ nodesOf C place t ++ more
 

@@ -15,9 +15,9 @@ pub data Read : Type 0 where
   got : Typed → List Token → Read
   none : Read
 
-abbrev pub andThen : Read → (Typed → List Token → Read) → Read
-andThen (got t ts) f = f t ts
-andThen none f = none
+abbrev pub readThen : Read → (Typed → List Token → Read) → Read
+readThen (got t ts) f = f t ts
+readThen none f = none
 
 -- the closing bracket after a tree
 abbrev pub closed : Typed → List Token → Read
@@ -32,16 +32,16 @@ unfoldable mutual
   -- an expression whose infix operators outside brackets are of level n or above
   pub readInfix : ℕ → ℕ → List Token → Read
   readInfix zero n ts = none
-  readInfix (suc k) n ts = andThen (readPrefix k ts) (λ t rest. readMore k n t rest)
+  readInfix (suc k) n ts = readThen (readPrefix k ts) (λ t rest. readMore k n t rest)
 
   -- an operand
   pub readPrefix : ℕ → List Token → Read
   readPrefix zero ts = none
   readPrefix (suc k) [] = none
-  readPrefix (suc k) (pre u ∷ ts) = andThen (readPrefix k ts) (λ t rest. got (unary u t) rest)
+  readPrefix (suc k) (pre u ∷ ts) = readThen (readPrefix k ts) (λ t rest. got (unary u t) rest)
   readPrefix (suc k) (mid o ∷ ts) = none
   readPrefix (suc k) (atom l ∷ ts) = got (leaf l) ts
-  readPrefix (suc k) (opens ∷ ts) = andThen (readInfix k 0 ts) (λ t rest. closed t rest)
+  readPrefix (suc k) (opens ∷ ts) = readThen (readInfix k 0 ts) (λ t rest. closed t rest)
   readPrefix (suc k) (closes ∷ ts) = none
 
   -- what goes on after an operand: operators of level n or above, each with its right side
@@ -51,7 +51,7 @@ unfoldable mutual
   readMore (suc k) n t (pre u ∷ ts) = got t (pre u ∷ ts)
   readMore (suc k) n t (mid o ∷ ts) =
       cond (leb n (level o))
-      (andThen (readInfix k (rightLevel o) ts) (λ r rest. readMore k n (binary o t r) rest))
+      (readThen (readInfix k (rightLevel o) ts) (λ r rest. readMore k n (binary o t r) rest))
       (got t (mid o ∷ ts))
   readMore (suc k) n t (atom l ∷ ts) = got t (atom l ∷ ts)
   readMore (suc k) n t (opens ∷ ts) = got t (opens ∷ ts)

@@ -58,28 +58,28 @@ classify w =
 
 -- ---- states, each with the number of open brackets
 
-pub data State : Type 0 where
+pub data ScanState : Type 0 where
   -- an operand is awaited
-  ready : ℕ → State
+  ready : ℕ → ScanState
   -- the same, right after `U` or `R`
-  apart : ℕ → State
+  apart : ℕ → ScanState
   -- an operand is there: an infix operator or a closing bracket is awaited
-  after : ℕ → State
+  after : ℕ → ScanState
   -- inside a word, where an operand is awaited
-  word : List ℕ → ℕ → State
+  word : List ℕ → ℕ → ScanState
   -- this byte and these must come: then the token is there
-  rest : ℕ → List ℕ → Token → ℕ → State
+  rest : ℕ → List ℕ → Token → ℕ → ScanState
 
 -- no formula goes on so; or these tokens are now there
-pub data Step : Type 0 where
-  dead : Step
-  go : List Token → State → Step
+pub data ScanStep : Type 0 where
+  dead : ScanStep
+  go : List Token → ScanState → ScanStep
 
-abbrev pub emit : Token → Step → Step
+abbrev pub emit : Token → ScanStep → ScanStep
 emit t dead = dead
 emit t (go ts s) = go (t ∷ ts) s
 
-abbrev pub onReadySign : ℕ → Sign → Step
+abbrev pub onReadySign : ℕ → Sign → ScanStep
 onReadySign d blank = go [] (ready d)
 onReadySign d bang = go (pre not ∷ []) (ready d)
 onReadySign d opener = go (opens ∷ []) (ready (suc d))
@@ -90,17 +90,17 @@ onReadySign d dash = dead
 onReadySign d less = dead
 onReadySign d other = dead
 
-abbrev pub onReady : ℕ → ℕ → Kind → Step
+abbrev pub onReady : ℕ → ℕ → Kind → ScanStep
 onReady d b (wordy true) = go [] (word (b ∷ []) d)
 onReady d b (wordy false) = dead
 onReady d b square = dead
 onReady d b (sign s) = onReadySign d s
 
-abbrev pub closing : ℕ → Step
+abbrev pub closing : ℕ → ScanStep
 closing zero = dead
 closing (suc d) = go (closes ∷ []) (after d)
 
-abbrev pub onAfterSign : ℕ → Sign → Step
+abbrev pub onAfterSign : ℕ → Sign → ScanStep
 onAfterSign d blank = go [] (after d)
 onAfterSign d bang = dead
 onAfterSign d opener = dead
@@ -111,36 +111,36 @@ onAfterSign d dash = go [] (rest 62 [] (mid implies) d)
 onAfterSign d less = go [] (rest 45 (62 ∷ []) (mid equiv) d)
 onAfterSign d other = dead
 
-abbrev pub onAfter : ℕ → ℕ → Kind → Step
+abbrev pub onAfter : ℕ → ℕ → Kind → ScanStep
 onAfter d b (wordy l) = cond (eqb b 85) (go (mid until ∷ []) (apart d)) (cond (eqb b 82) (go (mid release ∷ []) (apart d)) dead)
 onAfter d b square = dead
 onAfter d b (sign s) = onAfterSign d s
 
-abbrev pub onEnded : Class → ℕ → Sign → Step
+abbrev pub onEnded : Class → ℕ → Sign → ScanStep
 onEnded (prefixed u) d s = emit (pre u) (onReadySign d s)
 onEnded (leafy l) d s = emit (atom l) (onAfterSign d s)
 onEnded neither d s = dead
 
-abbrev pub onWord : List ℕ → ℕ → ℕ → Kind → Step
+abbrev pub onWord : List ℕ → ℕ → ℕ → Kind → ScanStep
 onWord w d b (wordy l) = cond (ltb (length w) nameLength) (go [] (word (w ++ (b ∷ [])) d)) dead
 onWord w d b square = cond (sameBytes w (unaryToken weakNext)) (go [] (rest 33 (93 ∷ []) (pre strongNext) d)) dead
 onWord w d b (sign s) = onEnded (classify w) d s
 
-abbrev pub onApart : ℕ → Kind → Step
+abbrev pub onApart : ℕ → Kind → ScanStep
 onApart d (wordy l) = dead
 onApart d square = dead
 onApart d (sign s) = onReadySign d s
 
-abbrev pub coming : List ℕ → Token → ℕ → Step
+abbrev pub coming : List ℕ → Token → ℕ → ScanStep
 coming [] t d = go (t ∷ []) (ready d)
 coming (c ∷ cs) t d = go [] (rest c cs t d)
 
-unfoldable pub step : State → ℕ → Step
-step (ready d) b = onReady d b (kind b)
-step (apart d) b = onApart d (kind b)
-step (after d) b = onAfter d b (kind b)
-step (word w d) b = onWord w d b (kind b)
-step (rest c cs t d) b = cond (eqb b c) (coming cs t d) dead
+unfoldable pub scanStep : ScanState → ℕ → ScanStep
+scanStep (ready d) b = onReady d b (kind b)
+scanStep (apart d) b = onApart d (kind b)
+scanStep (after d) b = onAfter d b (kind b)
+scanStep (word w d) b = onWord w d b (kind b)
+scanStep (rest c cs t d) b = cond (eqb b c) (coming cs t d) dead
 
 -- ---- whole texts
 
@@ -155,25 +155,25 @@ finishWord (leafy l) zero = good (atom l ∷ [])
 finishWord (leafy l) (suc d) = bad 0
 finishWord neither d = bad 0
 
-unfoldable pub finish : State → Scan
-finish (ready d) = bad 0
-finish (apart d) = bad 0
-finish (after zero) = good []
-finish (after (suc d)) = bad 0
-finish (word w d) = finishWord (classify w) d
-finish (rest c cs t d) = bad 0
+unfoldable pub scanEnd : ScanState → Scan
+scanEnd (ready d) = bad 0
+scanEnd (apart d) = bad 0
+scanEnd (after zero) = good []
+scanEnd (after (suc d)) = bad 0
+scanEnd (word w d) = finishWord (classify w) d
+scanEnd (rest c cs t d) = bad 0
 
 abbrev pub behind : List Token → Scan → Scan
 behind out (good ts) = good (out ++ ts)
 behind out (bad k) = bad (suc k)
 
-abbrev pub follow : Step → (State → Scan) → Scan
+abbrev pub follow : ScanStep → (ScanState → Scan) → Scan
 follow dead f = bad 0
 follow (go out s) f = behind out (f s)
 
-unfoldable pub scan : State → List ℕ → Scan
-scan s [] = finish s
-scan s (b ∷ text) = follow (step s b) (λ t. scan t text)
+unfoldable pub scan : ScanState → List ℕ → Scan
+scan s [] = scanEnd s
+scan s (b ∷ text) = follow (scanStep s b) (λ t. scan t text)
 
 abbrev pub scanText : List ℕ → Scan
 scanText text = scan (ready 0) text

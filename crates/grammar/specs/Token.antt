@@ -43,12 +43,12 @@ abbrev pub GoodAtom : Atom → Type 0
 GoodAtom (name w) = Name w
 GoodAtom (constant b) = Unit
 
-abbrev pub Good : Token → Type 0
-Good (pre u) = Unit
-Good (mid o) = Unit
-Good (atom l) = GoodAtom l
-Good opens = Unit
-Good closes = Unit
+abbrev pub GoodToken : Token → Type 0
+GoodToken (pre u) = Unit
+GoodToken (mid o) = Unit
+GoodToken (atom l) = GoodAtom l
+GoodToken opens = Unit
+GoodToken closes = Unit
 
 -- ---- texts
 
@@ -67,12 +67,12 @@ isWord opens = false
 isWord closes = false
 
 -- the text does not begin with a word's byte
-abbrev pub Apart : List ℕ → Type 0
-Apart [] = Unit
-Apart (b ∷ text) = isNameByte b ≡ false
+abbrev pub NoWordByte : List ℕ → Type 0
+NoWordByte [] = Unit
+NoWordByte (b ∷ text) = isNameByte b ≡ false
 
 -- "any number of spaces between tokens, needed only between two words"; before the first and after the last too
 pub data SpelledBy : List Token → List ℕ → Type 0 where
   end : SpelledBy [] []
   gap : {ts : List Token} {text : List ℕ} → SpelledBy ts text → SpelledBy ts (space ∷ text)
-  token : {ts : List Token} {text : List ℕ} (t : Token) → Good t → (isWord t ≡ true → Apart text) → SpelledBy ts text → SpelledBy (t ∷ ts) (spell t ++ text)
+  token : {ts : List Token} {text : List ℕ} (t : Token) → GoodToken t → (isWord t ≡ true → NoWordByte text) → SpelledBy ts text → SpelledBy (t ∷ ts) (spell t ++ text)

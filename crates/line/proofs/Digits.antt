@@ -4,11 +4,11 @@ use mathlib.Core.List.{_++_}
 use Prim.Native.Nat.{ℕ, _≤_}
 use native.Mathlib.Omega.{arith}
 use lib.ListN.{length, length-append}
-use Rattle.writing.specs.Writing.{mostDigits, decimal}
+use Rattle.writing.specs.Writing.{mostDigits, decimal, newline}
 use Rattle.writing.proofs.Digits.{few-digits}
-use Rattle.line.specs.Line.{keptWord, droppedWord, newline, counts, foundLine, noneLine, fullLine, brokenLine, refusedLine}
+use Rattle.line.specs.Line.{keptWord, droppedWord, countWords, foundLine, noneLine, fullLine, brokenLine, refusedLine}
 
-pub counts-short : (tried kept dropped : ℕ) → length (counts tried kept dropped) ≤ 83
+pub counts-short : (tried kept dropped : ℕ) → length (countWords tried kept dropped) ≤ 83
 counts-short tried kept dropped =
     let a = few-digits mostDigits tried in
     let b = few-digits mostDigits kept in
@@ -22,14 +22,14 @@ pub found-short : (size tried kept dropped : ℕ) → length (foundLine size tri
 found-short size tried kept dropped =
     let a = few-digits mostDigits size in
     let b = counts-short tried kept dropped in
-    let c = length-append (decimal size) (counts tried kept dropped) in
+    let c = length-append (decimal size) (countWords tried kept dropped) in
     omega arith
 
 pub full-short : (size tried kept dropped : ℕ) → length (fullLine size tried kept dropped) ≤ 114
 full-short size tried kept dropped =
     let a = few-digits mostDigits size in
     let b = counts-short tried kept dropped in
-    let c = length-append (decimal size) (counts tried kept dropped) in
+    let c = length-append (decimal size) (countWords tried kept dropped) in
     omega arith
 
 pub none-short : (tried kept dropped : ℕ) → length (noneLine tried kept dropped) ≤ 114

@@ -2,7 +2,7 @@
 -- Assumes nothing.
 use mathlib.Core.List.{List, [], _∷_, _++_}
 use Prim.Native.Nat.{ℕ}
-use Rattle.writing.specs.Writing.{decimal}
+use Rattle.writing.specs.Writing.{decimal, newline}
 
 -- ---- the words of a line, as bytes
 
@@ -38,26 +38,23 @@ brokenAtWord = 114 ∷ 101 ∷ 102 ∷ 117 ∷ 115 ∷ 101 ∷ 100 ∷ 32 ∷ 56
 abbrev pub refusedWord : List ℕ
 refusedWord = 114 ∷ 101 ∷ 102 ∷ 117 ∷ 115 ∷ 101 ∷ 100 ∷ 32 ∷ []
 
-abbrev pub newline : List ℕ
-newline = 10 ∷ []
-
 -- ---- the lines of a search
 
 -- ` tried .. kept ..`, and request E6's "A first line other than a refusal ends in ` dropped N`"
-abbrev pub counts : ℕ → ℕ → ℕ → List ℕ
-counts tried kept dropped = triedWord ++ (decimal tried ++ (keptWord ++ (decimal kept ++ (droppedWord ++ (decimal dropped ++ newline)))))
+abbrev pub countWords : ℕ → ℕ → ℕ → List ℕ
+countWords tried kept dropped = triedWord ++ (decimal tried ++ (keptWord ++ (decimal kept ++ (droppedWord ++ (decimal dropped ++ newline)))))
 
 -- `found size .. tried .. kept .. dropped ..`
 abbrev pub foundLine : ℕ → ℕ → ℕ → ℕ → List ℕ
-foundLine size tried kept dropped = foundSizeWord ++ (decimal size ++ counts tried kept dropped)
+foundLine size tried kept dropped = foundSizeWord ++ (decimal size ++ countWords tried kept dropped)
 
 -- `none tried .. kept .. dropped ..`
 abbrev pub noneLine : ℕ → ℕ → ℕ → List ℕ
-noneLine tried kept dropped = noneWord ++ counts tried kept dropped
+noneLine tried kept dropped = noneWord ++ countWords tried kept dropped
 
 -- `full size .. tried .. kept .. dropped ..`
 abbrev pub fullLine : ℕ → ℕ → ℕ → ℕ → List ℕ
-fullLine size tried kept dropped = fullSizeWord ++ (decimal size ++ counts tried kept dropped)
+fullLine size tried kept dropped = fullSizeWord ++ (decimal size ++ countWords tried kept dropped)
 
 -- `refused 8 at ..`
 abbrev pub brokenLine : ℕ → List ℕ

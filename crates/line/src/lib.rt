@@ -3,7 +3,7 @@ use writing::put;
 use writing::put_decimal;
 ghost use mathlib.Core.List.{_++_};
 ghost use Rattle.writing.specs.Writing.{Wrote, decimal};
-ghost use Rattle.line.specs.Line.{counts, foundLine, noneLine, fullLine, brokenLine, refusedLine, separatesLine, disagreesLine, refusedAtLine};
+ghost use Rattle.line.specs.Line.{countWords, foundLine, noneLine, fullLine, brokenLine, refusedLine, separatesLine, disagreesLine, refusedAtLine};
 
 // A word, and a number after it.
 fn put_number(text: &mut [u8], at: usize, word: &[u8], x: u64) -> usize
@@ -15,7 +15,7 @@ fn put_number(text: &mut [u8], at: usize, word: &[u8], x: u64) -> usize
 
 // ` tried .. kept .. dropped ..`, and the line's end.
 fn put_counts(text: &mut [u8], at: usize, tried: u64, kept: u64, dropped: u64) -> usize
-    ensures { λ r. ⌜ Wrote (now (text .entry)) at (counts tried kept dropped) (now (text .exit)) r ⌝ }
+    ensures { λ r. ⌜ Wrote (now (text .entry)) at (countWords tried kept dropped) (now (text .exit)) r ⌝ }
 {
     let a = put_number(text, at, b" tried ", tried);
     let b = put_number(text, a, b" kept ", kept);

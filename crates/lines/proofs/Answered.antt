@@ -18,15 +18,15 @@ use Rattle.formula.specs.Kinds.{nodeOf, nodes}
 use Rattle.formula.specs.Rule.{Broken}
 use Rattle.text.specs.Text.{text}
 use Rattle.text.proofs.Promises.{text-in}
-use Rattle.writing.specs.Writing.{Wrote}
-use Rattle.candidate.specs.declared.counts.Counts.{Counts}
+use Rattle.writing.specs.Writing.{Wrote, newline}
+use Rattle.counting.specs.declared.Counts.{Counts}
 use Rattle.search.specs.declared.SearchAnswer.{SearchAnswer}
 use Rattle.search.specs.declared.SearchAnswer.the-variants.{Found, None, Full, Refused}
 use Rattle.search.specs.Table.{Cols}
 use Rattle.search.specs.Search.{tallyOf, Searched}
-use Rattle.line.specs.Line.{newline, foundLine, noneLine, fullLine, refusedLine}
-use Rattle.lines.specs.Bench.{inputOf}
-use Rattle.lines.specs.Inner.{Showable, ShownBy, Given, Written}
+use Rattle.line.specs.Line.{foundLine, noneLine, fullLine, refusedLine}
+use Rattle.lines.specs.Bench.{fileInput}
+use Rattle.lines.specs.Inner.{Showable, ShownBy, Given, LinesWritten}
 use Rattle.line.proofs.Digits.{found-short, full-short, none-short, refused-short}
 use Rattle.lines.proofs.Kept.{columns}
 use Rattle.lines.proofs.Shown.{front}
@@ -77,7 +77,7 @@ module _ {p : Parts} {g : Good p} {room : ℕ} {t : Cols} {roomy : Roomy t} {u :
   abbrev pub lent : List walk.Node
   lent = nodes (take n (u .codes)) (take n (u .lefts)) (take n (u .rights)) (take n (u .sizes))
 
-  pub kept-nodes : lent ≡ tables.nodes (this .table)
+  pub kept-nodes : lent ≡ tables.tableNodes (this .table)
   kept-nodes =
       let k = this .table in
       let b = part-is (map (λ c. c .node .code) k) (t .codes) (u .codes) n (ap (λ (x : Cols). x .codes) (this .holds)) (long (λ x. x .code)) in
@@ -91,8 +91,8 @@ module _ {p : Parts} {g : Good p} {room : ℕ} {t : Cols} {roomy : Roomy t} {u :
   nodes-many = ap length kept-nodes ∙ length-map (this .table) (λ c. c .node) ∙ this .as-many
 
 module _ (file : List ℕ) (i : Input) (p : Parts) (g : Given file i p) (t : Cols) (roomy : Roomy t) (u : Cols) (a : SearchAnswer) (w : Searched i t a u) where
-  moved : (b : SearchAnswer) → a ≡ b → Searched (inputOf p (i .room)) t b u
-  moved b e = subst (λ (c : SearchAnswer). Searched (inputOf p (i .room)) t c u) e (subst (λ (j : Input). Searched j t a u) (g .same) w)
+  moved : (b : SearchAnswer) → a ≡ b → Searched (fileInput p (i .room)) t b u
+  moved b e = subst (λ (c : SearchAnswer). Searched (fileInput p (i .room)) t c u) e (subst (λ (j : Input). Searched j t a u) (g .same) w)
 
   module _ {root : Node} {c : Counts} (e : a ≡ Found root c) where
     pub this : FoundAt p (g .good) (i .room) t roomy u root c
@@ -112,7 +112,7 @@ module _ (file : List ℕ) (i : Input) (p : Parts) (g : Given file i p) (t : Col
     pub as-many : length (take (c .kept) (u .codes)) ≡ length (lent this)
     as-many = sym (codes-part this) ∙ sym (nodes-many this)
 
-    pub found-returns : {old new : List ℕ} {r : ℕ} → 512 ≤ length old → ShownBy file (lent this) (nodeOf root) (c .tried) (c .dropped) old r new → Written p (i .room) old r new
+    pub found-returns : {old new : List ℕ} {r : ℕ} → 512 ≤ length old → ShownBy file (lent this) (nodeOf root) (c .tried) (c .dropped) old r new → LinesWritten p (i .room) old r new
     found-returns {old} {new} {r} room shown =
         let (f, s, v) = shown (p .names) (g .next) (g .front) in
         let lines = foundLine (root .size) (c .tried) (length (lent this)) (c .dropped) ++ (text (p .names) f ++ newline) in
@@ -143,7 +143,7 @@ module _ (file : List ℕ) (i : Input) (p : Parts) (g : Given file i p) (t : Col
           );
         }
 
-  pub none-returns : {n : Counts} → a ≡ None n → {old new : List ℕ} {r : ℕ} → 512 ≤ length old → Wrote old 0 (noneLine (n .tried) (n .kept) (n .dropped)) new r → Written p
+  pub none-returns : {n : Counts} → a ≡ None n → {old new : List ℕ} {r : ℕ} → 512 ≤ length old → Wrote old 0 (noneLine (n .tried) (n .kept) (n .dropped)) new r → LinesWritten p
       (i .room) old r new
   none-returns {n} e h v = record {
     lines = noneLine (n .tried) (n .kept) (n .dropped);
@@ -153,7 +153,7 @@ module _ (file : List ℕ) (i : Input) (p : Parts) (g : Given file i p) (t : Col
   }
 
   pub full-returns : {size : ℕ} {n : Counts} → a ≡ Full size n → {old new : List ℕ} {r : ℕ} → 512 ≤ length old → Wrote old 0 (fullLine size (n .tried) (n .kept)
-      (n .dropped)) new r → Written p (i .room) old r new
+      (n .dropped)) new r → LinesWritten p (i .room) old r new
   full-returns {size} {n} e h v = record {
     lines = fullLine size (n .tried) (n .kept) (n .dropped);
     says = full-says p (g .good) (i .room) t roomy u size n (moved (Full size n) e);
@@ -161,7 +161,7 @@ module _ (file : List ℕ) (i : Input) (p : Parts) (g : Given file i p) (t : Col
     fits = omega (arith, full-short size (n .tried) (n .kept) (n .dropped));
   }
 
-  pub refused-returns : {n : ℕ} → a ≡ Refused n → {old new : List ℕ} {r : ℕ} → 512 ≤ length old → Wrote old 0 (refusedLine n) new r → Written p (i .room) old r new
+  pub refused-returns : {n : ℕ} → a ≡ Refused n → {old new : List ℕ} {r : ℕ} → 512 ≤ length old → Wrote old 0 (refusedLine n) new r → LinesWritten p (i .room) old r new
   refused-returns {n} e h v = record {
     lines = refusedLine n;
     says = refused-says p (g .good) (i .room) t roomy u n (moved (Refused n) e);

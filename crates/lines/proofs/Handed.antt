@@ -17,7 +17,7 @@ use Rattle.reading.specs.Reading.{section, Got, got, bad}
 use Rattle.names.specs.Names.{nameBytes, wholeNames}
 use Rattle.file.specs.Offence.{wholeFile}
 use Rattle.rules.specs.Answers.{Said, over}
-use Rattle.file.specs.Reading.{said, Lent, After, after, marksOf, lengthsOf, wordsOf, roomFor, handedOut, outcome, readOf}
+use Rattle.file.specs.Reading.{saidRead, Lent, After, readAfter, marksOf, lengthsOf, wordsOf, roomFor, handedOut, outcome, readOf}
 use Rattle.file.proofs.Numbers.{Bytes}
 use Rattle.file.proofs.Positions.{length-all-words}
 use Rattle.file.proofs.CodeLaws.{good-unary, good-binary}
@@ -28,7 +28,7 @@ use Rattle.walk.specs.Input.{Input}
 use Rattle.writing.specs.Writing.{Wrote}
 use Rattle.walk.specs.Input as walking
 use Rattle.line.specs.Line.{brokenLine}
-use Rattle.lines.specs.Bench.{inputOf, Says, LinesOf}
+use Rattle.lines.specs.Bench.{fileInput, Says, LinesOf}
 use Rattle.lines.specs.Inner.{Given, GivenBy, WrittenFor}
 use Rattle.line.proofs.Digits.{broken-short}
 use Rattle.lines.proofs.Shown.{front}
@@ -92,9 +92,9 @@ number : {a b : Said} → a ≡ b → a .number ≡ b .number
 number e = ap (λ (x : Said). x .number) e
 
 module _ (file : List ℕ) (bytes : Bytes file) (l : Lent) (wide : Wide l) (a : ReadAnswer) (marks lengths words unary binary : List ℕ)
-    (e : after (said a) marks lengths words unary binary ≡ readOf file l) where
+    (e : readAfter (saidRead a) marks lengths words unary binary ≡ readOf file l) where
   -- a good file's parts are handed out
-  all-handed : (p : Parts) (next : ℕ) → Good p → wholeFile file ≡ got p next → after (said a) marks lengths words unary binary ≡ handedOut p l
+  all-handed : (p : Parts) (next : ℕ) → Good p → wholeFile file ≡ got p next → readAfter (saidRead a) marks lengths words unary binary ≡ handedOut p l
   all-handed p next g i =
       let room : outcome (got p next) l ≡ handedOut p l = rw (room-for p g l wide) in
       e ∙ ap (λ (w : Got Parts). outcome w l) i ∙ room
@@ -105,13 +105,13 @@ module _ (file : List ℕ) (bytes : Bytes file) (l : Lent) (wide : Wide l) (a : 
     where
       go : (w : Got Parts) → wholeFile file ≡ w → wholeFile file ≡ bad o
       go (bad o′) i =
-          let x : said (Broken o) ≡ record { number = 8; values = o′ ∷ [] } = ap said (sym q) ∙ ap (λ (x : After). x .answer) e ∙ ap (λ (g : Got Parts). outcome g l .answer) i in
+          let x : saidRead (Broken o) ≡ record { number = 8; values = o′ ∷ [] } = ap saidRead (sym q) ∙ ap (λ (x : After). x .answer) e ∙ ap (λ (g : Got Parts). outcome g l .answer) i in
           let v = values x in
           let h : o ≡ o′ = cc v in
           i ∙ ap bad (sym h)
       go (got p next) i =
           let g = passed-is-good file bytes p next i .0 in
-          let x : said (Broken o) ≡ handedOut p l .answer = ap said (sym q) ∙ ap (λ (x : After). x .answer) (all-handed p next g i) in
+          let x : saidRead (Broken o) ≡ handedOut p l .answer = ap saidRead (sym q) ∙ ap (λ (x : After). x .answer) (all-handed p next g i) in
           absurd (omega (arith, number x))
 
   -- there is always room
@@ -120,11 +120,11 @@ module _ (file : List ℕ) (bytes : Bytes file) (l : Lent) (wide : Wide l) (a : 
     where
       go : (w : Got Parts) → wholeFile file ≡ w → ⊥
       go (bad o′) i =
-          let x : said Room ≡ record { number = 8; values = o′ ∷ [] } = ap said (sym q) ∙ ap (λ (x : After). x .answer) e ∙ ap (λ (g : Got Parts). outcome g l .answer) i in
+          let x : saidRead Room ≡ record { number = 8; values = o′ ∷ [] } = ap saidRead (sym q) ∙ ap (λ (x : After). x .answer) e ∙ ap (λ (g : Got Parts). outcome g l .answer) i in
           omega (arith, number x)
       go (got p next) i =
           let g = passed-is-good file bytes p next i .0 in
-          let x : said Room ≡ handedOut p l .answer = ap said (sym q) ∙ ap (λ (x : After). x .answer) (all-handed p next g i) in
+          let x : saidRead Room ≡ handedOut p l .answer = ap saidRead (sym q) ∙ ap (λ (x : After). x .answer) (all-handed p next g i) in
           omega (arith, number x)
 
   -- a good file: its parts, and where they are
@@ -152,14 +152,14 @@ module _ (file : List ℕ) (bytes : Bytes file) (l : Lent) (wide : Wide l) (a : 
     where
       go : (w : Got Parts) → wholeFile file ≡ w → Handed r m n u b constants bound
       go (bad o′) i =
-          let x : said (AllParts r m n u b constants bound) ≡ record { number = 8; values = o′ ∷ [] } = ap said (sym q) ∙ ap (λ (x : After). x .answer) e ∙ ap (λ
+          let x : saidRead (AllParts r m n u b constants bound) ≡ record { number = 8; values = o′ ∷ [] } = ap saidRead (sym q) ∙ ap (λ (x : After). x .answer) e ∙ ap (λ
           (g : Got Parts). outcome g l .answer) i in
           absurd (omega (arith, number x))
       go (got p next) i =
           let t = passed-is-good file bytes p next i in
           let g = t .0 in
-          let y : after (said a) marks lengths words unary binary ≡ handedOut p l = all-handed p next g i in
-          let x : said (AllParts r m n u b constants bound) ≡ handedOut p l .answer = ap said (sym q) ∙ ap (λ (x : After). x .answer) y in
+          let y : readAfter (saidRead a) marks lengths words unary binary ≡ handedOut p l = all-handed p next g i in
+          let x : saidRead (AllParts r m n u b constants bound) ≡ handedOut p l .answer = ap saidRead (sym q) ∙ ap (λ (x : After). x .answer) y in
           let v = values x in
           let hr : r ≡ length (p .sessions) = cc v in
           let hm : m ≡ length (p .names) = cc v in
@@ -198,7 +198,7 @@ module _ (file : List ℕ) (bytes : Bytes file) (l : Lent) (wide : Wide l) (a : 
     abbrev pub input : Input
     input = walking.inputOf r m bound room constants (take r marks) (take r lengths) (take (m * r) words) (take u unary) (take b binary)
 
-    pub same : input ≡ inputOf (h .parts) room
+    pub same : input ≡ fileInput (h .parts) room
     same =
         ap (λ (z : ℕ). walking.inputOf z m bound room constants (take r marks) (take r lengths) (take (m * r) words) (take u unary) (take b binary)) (h .count)
         ∙ ap (λ (z : ℕ). walking.inputOf (length (h .parts .sessions)) z bound room constants (take r marks) (take r lengths) (take (m * r) words) (take u unary)

@@ -45,43 +45,43 @@ module _ (k x : List Node) where
 module _ (i : Input) where
   -- the nodes after those before
   all-fit : (before k : Table) (ts : List Formula) → KeepsAll i before k ts → ((c : Candidate (List ℕ)) → c ∈ k → c .node .size ≤ mostSize)
-      → (p : ℕ) → p < length k → Fits (i .recording .propositions) (tables.nodes (before ++ k)) (length before + p) (nodeAt (tables.nodes k) p)
+      → (p : ℕ) → p < length k → Fits (i .recording .propositions) (tables.tableNodes (before ++ k)) (length before + p) (nodeAt (tables.tableNodes k) p)
   all-fit before [] ts a s p h = absurd (omega arith)
   all-fit before (c ∷ k) [] a s p h = absurd a
   all-fit before (c ∷ k) (t ∷ ts) a s zero h =
-      let f = spells-fits (tables.nodes before) (tables.nodes (c ∷ k)) (language i) (c .node) t (a .0 .spelled) (a .0 .offered) (s c (List·Memᴰ·head refl)) in
-      let e : length (tables.nodes before) ≡ length before + 0 = length-map before (λ c. c .node) ∙ (let z : length before ≡ length before + 0 = omega arith in z) in
-      subst (λ (b : ℕ). Fits (i .recording .propositions) (tables.nodes (before ++ (c ∷ k))) b (c .node)) e
-      (subst (λ (l : List Node). Fits (i .recording .propositions) l (length (tables.nodes before)) (c .node)) (sym (map-append (λ c. c .node) before (c ∷ k))) f)
+      let f = spells-fits (tables.tableNodes before) (tables.tableNodes (c ∷ k)) (language i) (c .node) t (a .0 .spelled) (a .0 .offered) (s c (List·Memᴰ·head refl)) in
+      let e : length (tables.tableNodes before) ≡ length before + 0 = length-map before (λ c. c .node) ∙ (let z : length before ≡ length before + 0 = omega arith in z) in
+      subst (λ (b : ℕ). Fits (i .recording .propositions) (tables.tableNodes (before ++ (c ∷ k))) b (c .node)) e
+      (subst (λ (l : List Node). Fits (i .recording .propositions) l (length (tables.tableNodes before)) (c .node)) (sym (map-append (λ c. c .node) before (c ∷ k))) f)
   all-fit before (c ∷ k) (t ∷ ts) a s (suc p) h =
       let f = all-fit (before ++ (c ∷ [])) k ts (a .1) (λ d m. s d (List·Memᴰ·tail m)) p (omega arith) in
       let e : length (before ++ (c ∷ [])) + p ≡ length before + suc p = (let z = length-append before (c ∷ []) in omega arith) in
-      subst (λ (b : ℕ). Fits (i .recording .propositions) (tables.nodes (before ++ (c ∷ k))) b (nodeAt (tables.nodes k) p)) e
-      (subst (λ (l : Table). Fits (i .recording .propositions) (tables.nodes l) (length (before ++ (c ∷ [])) + p) (nodeAt (tables.nodes k) p)) (append-assoc before (c ∷ []) k) f)
+      subst (λ (b : ℕ). Fits (i .recording .propositions) (tables.tableNodes (before ++ (c ∷ k))) b (nodeAt (tables.tableNodes k) p)) e
+      (subst (λ (l : Table). Fits (i .recording .propositions) (tables.tableNodes l) (length (before ++ (c ∷ [])) + p) (nodeAt (tables.tableNodes k) p)) (append-assoc before (c ∷ []) k) f)
 
   -- what the walk keeps, with the root that it finds
   pub kept-whole : (root : Node) (k : Table) → Kept i k → FoundAs i root k → ((c : Candidate (List ℕ)) → c ∈ k → c .node .size ≤ mostSize)
-      → i .room ≤ mostRoom → i .bound ≤ mostSize → Broken (i .recording .propositions) (tables.nodes k) root → ⊥
+      → i .room ≤ mostRoom → i .bound ≤ mostSize → Broken (i .recording .propositions) (tables.tableNodes k) root → ⊥
   kept-whole root k a f s h b =
-      fits-whole (i .recording .propositions) (tables.nodes k) root
+      fits-whole (i .recording .propositions) (tables.tableNodes k) root
       (let e = length-map k (λ c. c .node) in omega (arith, a .room))
       (λ p l.
       let z : 0 + p ≡ p = omega arith in
-      subst (λ (q : ℕ). Fits (i .recording .propositions) (tables.nodes k) q (nodeAt (tables.nodes k) p)) z
+      subst (λ (q : ℕ). Fits (i .recording .propositions) (tables.tableNodes k) q (nodeAt (tables.tableNodes k) p)) z
       (all-fit [] k (a .formulas) (a .kept) s p (let e = length-map k (λ c. c .node) in omega arith)))
-      (subst (λ (l : List Node). Fits (i .recording .propositions) l (length (tables.nodes k)) root) (append-nil (tables.nodes k))
-      (spells-fits (tables.nodes k) [] (language i) root (f .formula) (f .spelled) (f .offered) (omega (arith, f .sized, f .within))))
+      (subst (λ (l : List Node). Fits (i .recording .propositions) l (length (tables.tableNodes k)) root) (append-nil (tables.tableNodes k))
+      (spells-fits (tables.tableNodes k) [] (language i) root (f .formula) (f .spelled) (f .offered) (omega (arith, f .sized, f .within))))
 
 -- ---- the columns
 
 at-place : (k : Table) (p : ℕ) → p < length k
     → node (getD (map (λ c. c .node .code) k) p 0) (getD (map (λ c. c .node .left) k) p 0) (getD (map (λ c. c .node .right) k) p 0) (getD (map (λ c. c .node .size) k) p 0)
-    ≡ nodeAt (tables.nodes k) p
+    ≡ nodeAt (tables.tableNodes k) p
 at-place [] p h = absurd (omega arith)
 at-place (c ∷ k) zero h = refl
 at-place (c ∷ k) (suc p) h = at-place k p (omega arith)
 
-pub columns : (k : Table) → nodes (map (λ c. c .node .code) k) (map (λ c. c .node .left) k) (map (λ c. c .node .right) k) (map (λ c. c .node .size) k) ≡ tables.nodes k
+pub columns : (k : Table) → nodes (map (λ c. c .node .code) k) (map (λ c. c .node .left) k) (map (λ c. c .node .right) k) (map (λ c. c .node .size) k) ≡ tables.tableNodes k
 columns k =
     let a = length-map k (λ c. c .node .code) in
     let b = length-map k (λ c. c .node .left) in

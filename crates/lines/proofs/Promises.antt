@@ -4,7 +4,7 @@ use mathlib.Core.Path.{_≡_, refl, sym, ap, _∙_, subst}
 use mathlib.Core.List.{List, _++_}
 use Prim.Native.Nat.{ℕ, _<_, _≤_}
 use lib.ListN.{length, take, getD, replicate, length-replicate}
-use Rattle.rules.specs.Limits.{mostRoom, Outside}
+use Rattle.rules.specs.Limits.{mostRoom}
 use Rattle.reading.specs.Reading.{Got, got, bad}
 use Rattle.file.specs.Format.{Parts, Good, GoodFile, fileBytes}
 use Rattle.file.specs.Offence.{wholeFile}
@@ -13,17 +13,18 @@ use Rattle.formula.specs.Formula.{Formula, size}
 use Rattle.formula.proofs.Spelled.{one-formula}
 use Rattle.walk.specs.Walk.{Ending, found, none, full, Tally, ended}
 use Rattle.walk.specs.Input.{Input, Passes, search}
-use Rattle.walk.specs.Kept.{Table, nodes}
+use Rattle.walk.specs.Kept.{Table, tableNodes}
 use Rattle.walk.proofs.Promises as walk
 use Rattle.walk.proofs.Position.{tried-is-position}
 use Rattle.walk.proofs.Dropped.{tried-adds-up}
 use Rattle.text.specs.Text.{text}
 use Rattle.search.specs.Table.{Cols, cols}
 use Rattle.checks.proofs.Passing.{passes-whole}
-use Rattle.line.specs.Line.{newline, foundLine, brokenLine, refusedLine}
-use Rattle.lines.specs.Bench.{inputOf, EndSays, GoodSays, Says, LinesOf}
-use Rattle.lines.specs.Promises.{Counts, Meant, ShownFor, LinesMean}
-use Rattle.lines.specs.Promises.Meant.{is-found, is-none, is-full}
+use Rattle.line.specs.Line.{foundLine, brokenLine}
+use Rattle.writing.specs.Writing.{newline}
+use Rattle.lines.specs.Bench.{fileInput, EndSays, GoodSays, Says}
+use Rattle.lines.specs.Promises.{LineCounts, LinesMeant, LinesShown, LinesMean}
+use Rattle.lines.specs.Promises.LinesMeant.{is-found, is-none, is-full}
 use Rattle.lines.proofs.Shown.{front}
 use Rattle.lines.proofs.Searching.{Roomy, in-room}
 
@@ -45,20 +46,20 @@ widest-roomy = record {
 }
 
 -- good parts, with a room from 1 to 4,096, pass the checks
-pub parts-pass : (p : Parts) (room : ℕ) → Good p → 1 ≤ room → room ≤ mostRoom → Passes (inputOf p room)
-parts-pass p room g a b = passes-whole (inputOf p room) widest .0 (in-room p g room widest widest-roomy a b) .0
+pub parts-pass : (p : Parts) (room : ℕ) → Good p → 1 ≤ room → room ≤ mostRoom → Passes (fileInput p room)
+parts-pass p room g a b = passes-whole (fileInput p room) widest .0 (in-room p g room widest widest-roomy a b) .0
 
-module _ (p : Parts) (room : ℕ) (ok : Passes (inputOf p room)) (out : List ℕ) where
+module _ (p : Parts) (room : ℕ) (ok : Passes (fileInput p room)) (out : List ℕ) where
   abbrev i : Input
-  i = inputOf p room
+  i = fileInput p room
 
-  counts : (e : Ending) (k : Table) (n : Tally) → search i ≡ ended e k n → Counts i e k (n .tried) (length k) (n .dropped)
+  counts : (e : Ending) (k : Table) (n : Tally) → search i ≡ ended e k n → LineCounts i e k (n .tried) (length k) (n .dropped)
   counts e k n s = record { as-many = refl; formulas = walk.kept-distinct i ok e k n s; position = tried-is-position i e k n s; adds-up = tried-adds-up i e k n s }
 
-  meant : (e : Ending) (k : Table) (n : Tally) → search i ≡ ended e k n → EndSays (p .names) e k n out → Meant p room out
+  meant : (e : Ending) (k : Table) (n : Tally) → search i ≡ ended e k n → EndSays (p .names) e k n out → LinesMeant p room out
   meant (found root) k n s (t, spelled, q) =
       let f = walk.found-smallest i ok root k n s in
-      let same : t ≡ f .formula = one-formula (nodes k) root t (f .formula) spelled (f .spelled) in
+      let same : t ≡ f .formula = one-formula (tableNodes k) root t (f .formula) spelled (f .spelled) in
       let line : out ≡ foundLine (size (f .formula)) (n .tried) (length k) (n .dropped) ++ (text (p .names) (f .formula) ++ newline) =
       q ∙ ap (λ (z : ℕ). foundLine z (n .tried) (length k) (n .dropped) ++ (text (p .names) t ++ newline)) (f .sized)
       ∙ ap (λ (u : Formula). foundLine (size (f .formula)) (n .tried) (length k) (n .dropped) ++ (text (p .names) u ++ newline)) same in
@@ -74,7 +75,7 @@ module _ (file : List ℕ) (bytes : (i : ℕ) → getD file i 0 < 256) (room : �
   broken-says f (got p next) e s = absurd (let (g, is) = passed-is-good file bytes p next e in f (p, g, is))
   broken-says f (bad o) e s = (o, e, s)
 
-  pub shown-for : ShownFor file room out
+  pub shown-for : LinesShown file room out
   shown-for = record {
     good = λ p g e a b. let (d, k, n, s, q) = good-says p g e .searched a b in meant p room (parts-pass p room g a b) out d k n s q;
     outside = λ (p, g, e) o. good-says p g e .outside o;
@@ -84,4 +85,4 @@ module _ (file : List ℕ) (bytes : (i : ℕ) → getD file i 0 < 256) (room : �
 pub lines-mean : LinesMean
 lines-mean file bytes room old r new w =
     let is : take r new ≡ w .lines = ap (take r) (w .holds) ∙ front (w .lines) old r (w .long) in
-    subst (ShownFor file room) (sym is) (shown-for file bytes room (w .lines) (w .says))
+    subst (LinesShown file room) (sym is) (shown-for file bytes room (w .lines) (w .says))

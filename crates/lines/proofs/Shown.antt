@@ -19,10 +19,10 @@ use Rattle.formula.specs.Rule.{Broken}
 use Rattle.text.specs.Text.{text, mostText}
 use Rattle.text.specs.Print.{saidPrinted, printRows, PrintAnswer, PrintsBy, Prints}
 use Rattle.text.proofs.Promises.{text-in}
-use Rattle.writing.specs.Writing.{Wrote}
+use Rattle.writing.specs.Writing.{Wrote, newline}
 use Rattle.writing.proofs.Writing.{wrote-both}
 use Rattle.reading.proofs.Readers.{got-value}
-use Rattle.line.specs.Line.{newline, foundLine}
+use Rattle.line.specs.Line.{foundLine}
 use Rattle.lines.specs.Inner.{Showable}
 
 module _ (file : List ℕ) (k : List Node) (root : Node) (names : List (List ℕ)) (next : ℕ) (e : wholeNames file ≡ got names next) (whole : Broken (length names) k root → ⊥) where

@@ -15,16 +15,17 @@ use Rattle.file.specs.Offence.{wholeFile}
 use Rattle.rules.specs.Answers.{over}
 use Rattle.formula.specs.Formula.{Formula}
 use Rattle.walk.specs.Walk.{Ending, found, none, full, Tally, ended}
-use Rattle.walk.specs.Kept.{Table, nodes}
+use Rattle.walk.specs.Kept.{Table, tableNodes}
 use Rattle.text.specs.Text.{text}
 use Rattle.formula.proofs.Spelled.{one-formula}
-use Rattle.line.specs.Line.{newline, foundLine}
+use Rattle.line.specs.Line.{foundLine}
+use Rattle.writing.specs.Writing.{newline}
 use Rattle.lines.specs.Bench.{EndSays, GoodSays, Says, LinesOf}
 
 -- one end has its lines
 end-one : (names : List (List ℕ)) (e : Ending) (k : Table) (n : Tally) (x y : List ℕ) → EndSays names e k n x → EndSays names e k n y → x ≡ y
 end-one names (found root) k n x y a b =
-    a .2 ∙ ap (λ (t : Formula). foundLine (root .size) (n .tried) (length k) (n .dropped) ++ (text names t ++ newline)) (one-formula (nodes k) root (a .0) (b .0) (a .1)
+    a .2 ∙ ap (λ (t : Formula). foundLine (root .size) (n .tried) (length k) (n .dropped) ++ (text names t ++ newline)) (one-formula (tableNodes k) root (a .0) (b .0) (a .1)
     (b .1)) ∙ sym (b .2)
 end-one names none k n x y a b = a ∙ sym b
 end-one names (full s) k n x y a b = a ∙ sym b

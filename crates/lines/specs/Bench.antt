@@ -14,27 +14,36 @@ use Rattle.formula.specs.Formula.{Formula}
 use Rattle.formula.specs.Nodes.{Spells, codes}
 use Rattle.walk.specs.Walk.{Ending, found, none, full, Tally, ended}
 use Rattle.walk.specs.Input.{Input, search}
-use Rattle.walk.specs.Kept.{Table, nodes}
+use Rattle.walk.specs.Kept.{Table, tableNodes}
 use Rattle.text.specs.Text.{text}
 use Rattle.walk.specs.Input as walking
-use Rattle.line.specs.Line.{newline, foundLine, noneLine, fullLine, brokenLine, refusedLine}
+use Rattle.line.specs.Line.{foundLine, noneLine, fullLine, brokenLine, refusedLine}
+use Rattle.writing.specs.Writing.{newline}
+
+-- "searches with C = 200"
+abbrev pub benchRoom : ℕ
+benchRoom = 200
+
+-- room for whatever the lines say
+abbrev pub longestLines : ℕ
+longestLines = 512
 
 -- a file's parts, and a room, as the input of a search
-abbrev pub inputOf : Parts → ℕ → Input
-inputOf p room =
+abbrev pub fileInput : Parts → ℕ → Input
+fileInput p room =
     walking.inputOf (length (p .sessions)) (length (p .names)) (p .bound) room (p .constants) (marksOf p) (lengthsOf p) (wordsOf p) (p .unary) (p .binary)
 
 -- the lines of a walk's end, with the table k and the tally n; a formula found has its text in a line of its own
 abbrev pub EndSays : List (List ℕ) → Ending → Table → Tally → List ℕ → Type 0
 EndSays names (found root) k n out =
-    (t : Formula) × Spells codes (nodes k) root t × (out ≡ foundLine (root .size) (n .tried) (length k) (n .dropped) ++ (text names t ++ newline))
+    (t : Formula) × Spells codes (tableNodes k) root t × (out ≡ foundLine (root .size) (n .tried) (length k) (n .dropped) ++ (text names t ++ newline))
 EndSays names none k n out = out ≡ noneLine (n .tried) (length k) (n .dropped)
 EndSays names (full s) k n out = out ≡ fullLine s (n .tried) (length k) (n .dropped)
 
 -- a good file: the lines of the walk over its parts; "2: .. C .. wrong" where the room is none
 pub record GoodSays (p : Parts) (room : ℕ) (out : List ℕ) : Type 0 where
   pub searched : 1 ≤ room → room ≤ mostRoom
-      → (e : Ending) × (k : Table) × (n : Tally) × (search (inputOf p room) ≡ ended e k n) × EndSays (p .names) e k n out
+      → (e : Ending) × (k : Table) × (n : Tally) × (search (fileInput p room) ≡ ended e k n) × EndSays (p .names) e k n out
   pub outside : Outside 1 mostRoom room → out ≡ refusedLine 2
 
 -- a broken file: the offset of its first offending byte

@@ -12,9 +12,9 @@ use Rattle.formula.specs.Nodes.{Node, Spells, codes}
 use Rattle.walk.specs.Input.{Input}
 use Rattle.formula.specs.Rule.{Broken}
 use Rattle.text.specs.Text.{text}
-use Rattle.writing.specs.Writing.{Wrote}
-use Rattle.line.specs.Line.{newline, foundLine}
-use Rattle.lines.specs.Bench.{inputOf, GoodSays}
+use Rattle.writing.specs.Writing.{Wrote, newline}
+use Rattle.line.specs.Line.{foundLine}
+use Rattle.lines.specs.Bench.{fileInput, GoodSays}
 
 -- names and a root node that can be printed
 pub record Showable (file : List ℕ) (k : List Node) (root : Node) : Type 0 where
@@ -34,10 +34,10 @@ pub record Given (file : List ℕ) (i : Input) (p : Parts) : Type 0 where
   pub good : Good p
   pub next : ℕ
   pub front : wholeNames file ≡ got (p .names) next
-  pub same : i ≡ inputOf p (i .room)
+  pub same : i ≡ fileInput p (i .room)
 
 -- the lines of a good file are written
-pub record Written (p : Parts) (room : ℕ) (old : List ℕ) (r : ℕ) (new : List ℕ) : Type 0 where
+pub record LinesWritten (p : Parts) (room : ℕ) (old : List ℕ) (r : ℕ) (new : List ℕ) : Type 0 where
   pub lines : List ℕ
   pub says : GoodSays p room lines
   pub wrote : Wrote old 0 lines new r
@@ -47,4 +47,4 @@ abbrev pub GivenBy : List ℕ → Input → Type 0
 GivenBy file i = (p : Parts) × Given file i p
 
 abbrev pub WrittenFor : List ℕ → Input → List ℕ → ℕ → List ℕ → Type 0
-WrittenFor file i old n new = (p : Parts) → Given file i p → Written p (i .room) old n new
+WrittenFor file i old n new = (p : Parts) → Given file i p → LinesWritten p (i .room) old n new

@@ -14,15 +14,16 @@ use Rattle.formula.specs.Recorded.{markedTraces}
 use Rattle.formula.specs.Nodes.{Node, Spells, codes}
 use Rattle.walk.specs.Walk.{Ending, found, none, full, trail}
 use Rattle.walk.specs.Input.{Input, language, separating, offer}
-use Rattle.walk.specs.Kept.{Table, nodes}
+use Rattle.walk.specs.Kept.{Table, tableNodes}
 use Rattle.walk.specs.Promises.{NoneBelow, Kept, Full, DecidedAt, deciding}
 use Rattle.text.specs.Text.{text}
-use Rattle.line.specs.Line.{newline, foundLine, noneLine, fullLine, brokenLine, refusedLine}
-use Rattle.lines.specs.Bench.{inputOf, LinesOf}
+use Rattle.line.specs.Line.{foundLine, noneLine, fullLine, brokenLine, refusedLine}
+use Rattle.writing.specs.Writing.{newline}
+use Rattle.lines.specs.Bench.{fileInput, LinesOf}
 
 -- the counts of a line: the formulas kept, none of which separates and no two alike, the position of the candidate that ended the walk, and "tried
 -- equals kept plus dropped, plus one where FOUND or FULL ended the walk"
-pub record Counts (i : Input) (e : Ending) (k : Table) (tried kept dropped : ℕ) : Type 0 where
+pub record LineCounts (i : Input) (e : Ending) (k : Table) (tried kept dropped : ℕ) : Type 0 where
   pub as-many : length k ≡ kept
   pub formulas : Kept i k
   pub position : DecidedAt (separating i) (trail (offer i) (i .room) (i .bound)) e k tried
@@ -33,27 +34,27 @@ pub record Counts (i : Input) (e : Ending) (k : Table) (tried kept dropped : ℕ
 -- separates the sessions, and no smaller one over what was offered does;
 -- `none`: no formula over what was offered that keeps to the bound separates;
 -- `full`: the walk needs a place beyond the room, and no formula smaller than that size separates
-pub data Meant (p : Parts) (room : ℕ) (out : List ℕ) : Type 0 where
+pub data LinesMeant (p : Parts) (room : ℕ) (out : List ℕ) : Type 0 where
   is-found : (t : Formula) (root : Node) (k : Table) (tried kept dropped : ℕ) → out ≡ foundLine (size t) tried kept dropped ++ (text (p .names) t ++ newline)
-      → Offered (language (inputOf p room)) t
+      → Offered (language (fileInput p room)) t
       → size t ≤ p .bound
-      → Separates (markedTraces (inputOf p room .recording)) t
-      → NoneBelow (inputOf p room) (size t)
-      → Spells codes (nodes k) root t
-      → Counts (inputOf p room) (found root) k tried kept dropped
-      → Meant p room out
-  is-none : (k : Table) (tried kept dropped : ℕ) → out ≡ noneLine tried kept dropped → NoneBelow (inputOf p room) (p .bound + 1)
-      → Counts (inputOf p room) none k tried kept dropped → Meant p room out
-  is-full : (s : ℕ) (k : Table) (tried kept dropped : ℕ) → out ≡ fullLine s tried kept dropped → Full (inputOf p room) s k
-      → Counts (inputOf p room) (full s) k tried kept dropped → Meant p room out
+      → Separates (markedTraces (fileInput p room .recording)) t
+      → NoneBelow (fileInput p room) (size t)
+      → Spells codes (tableNodes k) root t
+      → LineCounts (fileInput p room) (found root) k tried kept dropped
+      → LinesMeant p room out
+  is-none : (k : Table) (tried kept dropped : ℕ) → out ≡ noneLine tried kept dropped → NoneBelow (fileInput p room) (p .bound + 1)
+      → LineCounts (fileInput p room) none k tried kept dropped → LinesMeant p room out
+  is-full : (s : ℕ) (k : Table) (tried kept dropped : ℕ) → out ≡ fullLine s tried kept dropped → Full (fileInput p room) s k
+      → LineCounts (fileInput p room) (full s) k tried kept dropped → LinesMeant p room out
 
 -- of the bytes of good parts, and of any other file
-pub record ShownFor (file : List ℕ) (room : ℕ) (out : List ℕ) : Type 0 where
-  pub good : (p : Parts) → Good p → fileBytes p ≡ file → 1 ≤ room → room ≤ mostRoom → Meant p room out
+pub record LinesShown (file : List ℕ) (room : ℕ) (out : List ℕ) : Type 0 where
+  pub good : (p : Parts) → Good p → fileBytes p ≡ file → 1 ≤ room → room ≤ mostRoom → LinesMeant p room out
   pub outside : GoodFile file → Outside 1 mostRoom room → out ≡ refusedLine 2
   pub broken : (GoodFile file → ⊥) → (o : ℕ) × (wholeFile file ≡ bad o) × (out ≡ brokenLine o)
 
 -- whatever the bench prints for a file, a list of bytes, means what it says
 abbrev pub LinesMean : Type 0
 LinesMean = (file : List ℕ) → ((i : ℕ) → getD file i 0 < 256) → (room : ℕ) (old : List ℕ) (r : ℕ) (new : List ℕ) → LinesOf file room old r new
-    → ShownFor file room (take r new)
+    → LinesShown file room (take r new)

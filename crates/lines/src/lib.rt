@@ -9,8 +9,14 @@ ghost use Prim.Native.Nat.{_≤_};
 ghost use lib.ListN.{length};
 ghost use Rattle.formula.specs.Kinds.{nodeOf, nodes};
 ghost use Rattle.walk.specs.Input.{inputOf};
-ghost use Rattle.lines.specs.Bench.{LinesOf};
+ghost use Rattle.lines.specs.Bench.{longestLines, LinesOf};
 ghost use Rattle.lines.specs.Inner.{Showable, ShownBy, GivenBy, WrittenFor};
+
+// The bench's room, and that of what explains its answer: "searches with C = 200".
+pub const BENCH_ROOM: usize = 200;
+
+// Room for whatever the lines say.
+pub const LONGEST: usize = 512;
 
 // The lines of a formula found: its counts, and its text.
 fn found(
@@ -29,7 +35,7 @@ fn found(
     ensures { λ r. ⌜ ShownBy (now (names .entry)) (nodes (now (codes .entry)) (now (lefts .entry)) (now (rights .entry)) (now (sizes .entry))) (nodeOf root) tried dropped
         (now (text .entry)) r (now (text .exit)) ⌝ }
 {
-    let mut shown = [0u8; 391];
+    let mut shown = [0u8; text::LONGEST];
     let printed = text::print(names, codes, lefts, rights, sizes, root, &mut shown);
     match printed {
         Printed::Text(length) => {
@@ -57,7 +63,7 @@ fn searched(
     binary: &[u8],
     text: &mut [u8],
 ) -> usize
-    requires { ⌜ GivenBy (now names) (inputOf r m bound room constants (now marks) (now lengths) (now words) (now unary) (now binary)) × (512 ≤ length (now text)) ⌝ }
+    requires { ⌜ GivenBy (now names) (inputOf r m bound room constants (now marks) (now lengths) (now words) (now unary) (now binary)) × (longestLines ≤ length (now text)) ⌝ }
     ensures { λ n. ⌜ WrittenFor (now (names .entry))
         (inputOf r m bound room constants (now (marks .entry)) (now (lengths .entry)) (now (words .entry)) (now (unary .entry)) (now (binary .entry)))
         (now (text .entry)) n (now (text .exit)) ⌝ }
@@ -105,7 +111,7 @@ fn searched(
 }
 
 // The bench's lines for this file and this room, at the start of the text; how many bytes they have.
-pub fn of_file(file: &[u8], room: usize, text: &mut [u8; 512]) -> usize
+pub fn of_file(file: &[u8], room: usize, text: &mut [u8; LONGEST]) -> usize
     ensures { λ r. ⌜ LinesOf (now (file .entry)) room (now (text .entry)) r (now (text .exit)) ⌝ }
 {
     let mut marks = [0u8; rules::SESSIONS];

@@ -1,6 +1,7 @@
 -- The rows that an operator gives over those of its children, session by session, and what is written of them, for every input.
 -- Assumes nothing.
 use mathlib.Core.Path.{_≡_}
+use mathlib.Core.Bool.{Bool, true, false}
 use mathlib.Core.List.{List}
 use Prim.Native.Nat.{ℕ, _≤_, _<_}
 use lib.ListN.{length, getD}
@@ -22,6 +23,12 @@ pub record Long (r : ℕ) (slice : List ℕ) : Type 0 where
 pub record Done (asked done untouched : Type 0) : Type 0 where
   pub did : asked → done
   pub stays : (asked → ⊥) → untouched
+
+-- what a function answers that may be asked for what isn't there: true where it was asked for what it can do, and then that is done; false in every
+-- other case, and then nothing was written
+abbrev pub Told : Type 0 → Type 0 → Type 0 → Bool → Type 0
+Told asked done untouched true = asked × done
+Told asked done untouched false = (asked → ⊥) × untouched
 
 -- ---- one operator over the rows of its children
 

@@ -9,14 +9,14 @@ use native.Mathlib.Omega.{arith}
 use lib.ListN.{length, getD}
 use Rattle.reading.specs.Reading.{isIn}
 use Rattle.reading.proofs.Lists.{true-false, not-in}
-use Rattle.names.specs.declared.lookup.Found.{Found}
-use Rattle.names.specs.declared.lookup.Found.the-variants.{At, Nothing}
+use Rattle.names.specs.declared.lookup.FoundName.{FoundName}
+use Rattle.names.specs.declared.lookup.FoundName.the-variants.{At, Nothing}
 use Rattle.names.specs.Names.{sameBytes}
 use Rattle.names.specs.Lookup.{findFrom}
 use Rattle.spelling.proofs.Same.{same-refl, same-eq}
 
 -- among names that are numbered from i on
-abbrev pub FoundIs : List ℕ → List (List ℕ) → ℕ → Found → Type 0
+abbrev pub FoundIs : List ℕ → List (List ℕ) → ℕ → FoundName → Type 0
 FoundIs w names i (At k) = (i ≤ k) × (k < i + length names) × (getD names (k - i) [] ≡ w) × List·Memᴰ w names
 FoundIs w names i Nothing = List·Memᴰ w names → ⊥
 
@@ -25,7 +25,7 @@ unfolding findFrom
 found-is w [] i = λ m. List·Memᴰ·not-nil m
 found-is w (x ∷ names) i = by-test (sameBytes w x) refl (findFrom (i + 1) w names) (found-is w names (i + 1))
   where
-    by-test : (b : Bool) → sameBytes w x ≡ b → (f : Found) → FoundIs w names (i + 1) f → FoundIs w (x ∷ names) i (cond b (At i) f)
+    by-test : (b : Bool) → sameBytes w x ≡ b → (f : FoundName) → FoundIs w names (i + 1) f → FoundIs w (x ∷ names) i (cond b (At i) f)
     by-test true e f h = let z : i - i ≡ 0 = omega arith in (omega arith, omega arith, rw z (sym (same-eq w x e)), List·Memᴰ·head (same-eq w x e))
     by-test false e (At k) h = let z : k - i ≡ suc (k - (i + 1)) = omega (arith, h .0) in (omega (arith, h .0), omega (arith, h .1), rw z (h .2), List·Memᴰ·tail (h .3))
     by-test false e Nothing h = λ m. ⊎-elim (λ q. true-false (rw (← q) (same-refl w)) e) h (List·Memᴰ·cases-cons m)

@@ -10,10 +10,10 @@ use native.Mathlib.Numerals.{add-one}
 use native.Mathlib.Omega.{arith}
 use lib.ListN.{length, getD, take, drop, length-drop, drop-of-length-le, List·getD-eq-default}
 use lib.Seq.{take-nil, take-all}
-use Rattle.names.specs.declared.lookup.Found.the-variants.{At, Nothing}
+use Rattle.names.specs.declared.lookup.FoundName.the-variants.{At, Nothing}
 use Rattle.names.specs.Names.{sameBytes}
 use Rattle.names.specs.declared.lookup.Span.{Span}
-use Rattle.names.specs.Lookup.{walk, walkEnd, LettersAt, findFrom, foundIn}
+use Rattle.names.specs.Lookup.{namesFrom, walkEnd, LettersAt, findFrom, foundIn}
 use Rattle.names.proofs.Walks.{end-more, walk-on, no-walk}
 
 take-clipped : (n : ℕ) (l : List ℕ) → take (min (length l) n) l ≡ take n l
@@ -74,13 +74,13 @@ module _ (file : List ℕ) where
   unfolding findFrom
   nothing-there word e =
       let z : getD file 0 0 ≡ 0 = List·getD-eq-default file 0 {n = 0} (omega arith) in
-      sym (ap (λ (n : ℕ). findFrom 0 word (walk file n 1)) z ∙ ap (findFrom 0 word) (no-walk file 1))
+      sym (ap (λ (n : ℕ). findFrom 0 word (namesFrom file n 1)) z ∙ ap (findFrom 0 word) (no-walk file 1))
 
 -- ---- the names that were not the one looked for
 
 pub record Missed (file word : List ℕ) (count j : ℕ) : Type 0 where
   pub upto : j ≤ count
-  pub is : findFrom j word (walk file (count - j) (walkEnd file j 1)) ≡ findFrom 0 word (walk file count 1)
+  pub is : findFrom j word (namesFrom file (count - j) (walkEnd file j 1)) ≡ findFrom 0 word (namesFrom file count 1)
 
 module _ (file word : List ℕ) (count : ℕ) where
   pub missed-start : Missed file word count 0
@@ -88,8 +88,8 @@ module _ (file word : List ℕ) (count : ℕ) where
   missed-start = let z : count - 0 ≡ count = omega arith in record { upto = omega arith; is = rw z }
 
   module _ {j : ℕ} (r : Missed file word count j) where
-    missed-step : j < count → findFrom j word (walk file (count - j) (walkEnd file j 1))
-        ≡ cond (sameBytes word (take (getD file (walkEnd file j 1) 0) (drop (walkEnd file j 1 + 1) file))) (At j) (findFrom (j + 1) word (walk file (count - (j + 1)) (walkEnd file (j + 1) 1)))
+    missed-step : j < count → findFrom j word (namesFrom file (count - j) (walkEnd file j 1))
+        ≡ cond (sameBytes word (take (getD file (walkEnd file j 1) 0) (drop (walkEnd file j 1 + 1) file))) (At j) (findFrom (j + 1) word (namesFrom file (count - (j + 1)) (walkEnd file (j + 1) 1)))
     unfolding findFrom
     missed-step h =
         let m : count - j ≡ suc (count - (j + 1)) = omega arith in
@@ -97,16 +97,16 @@ module _ (file word : List ℕ) (count : ℕ) where
 
     pub missed-turn : j < count → sameBytes word (take (getD file (walkEnd file j 1) 0) (drop (walkEnd file j 1 + 1) file)) ≡ false → Missed file word count (j + 1)
     missed-turn h e =
-        let b = findFrom (j + 1) word (walk file (count - (j + 1)) (walkEnd file (j + 1) 1)) in
+        let b = findFrom (j + 1) word (namesFrom file (count - (j + 1)) (walkEnd file (j + 1) 1)) in
         record { upto = omega arith; is = sym (ap (λ (t : Bool). cond t (At j) b) e) ∙ sym (missed-step h) ∙ r .is }
 
-    pub missed-here : j < count → sameBytes word (take (getD file (walkEnd file j 1) 0) (drop (walkEnd file j 1 + 1) file)) ≡ true → At j ≡ findFrom 0 word (walk file count 1)
+    pub missed-here : j < count → sameBytes word (take (getD file (walkEnd file j 1) 0) (drop (walkEnd file j 1 + 1) file)) ≡ true → At j ≡ findFrom 0 word (namesFrom file count 1)
     missed-here h e =
-        let b = findFrom (j + 1) word (walk file (count - (j + 1)) (walkEnd file (j + 1) 1)) in
+        let b = findFrom (j + 1) word (namesFrom file (count - (j + 1)) (walkEnd file (j + 1) 1)) in
         sym (ap (λ (t : Bool). cond t (At j) b) e) ∙ sym (missed-step h) ∙ r .is
 
-    pub missed-end : count ≤ j → Nothing ≡ findFrom 0 word (walk file count 1)
+    pub missed-end : count ≤ j → Nothing ≡ findFrom 0 word (namesFrom file count 1)
     unfolding findFrom
     missed-end h =
         let z : count - j ≡ zero = omega arith in
-        sym (ap (findFrom j word) (no-walk file (walkEnd file j 1))) ∙ ap (λ (k : ℕ). findFrom j word (walk file k (walkEnd file j 1))) (sym z) ∙ r .is
+        sym (ap (findFrom j word) (no-walk file (walkEnd file j 1))) ∙ ap (λ (k : ℕ). findFrom j word (namesFrom file k (walkEnd file j 1))) (sym z) ∙ r .is

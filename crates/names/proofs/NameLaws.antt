@@ -10,7 +10,7 @@ use lib.ListN.{length, getD, take, drop}
 use Rattle.names.specs.Inner.{fitsAt}
 use Rattle.names.specs.Reserved.{reserved}
 use Rattle.names.specs.Names.{nameLength, nameBytes, fitsName, GoodName, letter, sameBytes, isTaken, notTaken, name, namesUpTo}
-use Rattle.reading.specs.Reading.{one, got, bad, each, byte, within, counted, isIn}
+use Rattle.reading.specs.Reading.{one, got, bad, eachItem, byte, within, counted, isIn}
 use Rattle.reading.proofs.Spans.{Spans, head, second, taken, inside}
 use Rattle.reading.proofs.Lists.{not-in, in-not, ones, or-first, or-second}
 use Rattle.spelling.proofs.Same.{same-refl, same-eq}
@@ -63,7 +63,7 @@ module _ (file : List ℕ) where
 
   -- ---- one name, step by step
 
-  pub letters-are : (n at : ℕ) {letters : List ℕ} {end : ℕ} → each letter n [] file at ≡ got letters end
+  pub letters-are : (n at : ℕ) {letters : List ℕ} {end : ℕ} → eachItem letter n [] file at ≡ got letters end
       → (take n (drop at file) ≡ letters) × (length letters ≡ n) × (end ≡ at + n) × Spans file at letters end
   letters-are n at {letters} {end} e =
       let r = row-sound letter Letter one file letter-sound n [] at e in
@@ -76,16 +76,16 @@ module _ (file : List ℕ) where
   unfolding name
   name-cut before at e = rw e
 
-  pub name-odd : (before : List (List ℕ)) (at : ℕ) {n next o : ℕ} → byte (within 1 nameLength) file at ≡ got n next → each letter n [] file next ≡ bad o → name before file at ≡ bad o
+  pub name-odd : (before : List (List ℕ)) (at : ℕ) {n next o : ℕ} → byte (within 1 nameLength) file at ≡ got n next → eachItem letter n [] file next ≡ bad o → name before file at ≡ bad o
   unfolding name
   name-odd before at e d = rw (e, d)
 
-  pub name-whole : (before : List (List ℕ)) (at : ℕ) {n next : ℕ} {letters : List ℕ} {end : ℕ} → byte (within 1 nameLength) file at ≡ got n next → each letter n [] file next ≡ got letters end
+  pub name-whole : (before : List (List ℕ)) (at : ℕ) {n next : ℕ} {letters : List ℕ} {end : ℕ} → byte (within 1 nameLength) file at ≡ got n next → eachItem letter n [] file next ≡ got letters end
       → name before file at ≡ notTaken (isTaken before (take n (drop next file))) at letters end
   unfolding name
   name-whole before at {n} {next} e d = rw (e, d, letters-are n next d .0)
 
-  pub name-room : (at : ℕ) {n next : ℕ} {letters : List ℕ} {end : ℕ} → byte (within 1 nameLength) file at ≡ got n next → each letter n [] file next ≡ got letters end → next + n ≤ length file
+  pub name-room : (at : ℕ) {n next : ℕ} {letters : List ℕ} {end : ℕ} → byte (within 1 nameLength) file at ≡ got n next → eachItem letter n [] file next ≡ got letters end → next + n ≤ length file
   name-room at {n} {next} {letters} e d =
       let b = byte-sound (within 1 nameLength) file at e .1 in
       let h = head file at n (drop next file) (b .is) in

@@ -7,17 +7,18 @@ use native.Mathlib.Omega.{arith}
 use native.Mathlib.Numerals.{add-one}
 use lib.ListN.{length, getD, take, drop, length-append, length-take, length-drop, take-append-drop, drop-of-length-le}
 use lib.Seq.{drop-cons, take-suc}
-use Rattle.names.specs.Names.{propositions, nameLength, nameBytes, GoodName, name, namesUpTo, namesIn, GoodNames}
+use Rattle.names.specs.Names.{nameLength, nameBytes, GoodName, name, namesUpTo, namesIn, GoodNames}
+use Rattle.rules.specs.Limits.{mostPropositions}
 use Rattle.reading.specs.Reading.{one}
 use Rattle.rules.specs.Lists.{Each}
 use Rattle.reading.proofs.Spans.{Spans, first, second, head, taken}
 use Rattle.reading.proofs.Lists.{ones}
 use Rattle.reading.proofs.Readers.{Section}
 use Rattle.names.specs.declared.lookup.Span.{Span}
-use Rattle.names.specs.Lookup.{walk, walkEnd, namesBy, LettersAt, findFrom, foundIn}
+use Rattle.names.specs.Lookup.{namesFrom, walkEnd, namesBy, LettersAt, findFrom, foundIn}
 use Rattle.names.proofs.NameLaws.{names-sound}
 use Rattle.names.proofs.Walks.{end-more}
-use Rattle.names.proofs.Lookups.{letters-there, span-order}
+use Rattle.names.proofs.Lookups.{letters-there}
 use Rattle.reading.proofs.Ends.{end-sound}
 
 -- where name p starts: after the count and the names before it
@@ -50,10 +51,10 @@ unfolding flatMap
 start-first ns = refl
 
 module _ (file : List ℕ) (g : GoodNames file) where
-  whole : Section name GoodName nameBytes file 1 propositions 0 (namesIn file) (g .0)
-  whole = names-sound file propositions 0 (end-sound file (namesUpTo propositions file 0) (g .1) .0)
+  whole : Section name GoodName nameBytes file 1 mostPropositions 0 (namesIn file) (g .0)
+  whole = names-sound file mostPropositions 0 (end-sound file (namesUpTo mostPropositions file 0) (g .1) .0)
 
-  pub few-names : length (namesIn file) ≤ propositions
+  pub few-names : length (namesIn file) ≤ mostPropositions
   few-names = whole .few
 
   pub short-names : (p : ℕ) → length (getD (namesIn file) p []) ≤ nameLength
@@ -129,15 +130,8 @@ module _ (file : List ℕ) (g : GoodNames file) where
       letters-there file p l ∙ ap (λ (w : ℕ). take (getD file w 0) (drop (w + 1) file)) e
       ∙ ap (λ (n : ℕ). take n (drop (startOf (namesIn file) p + 1) file)) (name-byte p h) ∙ name-bytes p h
 
-  pub letters-long : (p : ℕ) → p < length (namesIn file) → {s : Span} → LettersAt file p s → s .to - s .from ≡ length (getD (namesIn file) p [])
-  letters-long p h {s} l =
-      let o = span-order file p l in
-      let t = length-take (s .to - s .from) (drop (s .from) file) in
-      let d = length-drop (s .from) file in
-      omega (arith, ap length (letters-are-name p h l))
-
-  walk-rest : (k p : ℕ) → p + k ≡ length (namesIn file) → walk file k (startOf (namesIn file) p) ≡ drop p (namesIn file)
-  unfolding walk
+  walk-rest : (k p : ℕ) → p + k ≡ length (namesIn file) → namesFrom file k (startOf (namesIn file) p) ≡ drop p (namesIn file)
+  unfolding namesFrom
   walk-rest zero p e = sym (drop-of-length-le (namesIn file) {i = p} (omega arith))
   walk-rest (suc k) p e =
       let h : p < length (namesIn file) = omega arith in
@@ -145,8 +139,8 @@ module _ (file : List ℕ) (g : GoodNames file) where
       ap (λ (x : ℕ). startOf (namesIn file) p + 1 + x) (name-byte p h) ∙ sym (start-next p h) in
       let first : take (getD file (startOf (namesIn file) p) 0) (drop (startOf (namesIn file) p + 1) file) ≡ getD (namesIn file) p [] =
       ap (λ (x : ℕ). take x (drop (startOf (namesIn file) p + 1) file)) (name-byte p h) ∙ name-bytes p h in
-      ap (λ (x : List ℕ). x ∷ walk file k (startOf (namesIn file) p + 1 + getD file (startOf (namesIn file) p) 0)) first
-      ∙ ap (λ (x : ℕ). getD (namesIn file) p [] ∷ walk file k x) n
+      ap (λ (x : List ℕ). x ∷ namesFrom file k (startOf (namesIn file) p + 1 + getD file (startOf (namesIn file) p) 0)) first
+      ∙ ap (λ (x : ℕ). getD (namesIn file) p [] ∷ namesFrom file k x) n
       ∙ ap (λ (l : List (List ℕ)). getD (namesIn file) p [] ∷ l) (walk-rest k (p + 1) (omega arith))
       ∙ ap (λ (x : ℕ). getD (namesIn file) p [] ∷ drop x (namesIn file)) (add-one p)
       ∙ sym (drop-cons (namesIn file) p [] h)
@@ -156,7 +150,7 @@ module _ (file : List ℕ) (g : GoodNames file) where
   names-by =
       let ns = namesIn file in
       let c : getD file 0 0 ≡ length ns = head file 0 (length ns) (flatMap nameBytes ns ++ drop (g .0) file) (whole .spans .is) .1 in
-      ap (λ (n : ℕ). walk file n 1) c ∙ ap (λ (x : ℕ). walk file (length ns) x) (sym (start-first ns)) ∙ walk-rest (length ns) 0 (omega arith)
+      ap (λ (n : ℕ). namesFrom file n 1) c ∙ ap (λ (x : ℕ). namesFrom file (length ns) x) (sym (start-first ns)) ∙ walk-rest (length ns) 0 (omega arith)
 
   -- and `find` looks among them
   pub found-among-names : (word : List ℕ) → foundIn file word ≡ findFrom 0 word (namesIn file)

@@ -11,7 +11,8 @@ use Rattle.reading.specs.Reading.{section, got}
 use Rattle.reading.proofs.Ends.{end-sound, end-complete, whole-run, run-whole}
 use Rattle.names.specs.declared.NamesAnswer.{NamesAnswer}
 use Rattle.names.specs.declared.NamesAnswer.the-variants.{Names, Broken as NamesBroken}
-use Rattle.names.specs.Names.{propositions, nameBytes, GoodList, namesUpTo, wholeNames}
+use Rattle.names.specs.Names.{nameBytes, GoodList, namesUpTo, wholeNames}
+use Rattle.rules.specs.Limits.{mostPropositions}
 use Rattle.names.specs.declared.lookup.Span.{Span}
 use Rattle.names.specs.Lookup.{LettersAt}
 use Rattle.names.specs.Judged.{saidNames, namesSaid}
@@ -21,12 +22,12 @@ use Rattle.names.proofs.NameLaws.{names-sound, names-complete}
 pub names-accepts : (file : List ℕ) (ns : List (List ℕ)) → (wholeNames file ≡ got ns (length file)) ↔ (GoodList ns × (section nameBytes ns ≡ file))
 names-accepts file ns = (
   (λ e.
-      let t = end-sound file (namesUpTo propositions file 0) e in
-      let w = names-sound file propositions 0 (t .0) in
+      let t = end-sound file (namesUpTo mostPropositions file 0) e in
+      let w = names-sound file mostPropositions 0 (t .0) in
       ((w .some, w .few, w .fits), run-whole file (section nameBytes ns) (w .spans))),
   λ t.
       let g = t .0 in
-      end-complete file (namesUpTo propositions file 0) ns (names-complete file propositions 0 ns
+      end-complete file (namesUpTo mostPropositions file 0) ns (names-complete file mostPropositions 0 ns
       (record { some = g .0; few = g .1; fits = g .2; spans = whole-run file (section nameBytes ns) (t .1) })),
 )
 

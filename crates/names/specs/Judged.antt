@@ -14,10 +14,10 @@ abbrev pub saidNames : NamesAnswer → Said
 saidNames (Names count) = record { number = 0; values = count ∷ [] }
 saidNames (Broken o) = broken o
 
-abbrev pub namesOf : Got (List (List ℕ)) → Said
-namesOf (got names next) = record { number = 0; values = length names ∷ [] }
-namesOf (bad o) = broken o
+abbrev pub saidOfNames : Got (List (List ℕ)) → Said
+saidOfNames (got names next) = record { number = 0; values = length names ∷ [] }
+saidOfNames (bad o) = broken o
 
 -- "The names are lent as a names section of the file below, with nothing after it"
 abbrev pub namesSaid : List ℕ → Said
-namesSaid file = namesOf (wholeNames file)
+namesSaid file = saidOfNames (wholeNames file)

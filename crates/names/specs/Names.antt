@@ -14,10 +14,6 @@ use Rattle.reading.specs.Reading.{section, one, Got, got, bad, Reader, andThen,
 
 -- ---- their numbers
 
--- "propositions m 1 to 16": as many names may a section have that is lent on its own. The session file has a limit of its own
-abbrev pub propositions : ℕ
-propositions = mostPropositions
-
 -- "names (length byte 1-16 ..)"
 abbrev pub nameLength : ℕ
 nameLength = 16
@@ -43,7 +39,7 @@ pub record GoodName (before : List (List ℕ)) (name : List ℕ) : Type 0 where
 
 -- "propositions m 1 to 16", "no name twice": each name is good after those before it
 abbrev pub GoodList : List (List ℕ) → Type 0
-GoodList names = (1 ≤ length names) × (length names ≤ propositions) × Each GoodName [] names
+GoodList names = (1 ≤ length names) × (length names ≤ mostPropositions) × Each GoodName [] names
 
 -- ---- the first offending byte
 
@@ -70,7 +66,7 @@ namesUpTo most = counted 1 most name
 
 -- a names section with nothing after it
 abbrev pub wholeNames : List ℕ → Got (List (List ℕ))
-wholeNames file = atEnd (namesUpTo propositions file 0) file
+wholeNames file = atEnd (namesUpTo mostPropositions file 0) file
 
 -- the names of a section
 abbrev pub listed : Got (List (List ℕ)) → List (List ℕ)

@@ -5,12 +5,12 @@ ghost use Prim.Native.Nat.{_+_, _≤_};
 ghost use lib.ListN.{length, take, drop};
 ghost use Rattle.reading.specs.Reading.{isIn};
 ghost use Rattle.names.specs.Names.{sameBytes};
-ghost use Rattle.names.specs.Lookup.{walk, walkEnd};
+ghost use Rattle.names.specs.Lookup.{namesFrom, walkEnd};
 
 // Whether the n bytes at an offset are one of the first `count` names.
 pub(crate) fn known_name(file: &[u8], at: usize, n: usize, count: usize) -> bool
     requires { ⌜ (walkEnd (now file) count 1 ≤ length (now file)) × (at + n ≤ length (now file)) ⌝ }
-    ensures { λ r. ⌜ r ≡ isIn sameBytes (take n (drop at (now (file .entry)))) (walk (now (file .entry)) count 1) ⌝ }
+    ensures { λ r. ⌜ r ≡ isIn sameBytes (take n (drop at (now (file .entry)))) (namesFrom (now (file .entry)) count 1) ⌝ }
 {
     let end = at + n;
     let mut j: usize = 0;

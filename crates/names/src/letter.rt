@@ -1,11 +1,11 @@
 // The bytes of a name: letters, digits or `_`, a letter first.
-use reading::Step;
+use reading::ReadStep;
 use spelling::letter::is_letter;
 use spelling::letter::is_name_byte;
 ghost use mathlib.Core.Path.{_≡_};
 ghost use mathlib.Core.List.{[]};
 ghost use lib.ListN.{length};
-ghost use Rattle.reading.specs.Reading.{each, byte, stepOf};
+ghost use Rattle.reading.specs.Reading.{eachItem, byte, stepOf};
 ghost use Rattle.names.specs.Names.{letter};
 ghost use Rattle.names.specs.Inner.{fitsAt};
 
@@ -20,40 +20,40 @@ fn fits_name(i: usize, b: u8) -> bool
 }
 
 // The byte at an offset as the byte number i of a name.
-fn letter_at(file: &[u8], at: usize, i: usize) -> Step
+fn letter_at(file: &[u8], at: usize, i: usize) -> ReadStep
     ensures { λ r. ⌜ r ≡ stepOf (λ b. b) (byte (fitsAt i) (now (file .entry)) at) ⌝ }
 {
     if file.len() <= at {
-        return Step::Broken(file.len());
+        return ReadStep::Broken(file.len());
     }
     let b = file[at];
     if fits_name(i, b) {
-        Step::Read {
+        ReadStep::Read {
             value: b as usize,
             next: at + 1,
         }
     } else {
-        Step::Broken(at)
+        ReadStep::Broken(at)
     }
 }
 
 // n bytes of a name.
-pub(crate) fn letters_from(file: &[u8], at: usize, n: usize) -> Step
-    ensures { λ r. ⌜ r ≡ stepOf length (each letter n [] (now (file .entry)) at) ⌝ }
+pub(crate) fn letters_from(file: &[u8], at: usize, n: usize) -> ReadStep
+    ensures { λ r. ⌜ r ≡ stepOf length (eachItem letter n [] (now (file .entry)) at) ⌝ }
 {
     let mut i: usize = 0;
     let mut p = at;
     while i < n {
         let s = letter_at(file, p, i);
         match s {
-            Step::Read { value: _, next } => {
+            ReadStep::Read { value: _, next } => {
                 p = next;
             }
-            Step::Broken(o) => {
-                return Step::Broken(o);
+            ReadStep::Broken(o) => {
+                return ReadStep::Broken(o);
             }
         }
         i += 1;
     }
-    Step::Read { value: n, next: p }
+    ReadStep::Read { value: n, next: p }
 }

@@ -6,16 +6,16 @@ pub mod lookup;
 mod reserved;
 
 use letter::letters_from;
-use reading::Step;
+use reading::ReadStep;
 use reading::byte_within;
 use reserved::taken_name;
 ghost use mathlib.Core.Path.{_≡_};
 ghost use mathlib.Core.List.{[]};
 ghost use Prim.Native.Nat.{_≤_};
 ghost use lib.ListN.{length};
-ghost use Rattle.reading.specs.Reading.{each, stepOf};
+ghost use Rattle.reading.specs.Reading.{eachItem, stepOf};
 ghost use Rattle.names.specs.Names.{name, namesUpTo};
-ghost use Rattle.names.specs.Lookup.{walk, walkEnd};
+ghost use Rattle.names.specs.Lookup.{namesFrom, walkEnd};
 ghost use Rattle.names.specs.Judged.{saidNames, namesSaid};
 
 // Document 01's numbers for a names section; for the contracts they are in specs/Names.antt.
@@ -30,67 +30,67 @@ pub enum NamesAnswer {
 }
 
 // The name at an offset, after `count` names.
-fn name_at(file: &[u8], at: usize, count: usize) -> Step
+fn name_at(file: &[u8], at: usize, count: usize) -> ReadStep
     requires { ⌜ walkEnd (now file) count 1 ≤ length (now file) ⌝ }
-    ensures { λ r. ⌜ r ≡ stepOf length (name (walk (now (file .entry)) count 1) (now (file .entry)) at) ⌝ }
+    ensures { λ r. ⌜ r ≡ stepOf length (name (namesFrom (now (file .entry)) count 1) (now (file .entry)) at) ⌝ }
 {
     let c = byte_within(file, at, 1, crate::NAME_LENGTH);
     match c {
-        Step::Read { value: n, next } => {
+        ReadStep::Read { value: n, next } => {
             let s = letters_from(file, next, n);
             match s {
-                Step::Read {
+                ReadStep::Read {
                     value: _,
                     next: end,
                 } => {
                     if taken_name(file, next, n, count) {
-                        return Step::Broken(at);
+                        return ReadStep::Broken(at);
                     }
-                    Step::Read {
+                    ReadStep::Read {
                         value: n,
                         next: end,
                     }
                 }
-                Step::Broken(o) => Step::Broken(o),
+                ReadStep::Broken(o) => ReadStep::Broken(o),
             }
         }
-        Step::Broken(o) => Step::Broken(o),
+        ReadStep::Broken(o) => ReadStep::Broken(o),
     }
 }
 
 // `count` names from offset 1.
-fn names_from(file: &[u8], count: usize) -> Step
+fn names_from(file: &[u8], count: usize) -> ReadStep
     requires { ⌜ 1 ≤ length (now file) ⌝ }
-    ensures { λ r. ⌜ r ≡ stepOf length (each name count [] (now (file .entry)) 1) ⌝ }
+    ensures { λ r. ⌜ r ≡ stepOf length (eachItem name count [] (now (file .entry)) 1) ⌝ }
 {
     let mut i: usize = 0;
     let mut p: usize = 1;
     while i < count {
         let s = name_at(file, p, i);
         match s {
-            Step::Read { value: _, next } => {
+            ReadStep::Read { value: _, next } => {
                 p = next;
             }
-            Step::Broken(o) => {
-                return Step::Broken(o);
+            ReadStep::Broken(o) => {
+                return ReadStep::Broken(o);
             }
         }
         i += 1;
     }
-    Step::Read {
+    ReadStep::Read {
         value: count,
         next: p,
     }
 }
 
 // The names section at the start of a file: at most so many names. Anything may follow.
-pub fn section(file: &[u8], most: usize) -> Step
+pub fn section(file: &[u8], most: usize) -> ReadStep
     ensures { λ r. ⌜ r ≡ stepOf length (namesUpTo most (now (file .entry)) 0) ⌝ }
 {
     let c = byte_within(file, 0, 1, most);
     match c {
-        Step::Read { value: n, next: _ } => names_from(file, n),
-        Step::Broken(o) => Step::Broken(o),
+        ReadStep::Read { value: n, next: _ } => names_from(file, n),
+        ReadStep::Broken(o) => ReadStep::Broken(o),
     }
 }
 
@@ -100,13 +100,13 @@ pub fn judge(file: &[u8]) -> NamesAnswer
 {
     let s = section(file, crate::PROPOSITIONS);
     match s {
-        Step::Read { value, next } => {
+        ReadStep::Read { value, next } => {
             if next == file.len() {
                 NamesAnswer::Names(value)
             } else {
                 NamesAnswer::Broken(next)
             }
         }
-        Step::Broken(o) => NamesAnswer::Broken(o),
+        ReadStep::Broken(o) => NamesAnswer::Broken(o),
     }
 }

@@ -13,7 +13,7 @@ pub struct Span {
 }
 
 // The number of the name that was looked for.
-pub enum Found {
+pub enum FoundName {
     At(usize),
     Nothing,
 }
@@ -63,11 +63,11 @@ pub fn letters(section: &[u8], p: usize) -> Span
 }
 
 // The number of the first name with these bytes.
-pub fn find(section: &[u8], word: &[u8]) -> Found
+pub fn find(section: &[u8], word: &[u8]) -> FoundName
     ensures { λ r. ⌜ r ≡ foundIn (now (section .entry)) (now (word .entry)) ⌝ }
 {
     if section.len() == 0 {
-        return Found::Nothing;
+        return FoundName::Nothing;
     }
     let count = section[0] as usize;
     let mut j: usize = 0;
@@ -76,9 +76,9 @@ pub fn find(section: &[u8], word: &[u8]) -> Found
         let from = l.from;
         let to = l.to;
         if same(word, &section[from..to]) {
-            return Found::At(j);
+            return FoundName::At(j);
         }
         j += 1;
     }
-    Found::Nothing
+    FoundName::Nothing
 }

@@ -53,10 +53,10 @@ check-whole i ns root s a =
       | yes h ↦ subst (λ (l : List Node). CheckAnswer i (plain l) root s) (take-all seen ns h) a
       | no h ↦ let long : seen < length ns = omega arith in
           record {
-            number = same-last (dataRows (i .sessions) (i .propositions) (i .marks) (i .lengths) (i .words)) (brokenList (i .propositions) (plain (take seen ns)) root)
+            number = same-last (dataRows i) (brokenList (i .propositions) (plain (take seen ns)) root)
                 (brokenList (i .propositions) (plain ns) root) (s .number) (tooMany (long-cut ns long)) (tooMany (long-whole ns long)) refl (a .number);
             refused = a .refused;
-            passed = λ e. absurd (some-given (dataRows (i .sessions) (i .propositions) (i .marks) (i .lengths) (i .words))
+            passed = λ e. absurd (some-given (dataRows i)
                 (brokenList (i .propositions) (plain (take seen ns)) root) (omega arith, (omega arith, (omega arith, (omega arith, (omega arith, (omega arith, tt))))))
                 (tooMany (long-cut ns long)) (subst (λ (k : ℕ). Decided (checkRows i (plain (take seen ns)) root) k) e (a .number)));
           }

@@ -6,12 +6,13 @@ use Prim.Native.Nat.{ℕ, zero, suc, _+_, _<_}
 use native.Mathlib.Omega.{arith}
 use lib.ListN.{length, getD, set, take, length-map, length-set, List·getD-map}
 use Rattle.formula.specs.declared.kinds.Node.{Node}
-use Rattle.nodes_in.specs.Arrays.{noNode, Filled}
+use Rattle.nodes_in.specs.Arrays.{FieldsFilled}
+use Rattle.formula.specs.Kinds.{noNode}
 use Rattle.nodes_in.proofs.Filling.{one-more}
 
 -- ---- filled node by node
 
-pub filled-none : (list : List Node) {c l r s : List ℕ} → length c ≡ length list → length l ≡ length list → length r ≡ length list → length s ≡ length list → Filled list 0 c l r s
+pub filled-none : (list : List Node) {c l r s : List ℕ} → length c ≡ length list → length l ≡ length list → length r ≡ length list → length s ≡ length list → FieldsFilled list 0 c l r s
 filled-none list hc hl hr hs = record {
   codes-long = hc;
   lefts-long = hl;
@@ -32,8 +33,8 @@ field-more : (f : Node → ℕ) (list : List Node) (ys : List ℕ) (i : ℕ) →
 field-more f list ys i less l t =
     one-more (f noNode) (map f list) ys i (f (node list i)) (omega (arith, length-map list f)) (omega arith) (List·getD-map f list i noNode) t
 
-pub filled-more : (list : List Node) (i : ℕ) {c l r s : List ℕ} → i < length list → Filled list i c l r s
-    → Filled list (i + 1) (set c i (node list i .code)) (set l i (node list i .left .0)) (set r i (node list i .right .0)) (set s i (node list i .size))
+pub filled-more : (list : List Node) (i : ℕ) {c l r s : List ℕ} → i < length list → FieldsFilled list i c l r s
+    → FieldsFilled list (i + 1) (set c i (node list i .code)) (set l i (node list i .left .0)) (set r i (node list i .right .0)) (set s i (node list i .size))
 filled-more list i {c} {l} {r} {s} less f = record {
   codes-long = length-set c i (node list i .code) ∙ f .codes-long;
   lefts-long = length-set l i (node list i .left .0) ∙ f .lefts-long;
@@ -61,8 +62,8 @@ taken-more : (f : Node → ℕ) (list : List Node) (ys : List ℕ) (i : ℕ) (n 
 taken-more f list ys i n less l e t =
     sym (ap (λ (m : List ℕ). take (i + 1) m) (map-set f list i n) ∙ one-more 0 ys (map f list) i (f n) (omega arith) (omega (arith, length-map list f)) e (sym t))
 
-pub packed-more : (list : List Node) (i : ℕ) {c l r s : List ℕ} → i < length list → Filled list i c l r s
-    → Filled (set list i (made (getD c i 0) (getD l i 0) (getD r i 0) (getD s i 0))) (i + 1) c l r s
+pub packed-more : (list : List Node) (i : ℕ) {c l r s : List ℕ} → i < length list → FieldsFilled list i c l r s
+    → FieldsFilled (set list i (made (getD c i 0) (getD l i 0) (getD r i 0) (getD s i 0))) (i + 1) c l r s
 packed-more list i {c} {l} {r} {s} less f =
     let n : Node = made (getD c i 0) (getD l i 0) (getD r i 0) (getD s i 0) in
     record {
@@ -76,8 +77,8 @@ packed-more list i {c} {l} {r} {s} less f =
       sizes-are = taken-more (λ m. m .size) list s i n less (f .sizes-long) refl (f .sizes-are);
     }
 
-pub filled-to : (list : List Node) (i n : ℕ) {c l r s : List ℕ} → i ≡ n → Filled list i c l r s → Filled list n c l r s
-filled-to list i n {c} {l} {r} {s} e f = subst (λ (m : ℕ). Filled list m c l r s) e f
+pub filled-to : (list : List Node) (i n : ℕ) {c l r s : List ℕ} → i ≡ n → FieldsFilled list i c l r s → FieldsFilled list n c l r s
+filled-to list i n {c} {l} {r} {s} e f = subst (λ (m : ℕ). FieldsFilled list m c l r s) e f
 
 -- ---- the first of a list's fields
 

@@ -11,12 +11,12 @@ use Rattle.rules.specs.Answers.{Said}
 use Rattle.formula.specs.Nodes as walk
 use Rattle.session.specs.Recording.{Recording}
 use Rattle.formula.specs.declared.kinds.Node.{Node}
-use Rattle.formula.specs.Kinds.{nodeOf, node, nodes}
+use Rattle.formula.specs.Kinds.{nodeOf, node, nodes, noNode}
 use Rattle.verdict.specs.Check.{CheckAnswer}
 use Rattle.text.specs.Print.{Prints}
 use Rattle.formula.proofs.Listed.{length-nodes, node-at}
 use Rattle.nodes_in.specs.Lists.{plain, codesOf, leftsOf, rightsOf, sizesOf}
-use Rattle.nodes_in.specs.Arrays.{noNode, seen, Copied, Filled, Checks, Printing}
+use Rattle.nodes_in.specs.Arrays.{seen, Copied, FieldsFilled, Checks, Printing}
 use Rattle.nodes_in.proofs.Fields.{map-take}
 use Rattle.nodes_in.proofs.Cut.{check-whole, print-whole}
 
@@ -49,7 +49,7 @@ module _ (ns : List Node) where
   columns-nodes : nodes (codesOf ns) (leftsOf ns) (rightsOf ns) (sizesOf ns) ≡ plain ns
   columns-nodes = ext-getD (node 0 0 0 0) _ _ same-count same-node
 
-first-nodes : (list : List Node) (n : ℕ) {c l r s : List ℕ} → Filled list n c l r s → nodes (take n c) (take n l) (take n r) (take n s) ≡ plain (take n list)
+first-nodes : (list : List Node) (n : ℕ) {c l r s : List ℕ} → FieldsFilled list n c l r s → nodes (take n c) (take n l) (take n r) (take n s) ≡ plain (take n list)
 first-nodes list n f =
     rw (
       f .codes-are ∙ sym (map-take (λ m. m .code) n list),
@@ -69,7 +69,7 @@ cut-same ns list n e k =
 
 -- ---- the core's answer for the first fields is the answer for the list
 
-module _ (list : List Node) (long n : ℕ) {c l r s : List ℕ} (e : n ≡ min long seen) (f : Filled list n c l r s) where
+module _ (list : List Node) (long n : ℕ) {c l r s : List ℕ} (e : n ≡ min long seen) (f : FieldsFilled list n c l r s) where
   what-is-seen : (ns : List Node) → length ns ≡ long → Copied ns list → nodes (take n c) (take n l) (take n r) (take n s) ≡ plain (take seen ns)
   what-is-seen ns h k = first-nodes list n f ∙ ap plain (cut-same ns list n (omega arith) k)
 

@@ -13,10 +13,6 @@ use Rattle.verdict.specs.Check.{CheckAnswer}
 use Rattle.text.specs.Print.{Prints}
 use Rattle.nodes_in.specs.Lists.{plain, codesOf, leftsOf, rightsOf, sizesOf}
 
--- what stands past the end of a list of nodes
-abbrev pub noNode : Node
-noNode = record { code = 0; left = record { 0 = 0 }; right = record { 0 = 0 }; size = 0 }
-
 -- one more than 4,096: by so many nodes a list shows that it is too long
 abbrev pub seen : ℕ
 seen = mostRoom + 1
@@ -27,7 +23,7 @@ pub record Copied (ns list : List Node) : Type 0 where
   pub same : take seen ns ≡ take (length ns) list
 
 -- the first i fields of four lists as long as the list are its nodes'
-pub record Filled (list : List Node) (i : ℕ) (codes lefts rights sizes : List ℕ) : Type 0 where
+pub record FieldsFilled (list : List Node) (i : ℕ) (codes lefts rights sizes : List ℕ) : Type 0 where
   pub codes-long : length codes ≡ length list
   pub lefts-long : length lefts ≡ length list
   pub rights-long : length rights ≡ length list

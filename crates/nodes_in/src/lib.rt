@@ -9,7 +9,7 @@ ghost use Rattle.formula.specs.Kinds.{nodeOf};
 ghost use Rattle.verdict.specs.Check.{saidVerdict};
 ghost use Rattle.session.specs.Recording.{recording};
 ghost use Rattle.text.specs.Print.{saidPrinted};
-ghost use Rattle.nodes_in.specs.Arrays.{seen, Filled, Checks, Printing};
+ghost use Rattle.nodes_in.specs.Arrays.{seen, FieldsFilled, Checks, Printing};
 
 // As many nodes as the check and printing look at: one more than a list may have.
 pub const SEEN: usize = rules::ROOM + 1;
@@ -31,7 +31,7 @@ fn unpack(
     sizes: &mut [u8],
 )
     requires { ⌜ (count ≤ length list) × (length (now codes) ≡ length list) × (length (now lefts) ≡ length list) × (length (now rights) ≡ length list) × (length (now sizes) ≡ length list) ⌝ }
-    ensures { λ _. ⌜ Filled list count (now (codes .exit)) (now (lefts .exit)) (now (rights .exit)) (now (sizes .exit)) ⌝ }
+    ensures { λ _. ⌜ FieldsFilled list count (now (codes .exit)) (now (lefts .exit)) (now (rights .exit)) (now (sizes .exit)) ⌝ }
 {
     let mut i: usize = 0;
     while i < count {

@@ -11,18 +11,18 @@ use lib.ListN.{length, take, drop, length-map, length-append, length-take, lengt
 use lib.Seq.{take-at}
 use Rattle.rules.specs.Refusals.{Row, Decided}
 use Rattle.rules.specs.Answers.{Said, over}
-use Rattle.walk.specs.Walk.{found, full, none, State, going, ended, kept}
+use Rattle.walk.specs.Walk.{found, full, none, WalkState, going, ended, kept}
 use Rattle.walk.specs.Input.{Input, search}
 use Rattle.formula.specs.declared.kinds.Node.{Node}
 use Rattle.search.specs.declared.SearchAnswer.{SearchAnswer}
 use Rattle.search.specs.declared.SearchAnswer.the-variants.{Found, None, Full, Refused}
 use Rattle.table.specs.Slices.{Cols, tableOver}
 use Rattle.checks.specs.Refusals.{settingWrong, noRoom, searchRows}
-use Rattle.search.specs.Search.{said, walkSaid, Outcome, Searched}
+use Rattle.search.specs.Search.{saidSearch, walkSaid, Outcome, Searched}
 use Rattle.nodes_out.specs.declared.Done.{Done}
-use Rattle.nodes_out.specs.Columns.{columns}
+use Rattle.nodes_out.specs.Columns.{nodeCols}
 use Rattle.nodes_out.specs.Arrays.{room, keptOf, putOver, Works}
-use Rattle.nodes_in.specs.Arrays.{Filled}
+use Rattle.nodes_in.specs.Arrays.{FieldsFilled}
 use Rattle.nodes_in.proofs.Fields.{map-take}
 
 -- ---- the rows, over lists of other lengths
@@ -86,7 +86,7 @@ keptIn (a ∷ b ∷ c ∷ []) = 0
 keptIn (a ∷ b ∷ c ∷ d ∷ []) = c
 keptIn (a ∷ b ∷ c ∷ d ∷ e ∷ rest) = d
 
-kept-walk : (S : State (List ℕ)) → keptIn (walkSaid S .values) ≡ length (kept S)
+kept-walk : (S : WalkState (List ℕ)) → keptIn (walkSaid S .values) ≡ length (kept S)
 unfolding keptIn
 kept-walk (going k n) = refl
 kept-walk (ended (found root) k n) = refl
@@ -129,9 +129,9 @@ few i t t′ say e p l =
 
 kept-within : (i : Input) (t t′ : Cols) (a : SearchAnswer) → Searched i t a t′ → length (t′ .codes) ≡ length (t .codes) → keptOf a ≤ length (t .codes)
 unfolding keptIn
-kept-within i t t′ (Found root n) s l = few i t t′ (said (Found root n)) (s .outcome .0) (s .outcome .1) l
-kept-within i t t′ (None n) s l = few i t t′ (said (None n)) (s .outcome .0) (s .outcome .1) l
-kept-within i t t′ (Full size n) s l = few i t t′ (said (Full size n)) (s .outcome .0) (s .outcome .1) l
+kept-within i t t′ (Found root n) s l = few i t t′ (saidSearch (Found root n)) (s .outcome .0) (s .outcome .1) l
+kept-within i t t′ (None n) s l = few i t t′ (saidSearch (None n)) (s .outcome .0) (s .outcome .1) l
+kept-within i t t′ (Full size n) s l = few i t t′ (saidSearch (Full size n)) (s .outcome .0) (s .outcome .1) l
 kept-within i t t′ (Refused k) s l = omega arith
 
 pub kept-in-room : (i : Input) (t t′ : Cols) (a : SearchAnswer) (n k : ℕ) → Searched i t a t′ → length (t′ .codes) ≡ length (t .codes)
@@ -162,10 +162,10 @@ pub record Ran (i : Input) (n : ℕ) (old : List ℕ) (d : Done) (new : List ℕ
   pub kept-is : d .kept ≡ keptOf (d .answer)
   pub room-is : length (d .nodes) ≡ room
   pub searched : Searched i given (d .answer) left
-  pub filled : Filled (d .nodes) (d .kept) (left .codes ++ codes-beyond) (left .lefts ++ lefts-beyond) (left .rights ++ rights-beyond) (left .sizes ++ sizes-beyond)
+  pub filled : FieldsFilled (d .nodes) (d .kept) (left .codes ++ codes-beyond) (left .lefts ++ lefts-beyond) (left .rights ++ rights-beyond) (left .sizes ++ sizes-beyond)
 
 module _ (i : Input) (n : ℕ) (old : List ℕ) (d : Done) (new : List ℕ) (ran : Ran i n old d new) (ns : List Node) (long : length ns ≡ n) where
-  cut : CutTo (ran .given) (columns ns old)
+  cut : CutTo (ran .given) (nodeCols ns old)
   cut = record {
     codes-cut = ran .codes-given ∙ ap (λ (m : ℕ). min m room) (sym (length-map ns (λ m. m .code) ∙ long));
     lefts-cut = ran .lefts-given ∙ ap (λ (m : ℕ). min m room) (sym (length-map ns (λ m. m .left .0) ∙ long));
@@ -175,7 +175,7 @@ module _ (i : Input) (n : ℕ) (old : List ℕ) (d : Done) (new : List ℕ) (ran
   }
 
   Answered : Type 0
-  Answered = ((d .kept ≤ room) × (d .kept ≤ n)) × (columns (putOver d ns) new ≡ tableOver (kept (search i)) (columns ns old))
+  Answered = ((d .kept ≤ room) × (d .kept ≤ n)) × (nodeCols (putOver d ns) new ≡ tableOver (kept (search i)) (nodeCols ns old))
 
   -- an answer that is no refusal
   answered : (say : Said) → d .kept ≡ keptIn (say .values) → say ≡ walkSaid (search i) → ran .left ≡ tableOver (kept (search i)) (ran .given) → Answered
@@ -203,31 +203,31 @@ module _ (i : Input) (n : ℕ) (old : List ℕ) (d : Done) (new : List ℕ) (ran
 
   -- each answer
   outcome-over : (a : SearchAnswer) → d .answer ≡ a → Outcome i (ran .given) a (ran .left)
-      → ((d .kept ≤ room) × (d .kept ≤ n)) × Outcome i (columns ns old) a (columns (putOver d ns) new)
+      → ((d .kept ≤ room) × (d .kept ≤ n)) × Outcome i (nodeCols ns old) a (nodeCols (putOver d ns) new)
   unfolding Answered keptIn
   outcome-over (Found root n) e o =
-      let x = answered (said (Found root n)) (ran .kept-is ∙ ap keptOf e) (o .0) (o .1) in (x .0, (o .0, x .1))
+      let x = answered (saidSearch (Found root n)) (ran .kept-is ∙ ap keptOf e) (o .0) (o .1) in (x .0, (o .0, x .1))
   outcome-over (None n) e o =
-      let x = answered (said (None n)) (ran .kept-is ∙ ap keptOf e) (o .0) (o .1) in (x .0, (o .0, x .1))
+      let x = answered (saidSearch (None n)) (ran .kept-is ∙ ap keptOf e) (o .0) (o .1) in (x .0, (o .0, x .1))
   outcome-over (Full size n) e o =
-      let x = answered (said (Full size n)) (ran .kept-is ∙ ap keptOf e) (o .0) (o .1) in (x .0, (o .0, x .1))
+      let x = answered (saidSearch (Full size n)) (ran .kept-is ∙ ap keptOf e) (o .0) (o .1) in (x .0, (o .0, x .1))
   outcome-over (Refused k) e o =
       let z : d .kept ≡ 0 = ran .kept-is ∙ ap keptOf e in
       let m : new ≡ old = sym (ran .new-is) ∙ ap (λ (x : Cols). x .matrices) (o .1) ∙ ran .old-is in
-      ((omega arith, omega arith), (o .0, ap (λ (j : ℕ). columns (take j (d .nodes) ++ drop j ns) new) z ∙ ap (columns ns) m))
+      ((omega arith, omega arith), (o .0, ap (λ (j : ℕ). nodeCols (take j (d .nodes) ++ drop j ns) new) z ∙ ap (nodeCols ns) m))
 
-  works-over : ((d .kept ≤ length (d .nodes)) × (d .kept ≤ length ns)) × Searched i (columns ns old) (d .answer) (columns (putOver d ns) new)
+  works-over : ((d .kept ≤ length (d .nodes)) × (d .kept ≤ length ns)) × Searched i (nodeCols ns old) (d .answer) (nodeCols (putOver d ns) new)
   works-over =
       let x = outcome-over (d .answer) refl (ran .searched .outcome) in
       let b = x .0 in (
         (omega (arith, b .0, ran .room-is), omega (arith, b .1)),
-        record { decided = same-rows i (ran .given) (columns ns old) cut (said (d .answer) .number) (ran .searched .decided); outcome = x .1 },
+        record { decided = same-rows i (ran .given) (nodeCols ns old) cut (saidSearch (d .answer) .number) (ran .searched .decided); outcome = x .1 },
       )
 
 pub works : (i : Input) (n : ℕ) (old : List ℕ) (d : Done) (new : List ℕ) → Ran i n old d new → Works i n old d new
 works i n old d new ran ns long = works-over i n old d new ran ns long
 
 -- an answer and a list that are those of `Works`
-pub as-left : (i : Input) (t : Cols) (a b : SearchAnswer) (ys ms : List Node) (zs : List ℕ) → b ≡ a → ys ≡ ms → Searched i t a (columns ms zs) → Searched i t b (columns ys zs)
+pub as-left : (i : Input) (t : Cols) (a b : SearchAnswer) (ys ms : List Node) (zs : List ℕ) → b ≡ a → ys ≡ ms → Searched i t a (nodeCols ms zs) → Searched i t b (nodeCols ys zs)
 as-left i t a b ys ms zs e m s =
-    subst (λ (x : SearchAnswer). Searched i t x (columns ys zs)) (sym e) (subst (λ (l : List Node). Searched i t a (columns l zs)) (sym m) s)
+    subst (λ (x : SearchAnswer). Searched i t x (nodeCols ys zs)) (sym e) (subst (λ (l : List Node). Searched i t a (nodeCols l zs)) (sym m) s)

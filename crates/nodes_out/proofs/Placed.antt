@@ -18,10 +18,10 @@ use Rattle.grammar.specs.Grammar.{Reads}
 use Rattle.grammar.specs.Nodes.{nodesOf}
 use Rattle.reader.specs.declared.Parsed.{Parsed}
 use Rattle.reader.specs.declared.Parsed.the-variants.{Nodes, Broken, Stops, Unknown, Refused}
-use Rattle.reader.specs.Parsing.{saidParsed, ParseRow, Decides, Columns, roomOf, largeFormula, shortRoom, parseRows, written, Taken, Parses}
+use Rattle.reader.specs.Parsing.{saidParsed, ParseRow, Decides, Columns, roomOf, largeFormula, shortNodeRoom, parseRows, nodesOver, Taken, Parses}
 use Rattle.reader.proofs.Scratch.{nodes-length}
 use Rattle.nodes_out.specs.declared.Read.{Read}
-use Rattle.nodes_in.specs.Arrays.{Filled}
+use Rattle.nodes_in.specs.Arrays.{FieldsFilled}
 use Rattle.nodes_out.specs.Columns.{fields}
 use Rattle.nodes_out.specs.Arrays.{room, countIn, placedOver, ReadIn}
 use Rattle.nodes_out.proofs.Kept.{column, within}
@@ -57,7 +57,7 @@ module _ (file text : List ℕ) (old whole : Columns) (cut : roomOf old ≡ min 
   same-rows : (P Q : Said → Type 0) (s : Said) → (P s → Q s) → Decides (parseRows file text old) P s → Decides (parseRows file text whole) Q s
   same-rows P Q s k d =
       skip _ _ _ P Q s (λ _. skip _ _ _ P Q s (λ _. skip _ _ _ P Q s (λ _. skip _ _ _ P Q s (λ _. skip _ _ _ P Q s (λ fine.
-      swap (shortRoom file text old) (shortRoom file text whole) P Q s refl
+      swap (shortNodeRoom file text old) (shortNodeRoom file text whole) P Q s refl
       (λ vs x. (x .0, (x .1 .0, x .1 .1, cut-short _ _ _ (small fine (x .1 .0) (x .1 .1)) cut (x .1 .2))))
       (λ vs x. (x .0, (x .1 .0, x .1 .1, whole-short _ _ _ (small fine (x .1 .0) (x .1 .1)) cut (x .1 .2)))) k))))) d
 
@@ -141,7 +141,7 @@ pub record Ran (file text : List ℕ) (n : ℕ) (d : Read) : Type 0 where
   pub count-is : d .count ≡ countIn (d .answer)
   pub room-is : length (d .nodes) ≡ room
   pub parsed : Parses file text given left (saidParsed (d .answer))
-  pub filled : Filled (d .nodes) (d .count) (left .codes ++ codes-beyond) (left .lefts ++ lefts-beyond) (left .rights ++ rights-beyond) (left .sizes ++ sizes-beyond)
+  pub filled : FieldsFilled (d .nodes) (d .count) (left .codes ++ codes-beyond) (left .lefts ++ lefts-beyond) (left .rights ++ rights-beyond) (left .sizes ++ sizes-beyond)
 
 module _ (file text : List ℕ) (n : ℕ) (d : Read) (ran : Ran file text n d) (ns : List Node) (long : length ns ≡ n) where
   abbrev answer : Said
@@ -155,7 +155,7 @@ module _ (file text : List ℕ) (n : ℕ) (d : Read) (ran : Ran file text n d) (
       alike _ _ _ _ _ (ran .codes-given) (ran .lefts-given) (ran .rights-given) (ran .sizes-given)
       ∙ ap (λ (m : ℕ). min m room) (sym (alike _ _ _ _ n (as-long (λ m. m .code)) (as-long (λ m. m .left .0)) (as-long (λ m. m .right .0)) (as-long (λ m. m .size))))
 
-  placed : (t : Formula) → d .count ≡ size t → ran .left ≡ written (list t) (ran .given) → fields (placedOver d ns) ≡ written (list t) (fields ns)
+  placed : (t : Formula) → d .count ≡ size t → ran .left ≡ nodesOver (list t) (ran .given) → fields (placedOver d ns) ≡ nodesOver (list t) (fields ns)
   placed t k e =
       let f = ran .filled in
       let l : length (list t) ≡ d .count = nodes-length codes 0 t ∙ sym k in

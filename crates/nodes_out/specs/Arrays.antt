@@ -17,7 +17,7 @@ use Rattle.reader.specs.declared.Parsed.the-variants as reader
 use Rattle.reader.specs.Parsing.{saidParsed, Parses}
 use Rattle.nodes_out.specs.declared.Done.{Done}
 use Rattle.nodes_out.specs.declared.Read.{Read}
-use Rattle.nodes_out.specs.Columns.{columns, fields}
+use Rattle.nodes_out.specs.Columns.{nodeCols, fields}
 
 -- "table room C 1 to 4,096 formulas"
 abbrev pub room : ℕ
@@ -38,7 +38,7 @@ putOver d ns = take (d .kept) (d .nodes) ++ drop (d .kept) ns
 abbrev pub Works : Input → ℕ → List ℕ → Done → List ℕ → Type 0
 Works i n old d new =
     (ns : List Node) → length ns ≡ n
-    → ((d .kept ≤ length (d .nodes)) × (d .kept ≤ length ns)) × Searched i (columns ns old) (d .answer) (columns (putOver d ns) new)
+    → ((d .kept ≤ length (d .nodes)) × (d .kept ≤ length ns)) × Searched i (nodeCols ns old) (d .answer) (nodeCols (putOver d ns) new)
 
 -- ---- the formula reader
 

@@ -9,8 +9,8 @@ use Rattle.reader.specs.Parsing.{Columns}
 use Rattle.nodes_in.specs.Lists.{codesOf, leftsOf, rightsOf, sizesOf}
 
 -- a search's lent slices: those of a list of nodes, and the matrices
-abbrev pub columns : List Node → List ℕ → Cols
-columns ns matrices = cols (codesOf ns) (leftsOf ns) (rightsOf ns) (sizesOf ns) matrices
+abbrev pub nodeCols : List Node → List ℕ → Cols
+nodeCols ns matrices = cols (codesOf ns) (leftsOf ns) (rightsOf ns) (sizesOf ns) matrices
 
 -- "operator code, left place, right place, size": so the reader's contract `Parses` says what it leaves in a list of nodes
 abbrev pub fields : List Node → Columns

@@ -1,17 +1,15 @@
 // The search and the reader of formulas with the nodes that they leave in an array, by value: the core writes into arrays of numbers, of which the nodes are made.
 use formula::kinds::Node;
 use reader::Parsed;
+use rules::ROOM;
 use rules::kinds::Place;
 use search::SearchAnswer;
 ghost use mathlib.Core.Path.{_≡_};
 ghost use Prim.Native.Nat.{_≤_, min};
 ghost use lib.ListN.{length};
 ghost use Rattle.walk.specs.Input.{inputOf};
-ghost use Rattle.nodes_in.specs.Arrays.{Filled};
+ghost use Rattle.nodes_in.specs.Arrays.{FieldsFilled};
 ghost use Rattle.nodes_out.specs.Arrays.{room, keptOf, countIn, Works, ReadIn};
-
-// The largest room.
-pub const ROOM: usize = rules::ROOM;
 
 // What a search leaves: its answer, and the kept nodes at the start of an array.
 pub struct Done {
@@ -66,7 +64,7 @@ fn pack(
     count: usize,
 ) -> [Node; ROOM]
     requires { ⌜ count ≤ room ⌝ }
-    ensures { λ r. ⌜ Filled r count codes lefts rights sizes ⌝ }
+    ensures { λ r. ⌜ FieldsFilled r count codes lefts rights sizes ⌝ }
 {
     let blank = Node {
         code: 0,

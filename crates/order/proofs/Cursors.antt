@@ -11,13 +11,13 @@ use lib.ListN.{length, getD, drop}
 use lib.Dec.{ltb}
 use Rattle.rules.specs.Lists.{each}
 use Rattle.rules.specs.declared.kinds.Place.{Place}
-use Rattle.order.specs.declared.Cursor.{Cursor}
-use Rattle.order.specs.declared.Step.the-variants.{Candidate}
-use Rattle.order.specs.Size.{Layer, layerOf, range, start}
-use Rattle.order.specs.Ahead.{cursor, leafCursor, column, partFrom, leftStart, leftEnd, rightStart, rightEnd, codesOf, codesIn, part, partAhead, partsAhead, ahead}
-use Rattle.order.specs.Ahead.{candidateAt, after, rest, first, cursorAfter}
-use Rattle.order.specs.Steps.{Rises, Within, Steps}
-use Rattle.order.proofs.Loops.{resume-in, resume-out}
+use Rattle.split.specs.declared.Cursor.{Cursor}
+use Rattle.split.specs.declared.Step.the-variants.{Candidate}
+use Rattle.order.specs.Size.{Layer, layerOf, firstPlace}
+use Rattle.split.specs.Split.{range, cursor, column, partFrom}
+use Rattle.order.specs.Ahead.{leafCursor, leftStart, leftEnd, rightStart, rightEnd, splitCodes, splitCursors, partAhead, partsAhead, ahead, candidateAt, nextCursor, rest, first, cursorAfter}
+use Rattle.order.specs.Steps.{Rises, CursorWithin, Steps}
+use Rattle.split.proofs.Loops.{resume-in, resume-out}
 use Rattle.order.proofs.Lists.{each-range}
 use Rattle.order.proofs.Sizes.{ahead-leaves, ahead-parts}
 use Rattle.order.proofs.Rest.{step-ahead}
@@ -37,24 +37,24 @@ unfolding cursorAfter
 after-step g at j {next = next} s e =
     let (here, f, n) = step-ahead s in
     let w = drop-first (ahead g (first (g .starts) (g .size))) j (leafCursor 0) here (ahead g next) (sym e ∙ f) in
-    (n ∙ ap (after g) (sym (w .0)), sym (w .1))
+    (n ∙ ap (nextCursor g) (sym (w .0)), sym (w .1))
 
 -- a size's first cursor is within
-pub first-within : (g : Layer) → Rises g → Within g (first (g .starts) (g .size))
+pub first-within : (g : Layer) → Rises g → CursorWithin g (first (g .starts) (g .size))
 first-within g r = record {
   operator-in = omega arith;
   left-in = go (ltb 1 (g .size)) (r (g .size - 1) (omega arith));
   right-in = omega arith;
 }
   where
-    go : (b : Bool) → getD (g .starts) (g .size - 1) 0 ≤ start (g .starts) (g .size) → cond b (getD (g .starts) (g .size - 1) 0) 0 ≤ start (g .starts) (g .size)
+    go : (b : Bool) → getD (g .starts) (g .size - 1) 0 ≤ firstPlace (g .starts) (g .size) → cond b (getD (g .starts) (g .size - 1) 0) 0 ≤ firstPlace (g .starts) (g .size)
     go true h = h
     go false h = omega arith
 
 -- ---- starts that agree up to the size
 
 module _ (s m constants : ℕ) (unary binary x y : List ℕ) (low : 1 ≤ s) (in-x : s < length x) (in-y : s < length y)
-    (same : (u : ℕ) → u ≤ s → start x u ≡ start y u) where
+    (same : (u : ℕ) → u ≤ s → firstPlace x u ≡ firstPlace y u) where
   abbrev g : Layer
   g = layerOf s x m constants unary binary
 
@@ -78,14 +78,14 @@ module _ (s m constants : ℕ) (unary binary x y : List ℕ) (low : 1 ≤ s) (in
 
   ahead-in : (at : Cursor) (i : ℕ) → Ends i → partAhead g at i ≡ partAhead h at i
   ahead-in at i e =
-      let codes = codesOf unary binary i in
+      let codes = splitCodes unary binary i in
       ap (λ (z : ℕ). partFrom codes z (rightStart s x i) (rightEnd s x i) at) (e .left-end)
       ∙ ap (λ (z : ℕ). partFrom codes (leftEnd s y i) z (rightEnd s x i) at) (e .right-start)
       ∙ ap (λ (z : ℕ). partFrom codes (leftEnd s y i) (rightStart s y i) z at) (e .right-end)
 
-  part-same : (i : ℕ) → Ends i → part g i ≡ part h i
+  part-same : (i : ℕ) → Ends i → splitCursors g i ≡ splitCursors h i
   part-same i e =
-      let codes = codesOf unary binary i in
+      let codes = splitCodes unary binary i in
       ap (λ (z : ℕ). each (range z (leftEnd s x i)) (column codes i (rightStart s x i) (rightEnd s x i))) (e .left-start)
       ∙ ap (λ (z : ℕ). each (range (leftStart s y i) z) (column codes i (rightStart s x i) (rightEnd s x i))) (e .left-end)
       ∙ ap (λ (z : ℕ). each (range (leftStart s y i) (leftEnd s y i)) (column codes i z (rightEnd s x i))) (e .right-start)
@@ -94,12 +94,12 @@ module _ (s m constants : ℕ) (unary binary x y : List ℕ) (low : 1 ≤ s) (in
   parts-same : (at : Cursor) → partsAhead g at ≡ partsAhead h at
   unfolding partsAhead
   parts-same at = elim (decLe (suc (at .split)) ((s + 1) / 2)) [
-    | yes l ↦ resume-in (partAhead g at) (part g) (at .split) ((s + 1) / 2) l
+    | yes l ↦ resume-in (partAhead g at) (splitCursors g) (at .split) ((s + 1) / 2) l
         ∙ ap₂ (λ (a b : List Cursor). a ++ b) (ahead-in at (at .split) (ends (at .split) l))
-        (each-range (at .split + 1) ((s + 1) / 2) (part g) (part h) (λ p a b. part-same p (ends p b)))
-        ∙ sym (resume-in (partAhead h at) (part h) (at .split) ((s + 1) / 2) l)
-    | no l ↦ resume-out (partAhead g at) (part g) (at .split) ((s + 1) / 2) (omega arith)
-        ∙ sym (resume-out (partAhead h at) (part h) (at .split) ((s + 1) / 2) (omega arith))
+        (each-range (at .split + 1) ((s + 1) / 2) (splitCursors g) (splitCursors h) (λ p a b. part-same p (ends p b)))
+        ∙ sym (resume-in (partAhead h at) (splitCursors h) (at .split) ((s + 1) / 2) l)
+    | no l ↦ resume-out (partAhead g at) (splitCursors g) (at .split) ((s + 1) / 2) (omega arith)
+        ∙ sym (resume-out (partAhead h at) (splitCursors h) (at .split) ((s + 1) / 2) (omega arith))
   ]
 
   ahead-same : (at : Cursor) → ahead g at ≡ ahead h at
@@ -115,9 +115,9 @@ module _ (s m constants : ℕ) (unary binary x y : List ℕ) (low : 1 ≤ s) (in
   firsts-same = ahead-same (first x s) ∙ ap (ahead h) first-same
 
   pub cursor-same : (j : ℕ) → cursorAfter (layerOf s x m constants unary binary) j ≡ cursorAfter (layerOf s y m constants unary binary) j
-  unfolding cursorAfter after
+  unfolding cursorAfter nextCursor
   cursor-same zero = first-same
-  cursor-same (suc j) = ap (λ (cs : List Cursor). after h (getD cs j (leafCursor 0))) firsts-same
+  cursor-same (suc j) = ap (λ (cs : List Cursor). nextCursor h (getD cs j (leafCursor 0))) firsts-same
 
   -- and what is left at it
   pub left-same : (at : Cursor) (j : ℕ)

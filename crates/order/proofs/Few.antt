@@ -1,21 +1,22 @@
 -- How many candidates can be left, whatever the cursor: so a count of them fits.
 -- Assumes nothing.
-use mathlib.Core.Path.{_≡_, refl, ap, _∙_}
+use mathlib.Core.Path.{_≡_}
 use mathlib.Core.Bool.{Bool, true, false, cond}
-use mathlib.Core.List.{List, [], _∷_, _++_}
-use Prim.Native.Nat.{ℕ, zero, suc, _+_, _-_, _*_, _/_, _≤_, _<_}
+use mathlib.Core.List.{List, [], _∷_}
+use Prim.Native.Nat.{ℕ, zero, suc, _+_, _-_, _*_, _/_, _≤_}
 use native.Mathlib.Omega.{arith}
 use native.Mathlib.Decide.{decLe}
 use native.Mathlib.Nat.{suc-mul, mul-le-mul, add-mul, one-mul}
-use lib.ListN.{length, getD, length-append, length-map}
+use lib.ListN.{length, length-append, length-map}
 use lib.Dec.{eqb, ltb}
 use borrow.Author.Tests.{lt-ltb, le-ltb}
-use Rattle.rules.specs.Lists.{each, count}
-use Rattle.order.specs.declared.Cursor.{Cursor}
-use Rattle.order.specs.Size.{Layer, range, leaves, start}
-use Rattle.order.specs.Ahead.{cursor, resume, twice, codeAt, both, oneRow, column, bothFrom, rowFrom, columnFrom, partFrom}
-use Rattle.order.specs.Ahead.{leftStart, leftEnd, rightStart, rightEnd, leavesAhead, codesIn, part, partAhead, partsAhead, ahead, rest}
-use Rattle.order.proofs.Leaves.{length-count, leaves-few}
+use Rattle.rules.specs.Lists.{each}
+use Rattle.split.specs.declared.Cursor.{Cursor}
+use Rattle.order.specs.Size.{Layer, leafCands, firstPlace}
+use Rattle.split.specs.Split.{range, cursor, resume, twice, codeAt, both, oneRow, column, bothFrom, rowFrom, columnFrom, partFrom}
+use Rattle.order.specs.Ahead.{rightEnd, leavesAhead, codesIn, splitCursors, partAhead, partsAhead, ahead, rest}
+use Rattle.starts.proofs.Numbers.{length-count}
+use Rattle.order.proofs.Leaves.{leaves-few}
 
 -- ---- loops
 
@@ -84,7 +85,7 @@ module _ (codes : List ℕ) (room most : ℕ) (h : length codes ≤ most) where
 
 -- ---- a size
 
-module _ (g : Layer) (room most : ℕ) (some : 1 ≤ room) (kept : (t : ℕ) → start (g .starts) t ≤ room)
+module _ (g : Layer) (room most : ℕ) (some : 1 ≤ room) (kept : (t : ℕ) → firstPlace (g .starts) t ≤ room)
     (unary : length (g .unary) ≤ most) (binary : length (g .binary) ≤ most) where
   few-codes : (i : ℕ) → length (codesIn g i) ≤ most
   few-codes zero = unary
@@ -97,13 +98,13 @@ module _ (g : Layer) (room most : ℕ) (some : 1 ≤ room) (kept : (t : ℕ) →
   few-parts : (at : Cursor) → length (partsAhead g at) ≤ (g .size + 1) / 2 * (room * (room * (most * 2)))
   unfolding partsAhead
   few-parts at =
-      few-resume (partAhead g at) (part g) (room * (room * (most * 2))) ((g .size + 1) / 2) (at .split) ((g .size + 1) / 2)
+      few-resume (partAhead g at) (splitCursors g) (room * (room * (most * 2))) ((g .size + 1) / 2) (at .split) ((g .size + 1) / 2)
       (λ i. few-part-from (codesIn g i) room most (few-codes i) _ _ _ at (kept _) (few-right i))
       (λ i. few-part (codesIn g i) room most (few-codes i) i _ _ _ _ (kept _) (few-right i)) (omega arith)
 
   few-leaves : (at : Cursor) → length (leavesAhead (g .propositions) (g .constants) at) ≤ g .propositions + 2
   unfolding leavesAhead
-  few-leaves at = simp length-map (omega (arith, length-range (at .operator) (length (leaves (g .propositions) (g .constants))), leaves-few (g .propositions) (g .constants)))
+  few-leaves at = simp length-map (omega (arith, length-range (at .operator) (length (leafCands (g .propositions) (g .constants))), leaves-few (g .propositions) (g .constants)))
 
   -- FEW ARE LEFT, whatever the cursor
   pub rest-few : (at : Cursor) → length (rest g at) ≤ (g .propositions + 2) + (g .size + 1) / 2 * (room * (room * (most * 2)))

@@ -1,10 +1,5 @@
-pub mod Loops
-pub mod Splits
-pub mod Takes
-pub mod Marks
 pub mod Leaves
 pub mod Sizes
-pub mod Counting
 pub mod Lists
 pub mod Rest
 pub mod Few

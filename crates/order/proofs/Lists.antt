@@ -1,14 +1,14 @@
 -- Lists of lists: mapped, made of numbers, and read back position by position.
 -- Assumes nothing.
 use mathlib.Core.Path.{_≡_, refl, sym, ap, ap₂, _∙_}
-use mathlib.Core.List.{List, [], _∷_, _++_, map, append-assoc}
+use mathlib.Core.List.{List, [], _∷_, _++_, map}
 use Prim.Native.Nat.{ℕ, zero, suc, _+_, _-_, _≤_, _<_}
 use native.Mathlib.Omega.{arith}
 use lib.ListN.{length, getD, length-map}
 use lib.Seq.{ext-getD}
 use Rattle.rules.specs.Lists.{each, count}
-use Rattle.order.specs.Size.{range}
-use Rattle.order.proofs.Leaves.{length-count, getD-map-count}
+use Rattle.split.specs.Split.{range}
+use Rattle.starts.proofs.Numbers.{length-count, getD-map-count}
 
 pub map-append : {A B : Type 0} (f : A → B) (xs ys : List A) → map f (xs ++ ys) ≡ map f xs ++ map f ys
 map-append f [] ys = refl

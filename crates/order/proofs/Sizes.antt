@@ -11,19 +11,20 @@ use lib.ListN.{length, getD, List·getD-eq-default}
 use denote.Enum.Declared.{tagOf}
 use lib.Dec.{ltb}
 use borrow.Author.Tests.{lt-ltb, le-ltb, eq-eqb, ne-eqb}
-use Rattle.order.proofs.Step.{the-type}
+use Rattle.split.proofs.Step.{the-type}
 use Rattle.rules.specs.Lists.{each}
-use Rattle.order.specs.declared.Cursor.{Cursor}
-use Rattle.order.specs.declared.Part.{Part}
-use Rattle.order.specs.declared.Step.{Step}
-use Rattle.order.specs.declared.Step.the-variants.{End}
-use Rattle.order.specs.Size.{Cand, cand, Layer, range, leaves, start}
-use Rattle.order.specs.Ahead.{cursor, leafCursor, told, twice, codeAt, candIn, halfway, afterIn, leftStart, leftEnd, rightStart, rightEnd}
-use Rattle.order.specs.Ahead.{leavesAhead, leafAt, afterLeaf, codesOf, codesIn, part, partAhead, partsAhead, ahead, candidateAt, after, first}
-use Rattle.order.specs.Steps.{Listed, Rises, Safe, Within, Steps}
-use Rattle.order.specs.Inner.{Takes, LeafIn, InLeaves, InPart, Stands, StandsIn, partOf, partStart, PartsTake}
-use Rattle.order.proofs.Loops.{resume-in, resume-out, resume-done, resume-fresh}
-use Rattle.order.proofs.Splits.{part-fresh}
+use Rattle.split.specs.declared.Cursor.{Cursor}
+use Rattle.split.specs.declared.Part.{Part}
+use Rattle.split.specs.declared.Step.{Step}
+use Rattle.split.specs.declared.Step.the-variants.{End}
+use Rattle.split.specs.Split.{cand, range, cursor, candIn, halfway, afterIn, Takes, InPart, CursorStands}
+use Rattle.order.specs.Size.{Layer, firstPlace}
+use Rattle.order.specs.Ahead.{leafCursor, leftEnd, rightEnd}
+use Rattle.order.specs.Ahead.{leavesAhead, leafAt, afterLeaf, splitCodes, codesIn, splitCursors, partAhead, partsAhead, ahead, candidateAt, nextCursor, first}
+use Rattle.order.specs.Steps.{CodeIn, Rises, Safe, CursorWithin, Steps}
+use Rattle.order.specs.Inner.{LeafAhead, InLeaves, CursorStandsIn, partOf, partStart, PartsTake}
+use Rattle.split.proofs.Loops.{resume-in, resume-out, resume-done, resume-fresh}
+use Rattle.split.proofs.Splits.{part-fresh}
 use Rattle.order.proofs.Leaves.{leaf-safe}
 
 -- ---- the splits
@@ -33,29 +34,29 @@ module _ (g : Layer) where
   half = (g .size + 1) / 2
 
   -- nothing of split i is done
-  part-begins : (i : ℕ) → 1 ≤ i → partAhead g (partStart (g .starts) (g .size) i) i ≡ part g i
+  part-begins : (i : ℕ) → 1 ≤ i → partAhead g (partStart (g .starts) (g .size) i) i ≡ splitCursors g i
   part-begins zero h = absurd (omega arith)
   part-begins (suc i) h = part-fresh (g .binary) (suc i) _ _ _ _
 
-  parts-begin : (i : ℕ) → 1 ≤ i → partsAhead g (partStart (g .starts) (g .size) i) ≡ each (range i half) (part g)
+  parts-begin : (i : ℕ) → 1 ≤ i → partsAhead g (partStart (g .starts) (g .size) i) ≡ each (range i half) (splitCursors g)
   unfolding partsAhead
-  parts-begin i h = resume-fresh (partAhead g (partStart (g .starts) (g .size) i)) (part g) i half (part-begins i h)
+  parts-begin i h = resume-fresh (partAhead g (partStart (g .starts) (g .size) i)) (splitCursors g) i half (part-begins i h)
 
   pub parts-out : (at : Cursor) → half ≤ at .split → partsAhead g at ≡ []
   unfolding partsAhead
-  parts-out at h = resume-out (partAhead g at) (part g) (at .split) half h
+  parts-out at h = resume-out (partAhead g at) (splitCursors g) (at .split) half h
 
   -- the cursor's split is done
   pub parts-done : (at : Cursor) → partAhead g at (at .split) ≡ [] → partsAhead g at ≡ partsAhead g (partStart (g .starts) (g .size) (at .split + 1))
   unfolding partsAhead
-  parts-done at e = resume-done (partAhead g at) (part g) (at .split) half e ∙ sym (parts-begin (at .split + 1) (omega arith))
+  parts-done at e = resume-done (partAhead g at) (splitCursors g) (at .split) half e ∙ sym (parts-begin (at .split + 1) (omega arith))
 
   -- the cursor is in split i
-  parts-in : (at : Cursor) (i : ℕ) → at .split ≡ i → i < half → partsAhead g at ≡ partAhead g at i ++ each (range (i + 1) half) (part g)
+  parts-in : (at : Cursor) (i : ℕ) → at .split ≡ i → i < half → partsAhead g at ≡ partAhead g at i ++ each (range (i + 1) half) (splitCursors g)
   unfolding partsAhead
   parts-in at i e =
-      subst (λ (i : ℕ). i < half → partsAhead g at ≡ partAhead g at i ++ each (range (i + 1) half) (part g)) e
-      (resume-in (partAhead g at) (part g) (at .split) half)
+      subst (λ (i : ℕ). i < half → partsAhead g at ≡ partAhead g at i ++ each (range (i + 1) half) (splitCursors g)) e
+      (resume-in (partAhead g at) (splitCursors g) (at .split) half)
 
 after-split : (codes : List ℕ) (at : Cursor) → afterIn codes at .split ≡ at .split
 unfolding afterIn
@@ -73,7 +74,7 @@ parts-step g at h step e (Takes.ends f d) = absurd (omega (arith, e, ap (tagOf t
 parts-step g at h step e (Takes.takes here f d p) =
     let i = at .split in
     let codes = codesIn g i in
-    let tail = each (range (i + 1) ((g .size + 1) / 2)) (part g) in
+    let tail = each (range (i + 1) ((g .size + 1) / 2)) (splitCursors g) in
     let same : codesIn g (here .split) ≡ codesIn g i = ap (codesIn g) (p .split-is) in
     Takes.takes here
     (rw same (parts-in g at i refl h ∙ ap (λ (cs : List Cursor). cs ++ tail) f
@@ -81,40 +82,40 @@ parts-step g at h step e (Takes.takes here f d p) =
     (rw same d)
     record {
       split-in = omega (arith, p .split-is);
-      stands = subst (λ (j : ℕ). Stands j (codesIn g j) (leftEnd (g .size) (g .starts) j) (rightEnd (g .size) (g .starts) j) here) (sym (p .split-is)) p;
+      stands = subst (λ (j : ℕ). CursorStands j (codesIn g j) (leftEnd (g .size) (g .starts) j) (rightEnd (g .size) (g .starts) j) here) (sym (p .split-is)) p;
     }
 
 -- the places of a split as the program has them
-pub part-first : (starts : List ℕ) (s i : ℕ) → i ≡ 0 → 1 ≤ s → (record { end = start starts s; from = 0; to = 1 }) ≡ partOf starts s i
-part-first starts s zero h k = let e : s ≡ s - 1 + 1 = omega arith in ap (λ (t : ℕ). record { end = start starts t; from = 0; to = 1 }) e
+pub part-first : (starts : List ℕ) (s i : ℕ) → i ≡ 0 → 1 ≤ s → (record { end = firstPlace starts s; from = 0; to = 1 }) ≡ partOf starts s i
+part-first starts s zero h k = let e : s ≡ s - 1 + 1 = omega arith in ap (λ (t : ℕ). record { end = firstPlace starts t; from = 0; to = 1 }) e
 part-first starts s (suc i) h k = absurd (omega arith)
 
 pub part-later : (starts : List ℕ) (s i : ℕ) → 1 ≤ i → i < s
-    → (record { end = start starts (i + 1); from = start starts (s - 1 - i); to = start starts (s - i) }) ≡ partOf starts s i
+    → (record { end = firstPlace starts (i + 1); from = firstPlace starts (s - 1 - i); to = firstPlace starts (s - i) }) ≡ partOf starts s i
 part-later starts s zero h k = absurd (omega arith)
 part-later starts s (suc i) h k = let e : s - suc i ≡ s - 1 - suc i + 1 = omega arith in rw e
 
 pub in-later : (unary binary : List ℕ) (places : Part) (at : Cursor) (step : Step) → (at .split ≡ 0 → ⊥) → InPart binary places at step
-    → InPart (codesOf unary binary (at .split)) places at step
+    → InPart (splitCodes unary binary (at .split)) places at step
 in-later unary binary places at step h w = subst (λ (codes : List ℕ). InPart codes places at step) (go (at .split) h) w
   where
-    go : (i : ℕ) → (i ≡ 0 → ⊥) → binary ≡ codesOf unary binary i
+    go : (i : ℕ) → (i ≡ 0 → ⊥) → binary ≡ splitCodes unary binary i
     go zero h = absurd (h refl)
     go (suc i) h = refl
 
 -- ---- what holds of every candidate
 
 module _ (g : Layer) (here : Cursor) (rises : Rises g) where
-  one-safe : (code l q : ℕ) (second : Bool) → Listed (g .binary) code → l < start (g .starts) (g .size) → q < start (g .starts) (g .size)
+  one-safe : (code l q : ℕ) (second : Bool) → CodeIn (g .binary) code → l < firstPlace (g .starts) (g .size) → q < firstPlace (g .starts) (g .size)
       → Safe g (cand code (cond second q l) (cond second l q))
   one-safe code l q true w h k = Safe.binary w k h
   one-safe code l q false w h k = Safe.binary w h k
 
   part-safe : (i : ℕ) → 2 ≤ g .size → i < (g .size + 1) / 2
-      → Stands i (codesIn g i) (leftEnd (g .size) (g .starts) i) (rightEnd (g .size) (g .starts) i) here → Safe g (candIn (codesIn g i) here)
+      → CursorStands i (codesIn g i) (leftEnd (g .size) (g .starts) i) (rightEnd (g .size) (g .starts) i) here → Safe g (candIn (codesIn g i) here)
   part-safe zero h k p =
       let e : g .size - 1 + 1 ≡ g .size = omega arith in
-      let l : here .left < start (g .starts) (g .size) = rw e at (p .left-in) in
+      let l : here .left < firstPlace (g .starts) (g .size) = rw e at (p .left-in) in
       rw (p .once refl) (Safe.unary (record { position = here .operator; within = p .operator-in; is = refl }) l (omega (arith, p .right-in)))
   part-safe (suc i) h k p =
       let l = rises (suc i + 1) (omega arith) in
@@ -142,36 +143,36 @@ module _ (g : Layer) where
   unfolding candidateAt
   leaf-candidate e here = rw (eq-eqb (g .size) 1 e)
 
-  leaf-after : g .size ≡ 1 → (here : Cursor) → after g here ≡ afterLeaf here
-  unfolding after
+  leaf-after : g .size ≡ 1 → (here : Cursor) → nextCursor g here ≡ afterLeaf here
+  unfolding nextCursor
   leaf-after e here = rw (eq-eqb (g .size) 1 e)
 
   pub part-candidate : (g .size ≡ 1 → ⊥) → (here : Cursor) → candidateAt g here ≡ candIn (codesIn g (here .split)) here
   unfolding candidateAt
   part-candidate e here = rw (ne-eqb (g .size) 1 e)
 
-  part-after : (g .size ≡ 1 → ⊥) → (here : Cursor) → after g here ≡ afterIn (codesIn g (here .split)) here
-  unfolding after
+  part-after : (g .size ≡ 1 → ⊥) → (here : Cursor) → nextCursor g here ≡ afterIn (codesIn g (here .split)) here
+  unfolding nextCursor
   part-after e here = rw (ne-eqb (g .size) 1 e)
 
   -- the cursor after one is within
-  leaf-within : g .size ≡ 1 → (here : Cursor) → LeafIn (g .propositions) (g .constants) here → Within g (afterLeaf here)
+  leaf-within : g .size ≡ 1 → (here : Cursor) → LeafAhead (g .propositions) (g .constants) here → CursorWithin g (afterLeaf here)
   leaf-within e here p = record { operator-in = rw (eq-eqb (g .size) 1 e) (omega (arith, p .operator-in)); left-in = omega arith; right-in = omega arith }
 
-  left-below : Rises g → 2 ≤ g .size → (i : ℕ) → i < (g .size + 1) / 2 → leftEnd (g .size) (g .starts) i ≤ start (g .starts) (g .size)
+  left-below : Rises g → 2 ≤ g .size → (i : ℕ) → i < (g .size + 1) / 2 → leftEnd (g .size) (g .starts) i ≤ firstPlace (g .starts) (g .size)
   left-below r k zero h = r (g .size - 1 + 1) (omega arith)
   left-below r k (suc i) h = r (suc i + 1) (omega arith)
 
-  right-below : Rises g → 2 ≤ g .size → (i p : ℕ) → i < (g .size + 1) / 2 → p < rightEnd (g .size) (g .starts) i → p ≤ start (g .starts) (g .size)
+  right-below : Rises g → 2 ≤ g .size → (i p : ℕ) → i < (g .size + 1) / 2 → p < rightEnd (g .size) (g .starts) i → p ≤ firstPlace (g .starts) (g .size)
   right-below r k zero p h l = omega arith
   right-below r k (suc i) p h l = let w = r (g .size - 1 - suc i + 1) (omega arith) in omega (arith, w, l)
 
-  part-within : Rises g → 2 ≤ g .size → (here : Cursor) → StandsIn g here → Within g (afterIn (codesIn g (here .split)) here)
+  part-within : Rises g → 2 ≤ g .size → (here : Cursor) → CursorStandsIn g here → CursorWithin g (afterIn (codesIn g (here .split)) here)
   unfolding afterIn
   part-within r k here p = go (halfway (codesIn g (here .split)) here)
     where
       go : (b : Bool)
-          → Within g (cond b (cursor (here .split) (here .left) (here .right) (here .operator) true) (cursor (here .split) (here .left) (here .right) (here .operator + 1) false))
+          → CursorWithin g (cond b (cursor (here .split) (here .left) (here .right) (here .operator) true) (cursor (here .split) (here .left) (here .right) (here .operator + 1) false))
       go true = record {
         operator-in = rw (ne-eqb (g .size) 1 (λ e. omega arith)) (omega (arith, p .stands .operator-in));
         left-in = omega (arith, p .stands .left-in, left-below r k (here .split) (p .split-in));

@@ -1,85 +1,22 @@
 -- The cursors at which a size's candidates stand, in the order of document 01, from any cursor on; and the candidate at each.
--- Every loop that a cursor stands in is a `resume`: what is left of its first turn, and the other turns whole.
 -- Assumes nothing.
-use mathlib.Core.Bool.{Bool, true, false, cond, not}
-use mathlib.Core.List.{List, [], _∷_, _++_, map}
+use mathlib.Core.Bool.{false, cond}
+use mathlib.Core.List.{List, [], map}
 use Prim.Native.Nat.{ℕ, zero, suc, _+_, _-_, _/_}
 use lib.ListN.{length, getD}
 use lib.Dec.{eqb, ltb}
 use Rattle.rules.specs.Lists.{each}
-use Rattle.order.specs.declared.Cursor.{Cursor}
-use Rattle.order.specs.declared.Step.{Step}
-use Rattle.order.specs.declared.Step.the-variants.{Candidate}
-use Rattle.order.specs.Size.{Cand, cand, Layer, range, commuting, leaves, start}
-
-abbrev pub cursor : ℕ → ℕ → ℕ → ℕ → Bool → Cursor
-cursor i l q o second = record { split = i; left = l; right = q; operator = o; second = second }
+use Rattle.split.specs.declared.Cursor.{Cursor}
+use Rattle.split.specs.Split.{cursor, resume, column, partFrom, candIn, afterIn, Cand, cand, range}
+use Rattle.order.specs.Size.{Layer, leafCands, firstPlace}
 
 abbrev pub leafCursor : ℕ → Cursor
 leafCursor o = cursor 0 0 0 o false
 
--- a step that tells a candidate and the cursor after it
-abbrev pub told : Cand → Cursor → Step
-told c next = Candidate (c .code) (record { 0 = c .left }) (record { 0 = c .right }) next
-
--- a loop over the numbers from a to before b, of whose first turn g is left: g of a, and f of each of the others
-unfoldable pub resume : {A : Type 0} → (ℕ → List A) → (ℕ → List A) → ℕ → ℕ → List A
-resume g f a b = cond (ltb a b) (g a ++ each (range (a + 1) b) f) []
-
--- an operator over a pair of places comes twice where it doesn't commute; split 0 has the unary ones, which come once
-abbrev pub twice : ℕ → ℕ → Bool
-twice zero c = false
-twice (suc i) c = not (commuting c)
-
--- ---- a split i, over the operators with these codes
-
-module _ (codes : List ℕ) where
-  abbrev pub codeAt : ℕ → ℕ
-  codeAt o = getD codes o 0
-
-  -- the operator at position o over places l and q: "op(l, q), and if it doesn't commute, op(q, l)"
-  unfoldable pub both : ℕ → ℕ → ℕ → ℕ → List Cursor
-  both i l q o = cond (twice i (codeAt o)) (cursor i l q o false ∷ (cursor i l q o true ∷ [])) (cursor i l q o false ∷ [])
-
-  -- "for each .. operator in the given order"
-  abbrev pub oneRow : ℕ → ℕ → ℕ → List Cursor
-  oneRow i l q = each (range 0 (length codes)) (both i l q)
-
-  -- "for each kept q"
-  abbrev pub column : ℕ → ℕ → ℕ → ℕ → List Cursor
-  column i from to l = each (range from to) (oneRow i l)
-
-  -- what is left of each from a cursor on; a mark of a second order where there is none is not looked at
-  unfoldable pub bothFrom : Cursor → ℕ → ℕ → ℕ → List Cursor
-  bothFrom at l q o =
-      let i = at .split in
-      cond (twice i (codeAt o)) (cond (at .second) (cursor i l q o true ∷ []) (both i l q o)) (cursor i l q o false ∷ [])
-
-  abbrev pub rowFrom : Cursor → ℕ → ℕ → List Cursor
-  rowFrom at l q = resume (bothFrom at l q) (both (at .split) l q) (at .operator) (length codes)
-
-  abbrev pub columnFrom : ℕ → Cursor → ℕ → List Cursor
-  columnFrom to at l = resume (rowFrom at l) (oneRow (at .split) l) (at .right) to
-
-  -- "each kept l"
-  unfoldable pub partFrom : ℕ → ℕ → ℕ → Cursor → List Cursor
-  partFrom end from to at = resume (columnFrom to at) (column (at .split) from to) (at .left) end
-
-  -- the candidate at a cursor, and the cursor after it
-  abbrev pub candIn : Cursor → Cand
-  candIn at = cand (codeAt (at .operator)) (cond (at .second) (at .right) (at .left)) (cond (at .second) (at .left) (at .right))
-
-  abbrev pub halfway : Cursor → Bool
-  halfway at = cond (at .second) false (twice (at .split) (codeAt (at .operator)))
-
-  unfoldable pub afterIn : Cursor → Cursor
-  afterIn at =
-      cond (halfway at) (cursor (at .split) (at .left) (at .right) (at .operator) true) (cursor (at .split) (at .left) (at .right) (at .operator + 1) false)
-
 -- split 0 has the unary operators, the others the binary ones
-abbrev pub codesOf : List ℕ → List ℕ → ℕ → List ℕ
-codesOf unary binary zero = unary
-codesOf unary binary (suc i) = binary
+abbrev pub splitCodes : List ℕ → List ℕ → ℕ → List ℕ
+splitCodes unary binary zero = unary
+splitCodes unary binary (suc i) = binary
 
 -- the places of each split: in split 0 the left ones are of size s-1, and the right field is 0; in split i they are of sizes i and s-1-i
 module _ (s : ℕ) (starts : List ℕ) where
@@ -88,35 +25,35 @@ module _ (s : ℕ) (starts : List ℕ) where
   leftSize (suc i) = suc i
 
   abbrev pub leftStart : ℕ → ℕ
-  leftStart i = start starts (leftSize i)
+  leftStart i = firstPlace starts (leftSize i)
 
   abbrev pub leftEnd : ℕ → ℕ
-  leftEnd i = start starts (leftSize i + 1)
+  leftEnd i = firstPlace starts (leftSize i + 1)
 
   abbrev pub rightStart : ℕ → ℕ
   rightStart zero = 0
-  rightStart (suc i) = start starts (s - 1 - suc i)
+  rightStart (suc i) = firstPlace starts (s - 1 - suc i)
 
   abbrev pub rightEnd : ℕ → ℕ
   rightEnd zero = 1
-  rightEnd (suc i) = start starts (s - 1 - suc i + 1)
+  rightEnd (suc i) = firstPlace starts (s - 1 - suc i + 1)
 
 -- of the leaves: at size 1 the position in their list stands in the operator's field
 unfoldable pub leavesAhead : ℕ → ℕ → Cursor → List Cursor
-leavesAhead m constants at = map leafCursor (range (at .operator) (length (leaves m constants)))
+leavesAhead m constants at = map leafCursor (range (at .operator) (length (leafCands m constants)))
 
 abbrev pub leafAt : ℕ → ℕ → Cursor → Cand
-leafAt m constants at = getD (leaves m constants) (at .operator) (cand 0 0 0)
+leafAt m constants at = getD (leafCands m constants) (at .operator) (cand 0 0 0)
 
 abbrev pub afterLeaf : Cursor → Cursor
 afterLeaf at = leafCursor (at .operator + 1)
 
 module _ (g : Layer) where
   abbrev pub codesIn : ℕ → List ℕ
-  codesIn i = codesOf (g .unary) (g .binary) i
+  codesIn i = splitCodes (g .unary) (g .binary) i
 
-  abbrev pub part : ℕ → List Cursor
-  part i =
+  abbrev pub splitCursors : ℕ → List Cursor
+  splitCursors i =
       each (range (leftStart (g .size) (g .starts) i) (leftEnd (g .size) (g .starts) i))
       (column (codesIn i) i (rightStart (g .size) (g .starts) i) (rightEnd (g .size) (g .starts) i))
 
@@ -125,7 +62,7 @@ module _ (g : Layer) where
 
   -- split 0 is "first every kept formula of size s-1 .., and for each the unary operators"; "Then i from 1 while i < ceil(s/2)"
   unfoldable pub partsAhead : Cursor → List Cursor
-  partsAhead at = resume (partAhead at) part (at .split) ((g .size + 1) / 2)
+  partsAhead at = resume (partAhead at) splitCursors (at .split) ((g .size + 1) / 2)
 
   -- THE CURSORS AHEAD, from any cursor on; none where `starts` does not reach the size
   unfoldable pub ahead : Cursor → List Cursor
@@ -135,8 +72,8 @@ module _ (g : Layer) where
   unfoldable pub candidateAt : Cursor → Cand
   candidateAt at = cond (eqb (g .size) 1) (leafAt (g .propositions) (g .constants) at) (candIn (codesIn (at .split)) at)
 
-  unfoldable pub after : Cursor → Cursor
-  after at = cond (eqb (g .size) 1) (afterLeaf at) (afterIn (codesIn (at .split)) at)
+  unfoldable pub nextCursor : Cursor → Cursor
+  nextCursor at = cond (eqb (g .size) 1) (afterLeaf at) (afterIn (codesIn (at .split)) at)
 
   -- THE CANDIDATES LEFT; those left at the first cursor are the size's (`rest-first`, in proofs/)
   unfoldable pub rest : Cursor → List Cand
@@ -149,4 +86,4 @@ first starts s = cursor 0 (cond (ltb 1 s) (getD starts (s - 1) 0) 0) 0 0 false
 -- the cursor after j candidates of the size: its first one, or the cursor after the last of those j
 unfoldable pub cursorAfter : Layer → ℕ → Cursor
 cursorAfter g zero = first (g .starts) (g .size)
-cursorAfter g (suc j) = after g (getD (ahead g (first (g .starts) (g .size))) j (leafCursor 0))
+cursorAfter g (suc j) = nextCursor g (getD (ahead g (first (g .starts) (g .size))) j (leafCursor 0))

@@ -1,6 +1,5 @@
--- What a reader must believe of the order of candidates: Size, Ahead, Steps and Starts. `Inner` is only for private functions: no public contract cites it.
+-- What a reader must believe of the order of candidates: Size, Ahead and Steps. `Inner` is only for private functions: no public contract cites it.
 pub mod Size
 pub mod Ahead
 pub mod Steps
-pub mod Starts
 pub mod Inner

@@ -1,48 +1,20 @@
 // The candidates of a size in document 01's order, one at a time, by a cursor that knows no matrix (the loops of aux.rs and cache.rs).
-pub mod starts;
-
 use formula::kinds::FALSE;
 use formula::kinds::PROPOSITION;
 use formula::kinds::TRUE;
-use operators::operator_of;
 use rules::kinds::Place;
 use rules::kinds::Proposition;
+use split::Cursor;
+use split::Part;
+use split::Step;
 ghost use mathlib.Core.Path.{_≡_};
-ghost use mathlib.Core.List.{[]};
-ghost use Prim.Native.Nat.{_^_, _≤_, _<_};
+ghost use Prim.Native.Nat.{_≤_, _<_};
 ghost use lib.ListN.{length};
+ghost use Rattle.split.specs.Split.{InPart};
 ghost use Rattle.order.specs.Size.{layerOf};
-ghost use Rattle.order.specs.Ahead.{told, twice, leafCursor, candIn, afterIn, columnFrom, codesOf, first};
+ghost use Rattle.order.specs.Ahead.{leafCursor, splitCodes, first};
 ghost use Rattle.order.specs.Steps.{Steps};
-ghost use Rattle.order.specs.Inner.{stand, InLeaves, InPart, partOf, partStart, InParts};
-
-// Where a size goes on: the split (0 before the pairs), the left and the right place, the operator's position in its list, and whether its first
-// order is done. At size 1 the position in the list of leaves stands in `operator`, and the other numbers are 0.
-pub struct Cursor {
-    pub split: usize,
-    pub left: usize,
-    pub right: usize,
-    pub operator: usize,
-    pub second: bool,
-}
-
-// The candidate at a cursor and the cursor after it; or the size has none left.
-pub enum Step {
-    Candidate {
-        code: u8,
-        left: Place,
-        right: Place,
-        next: Cursor,
-    },
-    End,
-}
-
-// The places of a split: the left ones end before `end`, the right ones go from `from` to before `to`.
-struct Part {
-    end: u16,
-    from: u16,
-    to: u16,
-}
+ghost use Rattle.order.specs.Inner.{InLeaves, partOf, partStart, InParts};
 
 fn leaf_cursor(o: usize) -> Cursor
     ensures { λ r. ⌜ r ≡ leafCursor o ⌝ }
@@ -93,120 +65,6 @@ fn leaf_step(at: Cursor, propositions: u8, constants: u8) -> Step
     Step::End
 }
 
-// Whether an operator comes in two orders: a binary one that doesn't commute. Split 0 has the unary ones.
-fn twice(split: usize, code: u8) -> bool
-    ensures { λ r. ⌜ r ≡ twice split code ⌝ }
-{
-    if split == 0 {
-        return false;
-    }
-    !operator_of(code).commutes
-}
-
-// The candidate at a cursor whose numbers are in range: op(l, q), and after it op(q, l) where there are two orders.
-fn over(at: Cursor, codes: &[u8]) -> Step
-    requires { ⌜ (at .operator < length (now codes)) × (at .left < 2 ^ 16) × (at .right < 2 ^ 16) ⌝ }
-    ensures { λ step. ⌜ step ≡ told (candIn (now (codes .entry)) (stand (now (codes .entry)) at)) (afterIn (now (codes .entry)) (stand (now (codes .entry)) at)) ⌝ }
-{
-    let o = at.operator;
-    let code = codes[o];
-    let l = Place(at.left as u16);
-    let q = Place(at.right as u16);
-    let halfway = Cursor {
-        split: at.split,
-        left: at.left,
-        right: at.right,
-        operator: o,
-        second: true,
-    };
-    let after = Cursor {
-        split: at.split,
-        left: at.left,
-        right: at.right,
-        operator: o + 1,
-        second: false,
-    };
-    if !twice(at.split, code) {
-        return Step::Candidate {
-            code,
-            left: l,
-            right: q,
-            next: after,
-        };
-    }
-    if at.second {
-        return Step::Candidate {
-            code,
-            left: q,
-            right: l,
-            next: after,
-        };
-    }
-    Step::Candidate {
-        code,
-        left: l,
-        right: q,
-        next: halfway,
-    }
-}
-
-// A split where the cursor's left place has none left: the next left place.
-fn next_left(at: Cursor, part: Part, codes: &[u8]) -> Step
-    requires { ⌜ (at .left < part .end) × (0 < length (now codes)) × (columnFrom (now codes) (part .to) at (at .left) ≡ []) ⌝ }
-    ensures { λ step. ⌜ InPart (now (codes .entry)) part at step ⌝ }
-{
-    let l = at.left + 1;
-    if (part.end as usize) <= l {
-        return Step::End;
-    }
-    if part.to <= part.from {
-        return Step::End;
-    }
-    over(
-        Cursor {
-            split: at.split,
-            left: l,
-            right: part.from as usize,
-            operator: 0,
-            second: false,
-        },
-        codes,
-    )
-}
-
-// A split: its left places, under each its right ones, over each pair the operators.
-fn part_step(at: Cursor, part: Part, codes: &[u8]) -> Step
-    ensures { λ step. ⌜ InPart (now (codes .entry)) part at step ⌝ }
-{
-    let q = at.right;
-    let to = part.to as usize;
-    if (part.end as usize) <= at.left {
-        return Step::End;
-    }
-    if codes.len() == 0 {
-        return Step::End;
-    }
-    if to <= q {
-        return next_left(at, part, codes);
-    }
-    if at.operator < codes.len() {
-        return over(at, codes);
-    }
-    if to <= q + 1 {
-        return next_left(at, part, codes);
-    }
-    over(
-        Cursor {
-            split: at.split,
-            left: at.left,
-            right: q + 1,
-            operator: 0,
-            second: false,
-        },
-        codes,
-    )
-}
-
 // The places of split i of size s. Split 0 has the unary operators: places of size s-1 to the left, and to the right the one number 0.
 fn part_of(starts: &[u16], s: usize, i: usize) -> Part
     requires { ⌜ (i < s) × (s < length (now starts)) ⌝ }
@@ -242,12 +100,12 @@ fn part_start(starts: &[u16], s: usize, i: usize) -> Cursor
 
 // The cursor's split.
 fn split_step(at: Cursor, part: Part, unary: &[u8], binary: &[u8]) -> Step
-    ensures { λ step. ⌜ InPart (codesOf (now (unary .entry)) (now (binary .entry)) (at .split)) part at step ⌝ }
+    ensures { λ step. ⌜ InPart (splitCodes (now (unary .entry)) (now (binary .entry)) (at .split)) part at step ⌝ }
 {
     if at.split == 0 {
-        return part_step(at, part, unary);
+        return split::part_step(at, part, unary);
     }
-    part_step(at, part, binary)
+    split::part_step(at, part, binary)
 }
 
 // The splits of size s: the unary operators, then i from 1 while i < ceil(s/2).

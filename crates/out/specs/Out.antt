@@ -25,20 +25,20 @@ abbrev pub longShort : List ℕ → Row
 longShort out = record { number = 3; given = length out < longWords }
 
 -- a word of `out` that an answer names
-pub record Named : Type 0 where
+pub record OutWord : Type 0 where
   pub at : ℕ
   pub value : ℕ
 
-abbrev pub wordFrom : ℕ → ℕ → Named
+abbrev pub wordFrom : ℕ → ℕ → OutWord
 wordFrom at value = record { at = at; value = value }
 
 -- "Words of `out` that the lines below don't name for the case at hand stay as they were"
-abbrev pub written : List Named → List ℕ → List ℕ
+abbrev pub written : List OutWord → List ℕ → List ℕ
 written [] out = out
 written (w ∷ ws) out = written ws (set out (w .at) (w .value))
 
 -- values in the order of their words
-abbrev pub inOrder : ℕ → List ℕ → List Named
+abbrev pub inOrder : ℕ → List ℕ → List OutWord
 inOrder at [] = []
 inOrder at (v ∷ vs) = wordFrom at v ∷ inOrder (suc at) vs
 
@@ -59,9 +59,9 @@ abbrev pub returnedOf : Said → ℕ
 returnedOf s = numberWith (s .number) (s .values)
 
 -- the values of an answer from the first word on; "a refusal writes nothing"
-abbrev pub wordsWith : ℕ → List ℕ → List Named
+abbrev pub wordsWith : ℕ → List ℕ → List OutWord
 wordsWith k [] = []
 wordsWith k (v ∷ vs) = cond (eqb k 0) (inOrder 0 (v ∷ vs)) []
 
-abbrev pub saidWords : Said → List Named
+abbrev pub saidWords : Said → List OutWord
 saidWords s = wordsWith (s .number) (s .values)

@@ -12,5 +12,5 @@ abbrev pub noAnswer : Row
 noAnswer = record { number = 3; given = Unit {0} }
 
 -- number 8's offset is small
-abbrev pub Fits : Said → Type 0
-Fits s = (o : ℕ) → s ≡ broken o → brokenAt o < 2 ^ 32
+abbrev pub OffsetFits : Said → Type 0
+OffsetFits s = (o : ℕ) → s ≡ broken o → brokenAt o < 2 ^ 32

@@ -3,7 +3,7 @@ ghost use mathlib.Core.Path.{_≡_};
 ghost use Rattle.out.specs.Out.{refusedAt};
 
 // The words that `out` has to have; at the search more.
-pub const WORDS: usize = 8;
+pub const OUT_WORDS: usize = 8;
 
 pub const LONG_WORDS: usize = 16;
 

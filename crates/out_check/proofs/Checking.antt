@@ -16,14 +16,14 @@ use Rattle.verdict.specs.Check as core
 use Rattle.verdict.specs.Check.{saidVerdict, CheckAnswer}
 use Rattle.session.specs.Recording.{Recording, recording}
 use Rattle.out.specs.Out.{outWords, written, returnedOf, saidWords}
-use Rattle.out_check.specs.Check.{checkRows, CheckDone}
+use Rattle.out_check.specs.Check.{outCheckRows, CheckDone}
 use Rattle.out_check.specs.Inner.{CheckUnanswered}
 
 -- ---- `out` is too short
 
 module _ (r m : ℕ) where
   -- r is at least 1 where 1 is not given, so that no marks are too few
-  pub unanswered : (k : ℕ) → Decided (dataRows r m [] [] []) k → CheckUnanswered r m k
+  pub unanswered : (k : ℕ) → Decided (dataRows (recording r m [] [] [])) k → CheckUnanswered r m k
   unfolding Decided
   unanswered k (inl p) = inl p
   unanswered k (inr (p, inl s)) = inr (p, inl (tt, s .1))
@@ -33,7 +33,7 @@ module _ (r m : ℕ) where
     abbrev i : Recording
     i = recording r m marks lengths words
 
-    refused-rows : length old < outWords → (k : ℕ) → CheckUnanswered r m k → Decided (checkRows i l root old) k
+    refused-rows : length old < outWords → (k : ℕ) → CheckUnanswered r m k → Decided (outCheckRows i l root old) k
     unfolding Decided
     refused-rows h k (inl p) = inl p
     refused-rows h k (inr (p, inl s)) = inr (p, inl (h, s .1))
@@ -51,7 +51,7 @@ module _ (r m : ℕ) where
 -- ---- `out` is long enough
 
 module _ (i : Recording) (l : List Node) (root : Node) (old : List ℕ) (h : outWords ≤ length old) where
-  answered-rows : (k : ℕ) → Decided (core.checkRows i l root) k → Decided (checkRows i l root old) k
+  answered-rows : (k : ℕ) → Decided (core.checkRows i l root) k → Decided (outCheckRows i l root old) k
   unfolding Decided
   answered-rows k (inl p) = inl p
   answered-rows k (inr (p, d)) = inr (p, inr (λ g. omega arith, d))

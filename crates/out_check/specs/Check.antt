@@ -12,11 +12,11 @@ use Rattle.out.specs.Out.{outShort, written, saidWords}
 
 module _ (i : Recording) (k : List Node) (root : Node) (old : List ℕ) where
   -- the check's rows, with that of `out` "at the place that 3 has"
-  abbrev pub checkRows : List Row
-  checkRows = checkRowsWith (outShort old ∷ []) i k root
+  abbrev pub outCheckRows : List Row
+  outCheckRows = checkRowsWith (outShort old ∷ []) i k root
 
   -- the rows decide; "a refusal writes nothing"; else "out = 1 (separates) | 0, first session that disagrees", by the check's verdict
   pub record CheckDone (returned : ℕ) (new : List ℕ) : Type 0 where
-    pub number : Decided checkRows returned
+    pub number : Decided outCheckRows returned
     pub refused : (returned ≡ 0 → ⊥) → new ≡ old
     pub passed : returned ≡ 0 → (v : Verdict) × CheckAnswer i k root (saidVerdict v) × (new ≡ written (saidWords (saidVerdict v)) old)

@@ -37,7 +37,7 @@ pub fn check(
         k
         (now (out .exit)) ⌝ }
 {
-    if out.len() < out::WORDS {
+    if out.len() < out::OUT_WORDS {
         return unanswered(r, m);
     }
     let root = Node {

@@ -12,12 +12,12 @@ use Rattle.rules.specs.Limits.{mostSessions, Outside}
 use Rattle.rules.specs.Refusals.{Decided}
 use Rattle.rules.proofs.Refusals.{decided-unique}
 use Rattle.rules.specs.Answers.{Said}
-use Rattle.table.specs.declared.Compared.{Compared}
-use Rattle.table.specs.declared.Compared.the-variants.{Equal, Differs, Refused}
-use Rattle.table.specs.Compare.{Same, equalSaid, differsSaid, saidCompared, compareRowsWith, CompareOutcome, Compares}
-use Rattle.table.proofs.Unique.{equal-one, differs-one, not-none, outcome-unique}
+use Rattle.comparison.specs.declared.Compared.{Compared}
+use Rattle.comparison.specs.declared.Compared.the-variants.{Equal, Differs, Refused}
+use Rattle.comparison.specs.Compare.{Same, equalSaid, differsSaid, saidCompared, compareRowsWith, Compares}
+use Rattle.comparison.proofs.Unique.{equal-one, differs-one, not-none, outcome-unique}
 use Rattle.rows.proofs.Parts.{part-at, part-long}
-use Rattle.rows.proofs.Products.{next-row}
+use Rattle.leaves.proofs.Products.{next-row}
 use Rattle.out.specs.Out.{outWords, written, saidWords}
 use Rattle.out_compare.specs.Compare.{compareRows, CompareDone}
 use Rattle.out_compare.specs.Inner.{lengthRows, ComparePut}

@@ -5,7 +5,7 @@ use mathlib.Core.List.{List, [], _∷_}
 use Prim.Native.Nat.{ℕ}
 use Rattle.rules.specs.Refusals.{Row, Decided}
 use Rattle.rules.specs.Answers.{Said}
-use Rattle.table.specs.Compare.{compareRowsWith, CompareOutcome}
+use Rattle.comparison.specs.Compare.{compareRowsWith, CompareOutcome}
 use Rattle.out.specs.Out.{outShort, written, saidWords}
 
 module _ (r place : ℕ) (matrices words old : List ℕ) where

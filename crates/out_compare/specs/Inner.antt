@@ -6,9 +6,9 @@ use mathlib.Core.List.{List, [], _∷_}
 use Prim.Native.Nat.{ℕ, _+_, _*_, _<_}
 use Rattle.rules.specs.Limits.{mostSessions, Outside}
 use Rattle.rules.specs.Refusals.{Row}
-use Rattle.table.specs.declared.Compared.{Compared}
-use Rattle.table.specs.declared.Compared.the-variants.{Equal, Differs, Refused}
-use Rattle.table.specs.Compare.{equalSaid, differsSaid}
+use Rattle.comparison.specs.declared.Compared.{Compared}
+use Rattle.comparison.specs.declared.Compared.the-variants.{Equal, Differs, Refused}
+use Rattle.comparison.specs.Compare.{equalSaid, differsSaid}
 use Rattle.out.specs.Out.{outWords, written, saidWords}
 
 -- the rows by the lengths of the slices

@@ -1,6 +1,6 @@
 // The comparison of matrices at the C boundary: what is refused, and the words of `out` that the answer names.
+use comparison::Compared;
 use rules::kinds::Place;
-use table::Compared;
 ghost use Prim.Native.Nat.{_≤_};
 ghost use lib.ListN.{length};
 ghost use Rattle.rules.specs.Refusals.{Decided};
@@ -17,7 +17,7 @@ pub fn compare(r: usize, place: usize, matrices: &[u64], words: &[u64], out: &mu
         return refused;
     }
     let from = place * r;
-    let answer = table::compare(r, Place(0), &matrices[from..], words);
+    let answer = comparison::compare(r, Place(0), &matrices[from..], words);
     put(answer, place, out)
 }
 
@@ -31,7 +31,7 @@ fn refusal(r: usize, place: usize, matrices: usize, words: usize, out: usize) ->
     if rules::SESSIONS < r {
         return 1;
     }
-    if out < out::WORDS {
+    if out < out::OUT_WORDS {
         return 3;
     }
     if words < r {

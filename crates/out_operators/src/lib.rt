@@ -38,7 +38,7 @@ fn put(answer: Answer, out: &mut [u64]) -> u64
 {
     match answer {
         Answer::Sequence(sequence) => {
-            if out.len() < out::WORDS {
+            if out.len() < out::OUT_WORDS {
                 return 3;
             }
             out[0] = sequence.values;

@@ -13,16 +13,16 @@ use Rattle.file.proofs.Offsets.{names-offset-small}
 use Rattle.formula.specs.Formula.{size}
 use Rattle.formula.proofs.Trees.{size-pos}
 use Rattle.grammar.specs.Token.{Typed}
-use Rattle.grammar.specs.Grammar.{Reads, Refused11}
-use Rattle.grammar.proofs.Theorems.{decided}
-use Rattle.reader.specs.Words.{mostBytes, FirstUnknown}
+use Rattle.grammar.specs.Grammar.{Reads}
+use Rattle.grammar.proofs.Theorems.{formula-or-offset}
 use Rattle.reader.specs.declared.Parsed.{Parsed}
 use Rattle.reader.specs.declared.Parsed.the-variants.{Nodes, Broken, Stops, Unknown, Refused}
 use Rattle.reader.specs.Parsing.{Decides, Columns, columns, noFormula, saidParsed, Taken, Parses}
 use Rattle.reader.specs.Parsing as reader
 use Rattle.reader.proofs.Unique.{parse-unique}
+use Rattle.reader.proofs.Offsets.{within-11, within-13, at-most}
 use Rattle.out.specs.Out.{outWords, numberWith, written, returnedOf, saidWords}
-use Rattle.out_parse.specs.Parse.{parseRows, ParseDone}
+use Rattle.out_parse.specs.Parse.{outParseRows, ParseDone}
 
 -- no room at all
 abbrev none : Columns
@@ -33,22 +33,13 @@ none = columns [] [] [] []
 returned-with : (s : Said) (n : ℕ) (values : List ℕ) → s .number ≡ n → s .values ≡ values → returnedOf s ≡ numberWith n values
 returned-with s n values e f = ap₂ numberWith e f
 
-within-11 : {text : List ℕ} {k : ℕ} → Refused11 text k → k ≤ length text
-within-11 r = ⊎-elim (λ h. omega (arith, h .0)) (λ h. omega (arith, h .0)) (r .here)
-
-within-13 : {names : List (List ℕ)} {text : List ℕ} {k : ℕ} → FirstUnknown names text k → k ≤ length text
-within-13 u = omega (arith, u .here .word .some, u .here .word .within)
-
 module _ (names text : List ℕ) where
-  not-long : ((values : List ℕ) → (values ≡ []) × (mostBytes < length text) → ⊥) → length text ≤ mostBytes
-  not-long f = elim (decLt mostBytes (length text)) [ yes h ↦ absurd (f [] (refl, h)) | no h ↦ omega arith ]
-
   fits : (lent lent′ : Columns) (s : Said) → Decides (reader.parseRows names text lent) (Taken names text lent lent′) s → returnedOf s < 2 ^ 32
   unfolding Decides
   fits lent lent′ s (inl (e, (o, v, w))) = omega (arith, returned-with s 8 (o ∷ []) e v, names-offset-small names o w)
   fits lent lent′ s (inr (_, inl (e, (v, _)))) = omega (arith, returned-with s 12 [] e v)
-  fits lent lent′ s (inr (_, inr (l, inl (e, (o, v, r))))) = omega (arith, returned-with s 11 (o ∷ []) e v, within-11 r, not-long l)
-  fits lent lent′ s (inr (_, inr (l, inr (_, inl (e, (o, v, u)))))) = omega (arith, returned-with s 13 (o ∷ []) e v, within-13 u, not-long l)
+  fits lent lent′ s (inr (_, inr (l, inl (e, (o, v, r))))) = omega (arith, returned-with s 11 (o ∷ []) e v, within-11 r, at-most text l)
+  fits lent lent′ s (inr (_, inr (l, inr (_, inl (e, (o, v, u)))))) = omega (arith, returned-with s 13 (o ∷ []) e v, within-13 u, at-most text l)
   fits lent lent′ s (inr (_, inr (_, inr (_, inr (_, inl (e, (v, _))))))) = omega (arith, returned-with s 12 [] e v)
   fits lent lent′ s (inr (_, inr (_, inr (_, inr (_, inr (_, inl (e, (v, _)))))))) = omega (arith, returned-with s 3 [] e v)
   fits lent lent′ s (inr (_, inr (_, inr (_, inr (_, inr (_, inr (_, t))))))) =
@@ -73,7 +64,7 @@ module _ (names text : List ℕ) where
 
     module _ (h : length old < outWords) where
       to-short : (m u : Columns) (s : Said) → Decides (reader.parseRows names text none) (Taken names text none m) s
-          → Decides (parseRows names text lent old) (Taken names text lent u) s
+          → Decides (outParseRows names text lent old) (Taken names text lent u) s
       unfolding Decides
       to-short m c s (inl a) = inl a
       to-short m c s (inr (x, inl a)) = inr (x, inl a)
@@ -85,9 +76,9 @@ module _ (names text : List ℕ) where
 
       -- a text that 11 doesn't refuse is a formula
       some-tree : ((values : List ℕ) → noFormula names text lent .given values → ⊥) → NoRoom
-      some-tree z = ⊎-elim (λ t. needs-a-node (t .1)) (λ k. absurd (z (k .0 ∷ []) (k .0, refl, k .1))) (decided text)
+      some-tree z = ⊎-elim (λ t. needs-a-node (t .1)) (λ k. absurd (z (k .0 ∷ []) (k .0, refl, k .1))) (formula-or-offset text)
 
-      from-short : (u : Columns) (s : Said) → Decides (parseRows names text lent old) (Taken names text lent u) s
+      from-short : (u : Columns) (s : Said) → Decides (outParseRows names text lent old) (Taken names text lent u) s
           → Decides (reader.parseRows names text none) (Taken names text none none) s
       unfolding Decides
       from-short c s (inl a) = inl a
@@ -99,7 +90,7 @@ module _ (names text : List ℕ) where
           inr (x, inr (y, inr (z, inr (u, inr (v, inl (e, (f, some-tree z)))))))
       from-short c s (inr (x, inr (y, inr (z, inr (u, inr (v, inr (w, _))))))) = absurd (w [] (refl, h))
 
-      short-refuses : (u : Columns) (s : Said) → Decides (parseRows names text lent old) (Taken names text lent u) s → s .number ≡ 0 → ⊥
+      short-refuses : (u : Columns) (s : Said) → Decides (outParseRows names text lent old) (Taken names text lent u) s → s .number ≡ 0 → ⊥
       unfolding Decides
       short-refuses c s (inl a) e = omega (arith, a .0)
       short-refuses c s (inr (x, inl a)) e = omega (arith, a .0)
@@ -125,7 +116,7 @@ module _ (names text : List ℕ) where
     -- ---- `out` is long enough
 
     module _ (h : outWords ≤ length old) (u : Columns) where
-      to-long : (s : Said) → Decides (reader.parseRows names text lent) (Taken names text lent u) s → Decides (parseRows names text lent old) (Taken names text lent u) s
+      to-long : (s : Said) → Decides (reader.parseRows names text lent) (Taken names text lent u) s → Decides (outParseRows names text lent old) (Taken names text lent u) s
       unfolding Decides
       to-long s (inl a) = inl a
       to-long s (inr (x, inl a)) = inr (x, inl a)
@@ -134,7 +125,7 @@ module _ (names text : List ℕ) where
       to-long s (inr (x, inr (y, inr (z, inr (v, inl a))))) = inr (x, inr (y, inr (z, inr (v, inl a))))
       to-long s (inr (x, inr (y, inr (z, inr (v, inr (w, d)))))) = inr (x, inr (y, inr (z, inr (v, inr (w, inr (λ vs g. omega (arith, g .1), d))))))
 
-      from-long : (s : Said) → Decides (parseRows names text lent old) (Taken names text lent u) s → Decides (reader.parseRows names text lent) (Taken names text lent u) s
+      from-long : (s : Said) → Decides (outParseRows names text lent old) (Taken names text lent u) s → Decides (reader.parseRows names text lent) (Taken names text lent u) s
       unfolding Decides
       from-long s (inl a) = inl a
       from-long s (inr (x, inl a)) = inr (x, inl a)

@@ -27,7 +27,7 @@ pub fn parse(
         (columns (now (codes .exit)) (now (lefts .exit)) (now (rights .exit)) (now (sizes .exit)))
         (now (out .exit)) ⌝ }
 {
-    if out.len() < out::WORDS {
+    if out.len() < out::OUT_WORDS {
         return unanswered(names, text);
     }
     let answer = reader::parse(names, text, codes, lefts, rights, sizes);

@@ -26,7 +26,7 @@ use Rattle.text.specs.Text.{text}
 use Rattle.text.specs.Print.{saidPrinted, printRows, PrintAnswer, PrintsBy, Prints}
 use Rattle.text.proofs.Texts.{length-unary, length-binary}
 use Rattle.out.specs.Out.{outWords, brokenAt, numberWith, wordsWith, written, returnedOf, saidWords}
-use Rattle.out.specs.Unanswered.{Fits}
+use Rattle.out.specs.Unanswered.{OffsetFits}
 use Rattle.out_print.specs.Print.{PrintNumber, PrintDone}
 use Rattle.out_print.specs.Inner.{PrintUnanswered}
 
@@ -51,7 +51,7 @@ module _ (names : List (List ℕ)) (k : List Node) (root : Node) (room : List �
   not-eight n (inr (p, inl q)) e = omega (arith, q .1)
   not-eight n (inr (p, inr (q, z))) e = omega arith
 
-pub print-fits : (file : List ℕ) (k : List Node) (root : Node) (room : List ℕ) (s : Said) (new : List ℕ) → Prints file k root room s new → Fits s
+pub print-fits : (file : List ℕ) (k : List Node) (root : Node) (room : List ℕ) (s : Said) (new : List ℕ) → Prints file k root room s new → OffsetFits s
 print-fits file k root room s new a o b = go (wholeNames file) refl a
   where
     go : (g : Got (List (List ℕ))) → wholeNames file ≡ g → PrintsBy g k root room s new → brokenAt o < 2 ^ 32

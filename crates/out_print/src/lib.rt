@@ -9,7 +9,7 @@ ghost use Rattle.names.specs.Names.{wholeNames};
 ghost use Rattle.formula.specs.Kinds.{node, nodeOf, nodes};
 ghost use Rattle.text.specs.Print.{saidPrinted};
 ghost use Rattle.out.specs.Out.{outWords, written, returnedOf, saidWords};
-ghost use Rattle.out.specs.Unanswered.{Fits};
+ghost use Rattle.out.specs.Unanswered.{OffsetFits};
 ghost use Rattle.out_print.specs.Print.{PrintDone};
 ghost use Rattle.out_print.specs.Inner.{PrintUnanswered};
 
@@ -43,7 +43,7 @@ pub fn print(
         right: Place(right),
         size,
     };
-    if out.len() < out::WORDS {
+    if out.len() < out::OUT_WORDS {
         return unanswered(names, codes, lefts, rights, sizes, root);
     }
     let answer = text::print(names, codes, lefts, rights, sizes, root, text);
@@ -69,7 +69,7 @@ fn unanswered(
 }
 
 fn number(answer: Printed) -> u64
-    requires { ⌜ Fits (saidPrinted answer) ⌝ }
+    requires { ⌜ OffsetFits (saidPrinted answer) ⌝ }
     ensures { λ k. ⌜ k ≡ returnedOf (saidPrinted answer) ⌝ }
 {
     match answer {

@@ -19,8 +19,8 @@ use Rattle.file.proofs.Numbers.{Bytes}
 use Rattle.file.proofs.Whole.{passed-is-good}
 use Rattle.file.proofs.Offsets.{offset-small}
 use Rattle.out.specs.Out.{outWords, brokenAt, returnedOf}
-use Rattle.out.specs.Unanswered.{Fits}
-use Rattle.out_read.specs.Read.{done, doneBy, outcome, readDone}
+use Rattle.out.specs.Unanswered.{OffsetFits}
+use Rattle.out_read.specs.Read.{done, doneBy, outOutcome, readDone}
 use Rattle.out_read.specs.Inner.{readUnanswered}
 
 one-offset : {o u : ℕ} → broken o ≡ broken u → o ≡ u
@@ -30,7 +30,7 @@ module _ (file : List ℕ) where
   -- ---- the number
 
   module _ (l : Lent) where
-    pub read-fits : (a : After) → a ≡ readOf file l → Fits (a .answer)
+    pub read-fits : (a : After) → a ≡ readOf file l → OffsetFits (a .answer)
     read-fits a e o b = go (wholeFile file) refl (sym b ∙ ap (λ (x : After). x .answer) e)
       where
         room : (p : Parts) (r : Bool) → broken o ≡ cond r (handedOut p l) (record { answer = tooLittleRoom; left = l }) .answer → ⊥
@@ -65,7 +65,7 @@ module _ (file : List ℕ) where
         short p true false e = refl
         short p false false e = refl
 
-        go : (g : Got Parts) → done (readUnanswered g) l old ≡ outcome g l old
+        go : (g : Got Parts) → done (readUnanswered g) l old ≡ outOutcome g l old
         go (bad o) = refl
         go (got p next) = short p (roomFor p l) (leb outWords (length old)) refl
 
@@ -81,6 +81,6 @@ module _ (file : List ℕ) where
         long p true true e = refl
         long p false true e = refl
 
-        go : (g : Got Parts) → doneBy (core.outcome g l) old ≡ outcome g l old
+        go : (g : Got Parts) → doneBy (core.outcome g l) old ≡ outOutcome g l old
         go (bad o) = refl
         go (got p next) = long p (roomFor p l) (leb outWords (length old)) refl

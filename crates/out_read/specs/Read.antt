@@ -25,10 +25,10 @@ abbrev pub doneBy : After → List ℕ → ReadDone
 doneBy a old = done (returnedOf (a .answer)) (a .left) (written (saidWords (a .answer)) old)
 
 -- "The reader answers 8 before 3", and a short `out` is one more slice without room; "a refusal writes nothing"
-abbrev pub outcome : Got Parts → Lent → List ℕ → ReadDone
-outcome (bad o) l old = doneBy (record { answer = broken o; left = l }) old
-outcome (got p next) l old =
+abbrev pub outOutcome : Got Parts → Lent → List ℕ → ReadDone
+outOutcome (bad o) l old = doneBy (record { answer = broken o; left = l }) old
+outOutcome (got p next) l old =
     cond (roomFor p l && leb outWords (length old)) (doneBy (handedOut p l) old) (doneBy (record { answer = tooLittleRoom; left = l }) old)
 
 abbrev pub readDone : List ℕ → Lent → List ℕ → ReadDone
-readDone file l old = outcome (wholeFile file) l old
+readDone file l old = outOutcome (wholeFile file) l old

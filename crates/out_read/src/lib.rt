@@ -7,7 +7,7 @@ ghost use Rattle.file.specs.Offence.{wholeFile};
 ghost use Rattle.file.specs.Reading.{lent};
 ghost use Rattle.file.specs.Reading as reading;
 ghost use Rattle.out.specs.Out.{outWords, written, returnedOf, saidWords};
-ghost use Rattle.out.specs.Unanswered.{Fits};
+ghost use Rattle.out.specs.Unanswered.{OffsetFits};
 ghost use Rattle.out_read.specs.Read.{done, readDone};
 ghost use Rattle.out_read.specs.Inner.{readUnanswered};
 
@@ -28,7 +28,7 @@ pub fn read(
         (lent (now (marks .entry)) (now (lengths .entry)) (now (words .entry)) (now (unary .entry)) (now (binary .entry)))
         (now (out .entry)) ⌝ }
 {
-    if out.len() < out::WORDS {
+    if out.len() < out::OUT_WORDS {
         return unanswered(file);
     }
     let answer = file::read(file, marks, lengths, words, unary, binary);
@@ -46,8 +46,8 @@ fn unanswered(file: &[u8]) -> u64
 }
 
 fn number(answer: ReadAnswer) -> u64
-    requires { ⌜ Fits (reading.said answer) ⌝ }
-    ensures { λ k. ⌜ k ≡ returnedOf (reading.said answer) ⌝ }
+    requires { ⌜ OffsetFits (reading.saidRead answer) ⌝ }
+    ensures { λ k. ⌜ k ≡ returnedOf (reading.saidRead answer) ⌝ }
 {
     match answer {
         ReadAnswer::Parts {
@@ -66,7 +66,7 @@ fn number(answer: ReadAnswer) -> u64
 
 fn put(answer: ReadAnswer, out: &mut [u64])
     requires { ⌜ outWords ≤ length (now out) ⌝ }
-    ensures { λ u. ⌜ now (out .exit) ≡ written (saidWords (reading.said answer)) (now (out .entry)) ⌝ }
+    ensures { λ u. ⌜ now (out .exit) ≡ written (saidWords (reading.saidRead answer)) (now (out .entry)) ⌝ }
 {
     match answer {
         ReadAnswer::Parts {

@@ -17,8 +17,8 @@ use Rattle.verdict.specs.Check.{checkRows}
 use Rattle.writing.specs.Writing.{decimal}
 use Rattle.report.specs.declared.Reported.{Reported}
 use Rattle.report.specs.declared.Reported.the-variants.{Text, Refused}
-use Rattle.report.specs.Lines.{ReportText, SessionsLines, rootLine, summaryText, rootWord}
-use Rattle.report.specs.Report.{saidReport, shortText, reportRows, reportRowsWith, Reports}
+use Rattle.report.specs.Lines.{SessionsLines, rootLine, summaryText, rootWord}
+use Rattle.report.specs.Report.{saidReport, shortText, reportRows, Reports}
 use Rattle.report.proofs.Unique.{report-unique}
 use Rattle.out.specs.Out.{outWords, outShort, written, saidWords}
 use Rattle.out_report.specs.Report.{ReportDone}

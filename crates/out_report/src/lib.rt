@@ -46,7 +46,7 @@ pub fn report(
         right: Place(right),
         size,
     };
-    if out.len() < out::WORDS {
+    if out.len() < out::OUT_WORDS {
         return unanswered(
             r,
             m,

@@ -17,16 +17,18 @@ use Rattle.walk.specs.Kept.{begun, goOn}
 use Rattle.checks.specs.Promises.{RoomThere}
 use Rattle.table.specs.Slices.{Cols}
 use Rattle.slices.specs.declared.Resumed.the-variants.{Goes}
-use Rattle.slices.specs.declared.state.State.{State}
-use Rattle.slices.specs.Slices.{freshState, stateAt, StandsAt, StateIn}
+use Rattle.state.specs.declared.State.{State}
+use Rattle.turns.specs.Standing.{stateAt}
+use Rattle.turns.specs.Turns.{StateIn}
+use Rattle.slices.specs.Slices.{freshState, StandsAt}
 use Rattle.slices.specs.Resume.{Called}
 use Rattle.slices.proofs.Slicing.{fresh-stands, call-stands, stands-unique, grown-by-budget, end-repeats}
 use Rattle.out.specs.Out.{written}
-use Rattle.state_words.specs.Words.{stateWords, stateRead, endRead, Narrow}
+use Rattle.state_words.specs.Words.{stateWords, stateRead, endRead}
 use Rattle.state_words.specs.Written.{stateShort, stateOver, StateDone}
 use Rattle.state_words.proofs.Back.{comes-back, state-comes-back}
-use Rattle.out_resume.specs.Resume.{toldWords, resumeRows, ResumeDone}
-use Rattle.out_resume.specs.Promises.{WordsStand, FreshWordsStand, Meant, ResumeMeans, ResumeUnique, EndWordsRepeat, ResumeSafe, NumberUnique}
+use Rattle.out_resume.specs.Resume.{toldWords, outResumeRows, ResumeDone}
+use Rattle.out_resume.specs.Promises.{WordsStand, FreshWordsStand, WordsMeant, ResumeMeans, ResumeUnique, EndWordsRepeat, ResumeSafe, NumberUnique}
 
 long-enough : (words : List ℕ) → (length words < stateWords → ⊥) → stateWords ≤ length words
 long-enough words f = elim (decLe stateWords (length words)) [ yes h ↦ h | no h ↦ absurd (f (lt-of-not-le h)) ]
@@ -54,7 +56,7 @@ module _ (i : Input) (t : Cols) (budget : ℕ) (words old : List ℕ) (t′ : Co
   unfolding Decided
   words-long = long-enough words (λ g. go g (d .number))
     where
-      go : length words < stateWords → Decided (resumeRows i t budget words old) 0 → ⊥
+      go : length words < stateWords → Decided (outResumeRows i t budget words old) 0 → ⊥
       go g (inl p) = omega (arith, p .1)
       go g (inr (_, inl p)) = omega (arith, p .1)
       go g (inr (_, inr (_, inl p))) = omega (arith, p .1)
@@ -103,7 +105,7 @@ module _ (i : Input) (t : Cols) (budget : ℕ) (words old : List ℕ) (t′ : Co
     words-stand : WordsStand i t₀ (n + budget) words′ t′
     words-stand = subst (λ (s : State). StandsAt i t₀ (n + budget) s t′) (sym same-state) after-stands
 
-    means : Meant i t₀ (n + budget) words′ old t′ new
+    means : WordsMeant i t₀ (n + budget) words′ old t′ new
     means =
         let g = grown-by-budget i t₀ (n + budget) (stateRead words′) t′ words-stand in
         record {
@@ -127,7 +129,7 @@ end-words-repeat i t₀ t budget n words old t′ words′ new r w h d =
 -- ---- two results
 
 pub number-unique : NumberUnique
-number-unique i t budget words old k l u v x y p q a b = decided-unique (resumeRows i t budget words old) k l (a .number) (b .number)
+number-unique i t budget words old k l u v x y p q a b = decided-unique (outResumeRows i t budget words old) k l (a .number) (b .number)
 
 pub resume-done-unique : ResumeUnique
 resume-done-unique i t₀ t budget n words old r w k l u v x y p q a b =

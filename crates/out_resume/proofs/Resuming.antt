@@ -16,13 +16,13 @@ use Rattle.walk.specs.Input.{Input, inputOf}
 use Rattle.table.specs.Slices.{Cols}
 use Rattle.slices.specs.declared.Resumed.{Resumed}
 use Rattle.slices.specs.declared.Resumed.the-variants.{Goes, Refused}
-use Rattle.slices.specs.declared.state.State.{State}
+use Rattle.state.specs.declared.State.{State}
 use Rattle.slices.specs.Slices as core
-use Rattle.slices.specs.Resume.{numberOf, Called}
-use Rattle.out.specs.Out.{longWords, Named, wordFrom, written}
+use Rattle.slices.specs.Resume.{resumedNumber, Called}
+use Rattle.out.specs.Out.{longWords, OutWord, wordFrom, written}
 use Rattle.state_words.specs.Words.{stateWords, stateRead}
 use Rattle.state_words.specs.Written.{stateShort, StateDone}
-use Rattle.out_resume.specs.Resume.{foundWords, endWords, toldWords, resumeRows, ResumeDone}
+use Rattle.out_resume.specs.Resume.{foundWords, endWords, toldWords, outResumeRows, ResumeDone}
 use Rattle.out_resume.specs.Inner.{ResumeUnanswered, ResumePut}
 
 -- ---- `out` or the state is too short
@@ -39,8 +39,8 @@ module _ (r m bound room constants budget : ℕ) where
   unanswered-rows t st k (inr (p, inr (q, inr (b, inr (s, u))))) = absurd (p (inl (inl (lt-of-not-le λ g. s (inl g)))))
 
   pub unanswered : (t u : Cols) (st : State) (a : Resumed) → Called (inputOf r m bound room constants [] [] [] [] []) t budget st a u
-      → ResumeUnanswered r m bound room constants budget (numberOf a)
-  unanswered t u st a s = unanswered-rows t st (numberOf a) (s .decided)
+      → ResumeUnanswered r m bound room constants budget (resumedNumber a)
+  unanswered t u st a s = unanswered-rows t st (resumedNumber a) (s .decided)
 
   module _ (marks lengths words unary binary : List ℕ) (t : Cols) (state old : List ℕ) where
     abbrev i : Input
@@ -54,7 +54,7 @@ module _ (r m bound room constants budget : ℕ) where
     not-answered k (inr (p, inr (q, inr (b, inl s)))) e = omega (arith, s .1)
     not-answered k (inr (p, inr (q, inr (b, inr s)))) e = s .0 tt
 
-    out-rows : length old < longWords → (k : ℕ) → ResumeUnanswered r m bound room constants budget k → Decided (resumeRows i t budget state old) k
+    out-rows : length old < longWords → (k : ℕ) → ResumeUnanswered r m bound room constants budget k → Decided (outResumeRows i t budget state old) k
     unfolding Decided
     out-rows h k (inl p) = inl p
     out-rows h k (inr (p, inl q)) = inr (p, inl q)
@@ -63,7 +63,7 @@ module _ (r m bound room constants budget : ℕ) where
     out-rows h k (inr (p, inr (q, inr (b, inr s)))) = absurd (s .0 tt)
 
     state-rows : longWords ≤ length old → length state < stateWords → (k : ℕ) → ResumeUnanswered r m bound room constants budget k
-        → Decided (resumeRows i t budget state old) k
+        → Decided (outResumeRows i t budget state old) k
     unfolding Decided
     state-rows l h k (inl p) = inl p
     state-rows l h k (inr (p, inl q)) = inr (p, inl q)
@@ -81,7 +81,7 @@ module _ (r m bound room constants budget : ℕ) where
 -- ---- both are long enough
 
 module _ (i : Input) (t : Cols) (budget : ℕ) (state old : List ℕ) (h : longWords ≤ length old) (l : stateWords ≤ length state) where
-  answered-rows : (k : ℕ) → Decided (core.resumeRows i t budget (stateRead state)) k → Decided (resumeRows i t budget state old) k
+  answered-rows : (k : ℕ) → Decided (core.resumeRows i t budget (stateRead state)) k → Decided (outResumeRows i t budget state old) k
   unfolding Decided
   answered-rows k (inl p) = inl p
   answered-rows k (inr (p, inl q)) = inr (p, inl q)
@@ -120,8 +120,8 @@ module _ (s : State) (old : List ℕ) where
       ∙ length-set (set old 2 (s .counts .tried)) 3 (s .counts .kept)
       ∙ length-set old 2 (s .counts .tried)
 
-  told : (ws : List Named) → endWords s ≡ ws → written ws counted ≡ written (toldWords s) old
-  told ws e = ap (λ (x : List Named). written x counted) (sym e)
+  told : (ws : List OutWord) → endWords s ≡ ws → written ws counted ≡ written (toldWords s) old
+  told ws e = ap (λ (x : List OutWord). written x counted) (sym e)
 
   module _ (not-found : s .end ≡ 1 → ⊥) where
     after-found : endWords s ≡ cond (eqb (s .end) 2) (wordFrom 0 2 ∷ []) (cond (eqb (s .end) 3) (wordFrom 0 3 ∷ wordFrom 1 (s .size) ∷ []) (wordFrom 0 4 ∷ []))

@@ -11,7 +11,9 @@ use Rattle.walk.specs.Kept.{begun, goOn}
 use Rattle.checks.specs.Promises.{RoomThere}
 use Rattle.table.specs.Slices.{Cols, tableOver}
 use Rattle.slices.specs.Said.{walkSaid}
-use Rattle.slices.specs.Slices.{freshState, stateSaid, moreSaid, keptIn, StandsAt, StateIn}
+use Rattle.turns.specs.Standing.{keptIn}
+use Rattle.turns.specs.Turns.{StateIn}
+use Rattle.slices.specs.Slices.{freshState, stateSaid, moreSaid, StandsAt}
 use Rattle.out.specs.Out.{written}
 use Rattle.state_words.specs.Words.{stateRead}
 use Rattle.state_words.specs.Written.{StateDone}
@@ -27,7 +29,7 @@ FreshWordsStand = (i : Input) → Passes i → (t : Cols) (old new : List ℕ) �
 
 -- what words, slices and `out` say at count n: `out` has what the words' state tells. "After a call with budget k the count tried has grown by exactly k or
 -- the walk has ended, and the lent room holds just what the walk has kept by then"; "Any cutting ends as the whole search does"
-pub record Meant (i : Input) (t₀ : Cols) (n : ℕ) (words old : List ℕ) (t : Cols) (new : List ℕ) : Type 0 where
+pub record WordsMeant (i : Input) (t₀ : Cols) (n : ℕ) (words old : List ℕ) (t : Cols) (new : List ℕ) : Type 0 where
   pub stands : WordsStand i t₀ n words t
   pub told : new ≡ written (toldWords (stateRead words)) old
   pub grown : ((stateRead words .counts .tried ≡ n) × (n < tried (search i)) × (stateSaid (stateRead words) ≡ moreSaid (stateRead words .counts)))
@@ -37,7 +39,7 @@ pub record Meant (i : Input) (t₀ : Cols) (n : ℕ) (words old : List ℕ) (t :
 -- every call that answers keeps it
 abbrev pub ResumeMeans : Type 0
 ResumeMeans = (i : Input) (t₀ t : Cols) (budget n : ℕ) (words old : List ℕ) (t′ : Cols) (words′ new : List ℕ) → RoomThere i t₀ → WordsStand i t₀ n words t
-    → ResumeDone i t budget words old 0 t′ words′ new → Meant i t₀ (n + budget) words′ old t′ new
+    → ResumeDone i t budget words old 0 t′ words′ new → WordsMeant i t₀ (n + budget) words′ old t′ new
 
 -- any two results for the same input are equal: number, slices, words and `out`
 abbrev pub ResumeUnique : Type 0

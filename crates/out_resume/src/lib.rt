@@ -1,13 +1,13 @@
 // The search in slices at the C boundary: the state is read from the words that a C program keeps and written back to them; MORE or the end goes to `out`.
 use formula::kinds::Node;
 use slices::Resumed;
-use slices::state::State;
+use state::State;
 ghost use mathlib.Core.Path.{_≡_};
 ghost use Prim.Native.Nat.{_≤_};
 ghost use lib.ListN.{length};
 ghost use Rattle.walk.specs.Input.{inputOf};
 ghost use Rattle.table.specs.Slices.{cols};
-ghost use Rattle.slices.specs.Resume.{numberOf};
+ghost use Rattle.slices.specs.Resume.{resumedNumber};
 ghost use Rattle.out.specs.Out.{longWords, written};
 ghost use Rattle.state_words.specs.Words.{stateWords};
 ghost use Rattle.out_resume.specs.Resume.{foundWords, toldWords, ResumeDone};
@@ -48,7 +48,7 @@ pub fn resume(
     if out.len() < out::LONG_WORDS {
         return unanswered(r, m, bound, room, constants, budget);
     }
-    if state.len() < state_words::WORDS {
+    if state.len() < state_words::STATE_WORDS {
         return unanswered(r, m, bound, room, constants, budget);
     }
     let from = state_words::read(state);
@@ -103,7 +103,7 @@ fn unanswered(r: usize, m: usize, bound: usize, room: usize, constants: u8, budg
 }
 
 fn number(answer: Resumed) -> u64
-    ensures { λ k. ⌜ k ≡ numberOf answer ⌝ }
+    ensures { λ k. ⌜ k ≡ resumedNumber answer ⌝ }
 {
     match answer {
         Resumed::Goes(_) => 0,

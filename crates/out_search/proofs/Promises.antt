@@ -17,13 +17,13 @@ use Rattle.search.specs.declared.SearchAnswer.the-variants.{Found, None, Full, 
 use Rattle.table.specs.Slices.{Cols}
 use Rattle.search.specs.Search.{Searched}
 use Rattle.checks.specs.Refusals as core
-use Rattle.search.proofs.Promises.{found-smallest, none-means-none, full-needs-room, tried-is-position, tried-adds-up}
+use Rattle.search.proofs.Promises.{search-found-smallest, search-none-means-none, search-full-needs-room, search-tried-is-position, search-tried-adds-up}
 use Rattle.out.specs.Out.{longWords, written}
-use Rattle.out_search.specs.Search.{searchWords, searchRows, SearchDone}
-use Rattle.out_search.specs.Promises.{Says, SearchMeans}
+use Rattle.out_search.specs.Search.{searchWords, outSearchRows}
+use Rattle.out_search.specs.Promises.{OutSays, SearchMeans}
 
 -- where nothing is refused `out` has its 16 words, and the search refuses nothing
-passed-rows : (i : Input) (t : Cols) (old : List ℕ) → Decided (searchRows i t old) 0 → (longWords ≤ length old) × Decided (core.searchRows i t) 0
+passed-rows : (i : Input) (t : Cols) (old : List ℕ) → Decided (outSearchRows i t old) 0 → (longWords ≤ length old) × Decided (core.searchRows i t) 0
 unfolding Decided
 passed-rows i t old (inl d) = absurd (omega (arith, d .1))
 passed-rows i t old (inr (a, inl d)) = absurd (omega (arith, d .1))
@@ -58,24 +58,24 @@ two-three : _≡_ {A = ℕ} 2 3 → ⊥
 two-three e = omega arith
 
 module _ (i : Input) (t u : Cols) (l : List ℕ) where
-  words-say : (a : SearchAnswer) → Decided (core.searchRows i t) 0 → Searched i t a u → Says i t u (written (searchWords a) (nine l))
+  words-say : (a : SearchAnswer) → Decided (core.searchRows i t) 0 → Searched i t a u → OutSays i t u (written (searchWords a) (nine l))
   words-say (Found root n) d w = record {
     one-of = inl refl;
-    when-found = λ e. (refl, tried-is-position i t u (Found root n) w, tried-adds-up i t u (Found root n) w, found-smallest i t u root n w);
+    when-found = λ e. (refl, search-tried-is-position i t u (Found root n) w, search-tried-adds-up i t u (Found root n) w, search-found-smallest i t u root n w);
     when-none = λ e. absurd (one-two e);
     when-full = λ e. absurd (one-three e);
   }
   words-say (None n) d w = record {
     one-of = inr (inl refl);
     when-found = λ e. absurd (one-two (sym e));
-    when-none = λ e. (tried-is-position i t u (None n) w, omega (arith, tried-adds-up i t u (None n) w), none-means-none i t u n w .2);
+    when-none = λ e. (search-tried-is-position i t u (None n) w, omega (arith, search-tried-adds-up i t u (None n) w), search-none-means-none i t u n w .2);
     when-full = λ e. absurd (two-three e);
   }
   words-say (Full size n) d w = record {
     one-of = inr (inr refl);
     when-found = λ e. absurd (one-three (sym e));
     when-none = λ e. absurd (two-three (sym e));
-    when-full = λ e. (tried-is-position i t u (Full size n) w, tried-adds-up i t u (Full size n) w, full-needs-room i t u size n w);
+    when-full = λ e. (search-tried-is-position i t u (Full size n) w, search-tried-adds-up i t u (Full size n) w, search-full-needs-room i t u size n w);
   }
   words-say (Refused k) d w = absurd (omega (arith, w .outcome .0, decided-unique (core.searchRows i t) k 0 (w .decided) d))
 
@@ -83,4 +83,4 @@ pub search-means : SearchMeans
 search-means i t old u new w =
     let (h, d) = passed-rows i t old (w .number) in
     let (a, s, e) = w .passed refl in
-    subst (Says i t u) (sym (e ∙ ap (written (searchWords a)) (by-word old h))) (words-say i t u old a d s)
+    subst (OutSays i t u) (sym (e ∙ ap (written (searchWords a)) (by-word old h))) (words-say i t u old a d s)

@@ -13,9 +13,9 @@ use Rattle.search.specs.declared.SearchAnswer.{SearchAnswer}
 use Rattle.search.specs.declared.SearchAnswer.the-variants.{Found, None, Full, Refused}
 use Rattle.table.specs.Slices.{Cols}
 use Rattle.checks.specs.Refusals as core
-use Rattle.search.specs.Search.{said, Searched}
+use Rattle.search.specs.Search.{saidSearch, Searched}
 use Rattle.out.specs.Out.{longWords, written}
-use Rattle.out_search.specs.Search.{searchWords, searchRows, SearchDone}
+use Rattle.out_search.specs.Search.{searchWords, outSearchRows, SearchDone}
 use Rattle.out_search.specs.Inner.{SearchUnanswered}
 
 -- ---- `out` is too short
@@ -29,14 +29,14 @@ module _ (r m bound room constants : ℕ) where
   unanswered-rows t k (inr (p, inr (q, inl s))) = inr (p, inr (q, inl (tt, s .1)))
   unanswered-rows t k (inr (p, inr (q, inr (s, u)))) = absurd (p (inl (inl (lt-of-not-le λ g. s (inl g)))))
 
-  pub unanswered : (t u : Cols) (a : SearchAnswer) → Searched (inputOf r m bound room constants [] [] [] [] []) t a u → SearchUnanswered r m bound room constants (said a .number)
-  unanswered t u a s = unanswered-rows t (said a .number) (s .decided)
+  pub unanswered : (t u : Cols) (a : SearchAnswer) → Searched (inputOf r m bound room constants [] [] [] [] []) t a u → SearchUnanswered r m bound room constants (saidSearch a .number)
+  unanswered t u a s = unanswered-rows t (saidSearch a .number) (s .decided)
 
   module _ (marks lengths words unary binary : List ℕ) (t : Cols) (old : List ℕ) where
     abbrev i : Input
     i = inputOf r m bound room constants marks lengths words unary binary
 
-    refused-rows : length old < longWords → (k : ℕ) → SearchUnanswered r m bound room constants k → Decided (searchRows i t old) k
+    refused-rows : length old < longWords → (k : ℕ) → SearchUnanswered r m bound room constants k → Decided (outSearchRows i t old) k
     unfolding Decided
     refused-rows h k (inl p) = inl p
     refused-rows h k (inr (p, inl q)) = inr (p, inl q)
@@ -56,7 +56,7 @@ module _ (r m bound room constants : ℕ) where
 -- ---- `out` is long enough
 
 module _ (i : Input) (t : Cols) (old : List ℕ) (h : longWords ≤ length old) where
-  answered-rows : (k : ℕ) → Decided (core.searchRows i t) k → Decided (searchRows i t old) k
+  answered-rows : (k : ℕ) → Decided (core.searchRows i t) k → Decided (outSearchRows i t old) k
   unfolding Decided
   answered-rows k (inl p) = inl p
   answered-rows k (inr (p, inl q)) = inr (p, inl q)
@@ -64,10 +64,10 @@ module _ (i : Input) (t : Cols) (old : List ℕ) (h : longWords ≤ length old) 
 
   module _ (u : Cols) (new : List ℕ) where
     abbrev Does : SearchAnswer → Type 0
-    Does a = Searched i t a u → new ≡ written (searchWords a) old → SearchDone i t old (said a .number) u new
+    Does a = Searched i t a u → new ≡ written (searchWords a) old → SearchDone i t old (saidSearch a .number) u new
 
-    answered : (a : SearchAnswer) → said a .number ≡ 0 → Does a
-    answered a z s e = record { number = answered-rows (said a .number) (s .decided); refused = λ f. absurd (f z); passed = λ _. (a, s, e) }
+    answered : (a : SearchAnswer) → saidSearch a .number ≡ 0 → Does a
+    answered a z s e = record { number = answered-rows (saidSearch a .number) (s .decided); refused = λ f. absurd (f z); passed = λ _. (a, s, e) }
 
     pub search-long : (a : SearchAnswer) → Does a
     search-long (Found root n) s e = answered (Found root n) refl s e

@@ -10,11 +10,11 @@ use Rattle.search.specs.declared.SearchAnswer.the-variants.{Found, None, Full, 
 use Rattle.table.specs.Slices.{Cols}
 use Rattle.checks.specs.Refusals.{searchRowsWith}
 use Rattle.search.specs.Search.{Searched}
-use Rattle.out.specs.Out.{Named, wordFrom, written, longShort}
+use Rattle.out.specs.Out.{OutWord, wordFrom, written, longShort}
 
 -- the words of `out` (docs/DECISIONS.md): case (1 found, 2 none, 3 full), size (found, full), tried, kept, and at found the root's code, left, right, size;
 -- out[8] = dropped
-abbrev pub searchWords : SearchAnswer → List Named
+abbrev pub searchWords : SearchAnswer → List OutWord
 searchWords (Found root n) =
     wordFrom 0 1
     ∷ wordFrom 1 (root .size)
@@ -32,11 +32,11 @@ searchWords (Refused k) = []
 
 module _ (i : Input) (t : Cols) (old : List ℕ) where
   -- the search's rows, with that of `out` "at the place that 3 has"
-  abbrev pub searchRows : List Row
-  searchRows = searchRowsWith i (longShort old ∷ []) t
+  abbrev pub outSearchRows : List Row
+  outSearchRows = searchRowsWith i (longShort old ∷ []) t
 
   -- "Every function returns a u64: 0 where it answered, else the refusal number ..; a refusal writes nothing"; an answer is the search's
   pub record SearchDone (returned : ℕ) (t′ : Cols) (new : List ℕ) : Type 0 where
-    pub number : Decided searchRows returned
+    pub number : Decided outSearchRows returned
     pub refused : (returned ≡ 0 → ⊥) → (t′ ≡ t) × (new ≡ old)
     pub passed : returned ≡ 0 → (answer : SearchAnswer) × Searched i t answer t′ × (new ≡ written (searchWords answer) old)

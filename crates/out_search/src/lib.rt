@@ -5,7 +5,7 @@ ghost use Prim.Native.Nat.{_≤_};
 ghost use lib.ListN.{length};
 ghost use Rattle.walk.specs.Input.{inputOf};
 ghost use Rattle.table.specs.Slices.{cols};
-ghost use Rattle.search.specs.Search.{said};
+ghost use Rattle.search.specs.Search.{saidSearch};
 ghost use Rattle.out.specs.Out.{longWords, written};
 ghost use Rattle.out_search.specs.Search.{searchWords, SearchDone};
 ghost use Rattle.out_search.specs.Inner.{SearchUnanswered};
@@ -87,7 +87,7 @@ fn unanswered(r: usize, m: usize, bound: usize, room: usize, constants: u8) -> u
 }
 
 fn number(answer: SearchAnswer) -> u64
-    ensures { λ k. ⌜ k ≡ said answer .number ⌝ }
+    ensures { λ k. ⌜ k ≡ saidSearch answer .number ⌝ }
 {
     match answer {
         SearchAnswer::Found { root: _, counts: _ } => 0,

@@ -7,21 +7,20 @@ use Prim.Native.Nat.{ℕ, min, _≤_, _<_}
 use native.Mathlib.Omega.{arith}
 use lib.ListN.{length}
 use Rattle.rules.specs.Limits.{mostSize}
-use Rattle.rules.specs.Answers.{Said, over}
+use Rattle.rules.specs.Answers.{Said}
 use Rattle.formula.specs.Formula.{size}
 use Rattle.formula.specs.Nodes.{Node, codes}
 use Rattle.reading.specs.Reading.{got, bad}
 use Rattle.names.specs.Names.{wholeNames, GoodNames, namesIn}
 use Rattle.grammar.specs.Token.{Typed}
-use Rattle.grammar.specs.Grammar.{Reads, Refused11}
+use Rattle.grammar.specs.Grammar.{Reads}
 use Rattle.grammar.specs.Nodes.{nodesOf}
-use Rattle.grammar.proofs.Theorems.{one-tree, not-both}
-use Rattle.reader.specs.declared.Parsed.{Parsed}
+use Rattle.grammar.proofs.Theorems.{one-tree, formula-not-refused}
 use Rattle.reader.specs.declared.Parsed.the-variants.{Nodes, Broken, Stops, Unknown, Refused}
 use Rattle.descent.specs.declared.judge.Judged.{Judged}
 use Rattle.descent.specs.declared.judge.Judged.the-variants.{Nodes as Sized, Broken as BrokenNames, Long, Room as NoRoom, Stops as StopsAt, Unknown as UnknownName, Large}
 use Rattle.reader.specs.Words.{mostBytes, Deep}
-use Rattle.reader.specs.Parsing.{saidParsed, ParseRow, Decides, Columns, columns, roomOf, written, longText, noFormula, unknownName, largeFormula, shortRoom, Taken, Parses}
+use Rattle.reader.specs.Parsing.{saidParsed, ParseRow, Decides, Columns, columns, roomOf, nodesOver, longText, noFormula, unknownName, largeFormula, shortNodeRoom, Taken, Parses}
 use Rattle.descent.specs.Packed.{codesBy}
 use Rattle.descent.specs.Judging.{AllKnown, JudgedIs}
 use Rattle.reader.specs.Lent.{Enough, Unpacked, ReadsGood}
@@ -53,7 +52,7 @@ module _ (file text : List ℕ) (old : Columns) where
   not-long h vs g = let l = g .1 in omega arith
 
   not-refused : {t : Typed} → Reads text t → Free (noFormula file text old)
-  not-refused {t} r vs g = not-both (t, r) (g .2)
+  not-refused {t} r vs g = formula-not-refused (t, r) (g .2)
 
   not-unknown : AllKnown file text → Free (unknownName file text old)
   not-unknown known vs g = known (g .0) (g .2 .here)
@@ -61,7 +60,7 @@ module _ (file text : List ℕ) (old : Columns) where
   not-large : {t : Typed} → Reads text t → size t ≤ mostSize → (Deep text → ⊥) → Free (largeFormula file text old)
   not-large {t} r h d vs g = ⊎-elim (λ x. let e = ap size (one-tree r (x .1)) in let l = x .2 in omega arith) d (g .1)
 
-  not-short : {t : Typed} → Reads text t → size t ≤ roomOf old → Free (shortRoom file text old)
+  not-short : {t : Typed} → Reads text t → size t ≤ roomOf old → Free (shortNodeRoom file text old)
   not-short {t} r h vs g = let e = ap size (one-tree r (g .1 .1)) in let l = g .1 .2 in omega arith
 
   -- ---- rows that are
@@ -127,7 +126,7 @@ module _ (file text : List ℕ) (old : Columns) where
           let range = nodes-range file (x .8) 0 t (omega (arith, x .4)) in
           let short : length ns ≤ length scratch = omega (arith, x .4, x .6) in
           let w : Unpacked (length ns) new (old .codes) (old .lefts) (old .rights) (old .sizes) c l r z = rw len u in
-          let done : columns c l r z ≡ written ns old = all-columns
+          let done : columns c l r z ≡ nodesOver ns old = all-columns
           (codes-filled scratch new ns (x .7) short range (old .codes) (omega arith) (w .codes))
           (lefts-filled scratch new ns (x .7) short range (old .lefts) (omega arith) (w .lefts))
           (rights-filled scratch new ns (x .7) short range (old .rights) (omega arith) (w .rights))
@@ -138,7 +137,7 @@ module _ (file text : List ℕ) (old : Columns) where
             under = resolved-under file t listed;
             reads = rw (resolved-typed file t listed) (x .2);
             values = ap (λ (v : ℕ). v ∷ []) (sym (resolved-size names t ∙ x .6));
-            nodes = done ∙ ap (λ (v : List Node). written v old) (resolved-nodes file 0 t);
+            nodes = done ∙ ap (λ (v : List Node). nodesOver v old) (resolved-nodes file 0 t);
           } in
           with-names (x .8) (record {
             answer = inr (not-long (x .0), inr (not-refused (x .2), inr (not-unknown (x .3), inr (not-large (x .2) (x .4) (x .5), inr (not-short (x .2) (omega (arith, x .6)), taken)))));

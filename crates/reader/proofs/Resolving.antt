@@ -16,19 +16,20 @@ use Rattle.formula.specs.Formula as formula
 use Rattle.formula.specs.Nodes.{Node, codes}
 use Rattle.names.specs.Names.{isNameByte, namesIn}
 use Rattle.names.specs.Lookup.{findFrom}
-use Rattle.names.specs.declared.lookup.Found.{Found}
-use Rattle.names.specs.declared.lookup.Found.the-variants.{At, Nothing}
+use Rattle.names.specs.declared.lookup.FoundName.{FoundName}
+use Rattle.names.specs.declared.lookup.FoundName.the-variants.{At, Nothing}
 use Rattle.names.proofs.Finding.{FoundIs, found-is}
 use Rattle.text.specs.Tokens.{Named}
 use Rattle.grammar.specs.Name.{Name}
-use Rattle.grammar.specs.Token.{Atom, name, constant, Typed, Token, pre, mid, atom, opens, closes, spell, Good, isWord, endsAsWord, Apart, SpelledBy, end, gap, token}
+use Rattle.grammar.specs.Token.{Atom, name, constant, Typed, Token, pre, mid, atom, opens, closes, spell, GoodToken, isWord, endsAsWord, NoWordByte, SpelledBy, end, gap, token}
 use Rattle.grammar.specs.Grammar.{Derives, alone, prefix, bracket, between, looser, Reads}
 use Rattle.grammar.specs.Naming.{typed}
-use Rattle.grammar.specs.Nodes.{node, nodesOf}
+use Rattle.grammar.specs.Nodes.{nodesOf}
+use Rattle.formula.specs.Kinds.{node}
 use Rattle.reading.proofs.Lists.{true-false}
 use Rattle.grammar.proofs.Words.{WordBytes, LetterFirst, letter-first, letter-word}
-use Rattle.reader.specs.Words.{WordAt, UnknownAt}
-use Rattle.descent.specs.Packed.{numberOf, codesBy}
+use Rattle.reader.specs.Words.{WordAt}
+use Rattle.descent.specs.Packed.{nameNumber, codesBy}
 use Rattle.descent.specs.Judging.{AllKnown}
 use Rattle.descent.proofs.Lookup.{number-at}
 
@@ -67,7 +68,7 @@ leaves P (looser d) a = leaves P d a
 
 -- a part of the text with no word across its start
 abbrev Clean : List ℕ → List ℕ → Type 0
-Clean before text = (endsAsWord before ≡ false) ⊎ Apart text
+Clean before text = (endsAsWord before ≡ false) ⊎ NoWordByte text
 
 ends-more : (xs ys : List ℕ) → 1 ≤ length ys → endsAsWord (xs ++ ys) ≡ endsAsWord ys
 ends-more [] ys h = refl
@@ -100,11 +101,11 @@ no-clash before [] more l c = absurd l
 no-clash before (b ∷ w) more l (inl e) = e
 no-clash before (b ∷ w) more l (inr a) = absurd (true-false (letter-word b (l .0)) a)
 
-no-byte : (more : List ℕ) → Apart more → isNameByte (getD more 0 0) ≡ false
+no-byte : (more : List ℕ) → NoWordByte more → isNameByte (getD more 0 0) ≡ false
 no-byte [] a = refl
 no-byte (b ∷ more) a = a
 
-at-word : (before w more : List ℕ) → LetterFirst w → Clean before (w ++ more) → Apart more → WordAt (before ++ (w ++ more)) (length before) (length before + length w)
+at-word : (before w more : List ℕ) → LetterFirst w → Clean before (w ++ more) → NoWordByte more → WordAt (before ++ (w ++ more)) (length before) (length before + length w)
 at-word before w more l c a =
     let text = before ++ (w ++ more) in
     let n = letters-some w l in
@@ -133,7 +134,7 @@ module _ (file : List ℕ) where
   known-word : {text : List ℕ} → AllKnown file text → {k e : ℕ} (w : List ℕ) → WordAt text k e → take (e - k) (drop k text) ≡ w → Name w → List·Memᴰ w (namesIn file)
   known-word {text} known {k} {e} w at q n = by-found (findFrom 0 w (namesIn file)) (found-is w (namesIn file) 0)
     where
-      by-found : (f : Found) → FoundIs w (namesIn file) 0 f → List·Memᴰ w (namesIn file)
+      by-found : (f : FoundName) → FoundIs w (namesIn file) 0 f → List·Memᴰ w (namesIn file)
       by-found (At i) h = h .3
       by-found Nothing h = absurd (known k (record { end = e; word = at; free = rw q (n .free); new = rw q h }))
 
@@ -154,7 +155,7 @@ module _ (file : List ℕ) where
   binary-some implies = omega arith
   binary-some equiv = omega arith
 
-  after-token : (before text : List ℕ) (t : Token) → Good t → (isWord t ≡ true → Apart text) → Clean (before ++ spell t) text
+  after-token : (before text : List ℕ) (t : Token) → GoodToken t → (isWord t ≡ true → NoWordByte text) → Clean (before ++ spell t) text
   after-token before text (pre u) g a = by-test (endsAsWord (unaryToken u)) refl
     where
       by-test : (b : Bool) → endsAsWord (unaryToken u) ≡ b → Clean (before ++ unaryToken u) text
@@ -169,7 +170,7 @@ module _ (file : List ℕ) where
   after-token before text opens g a = inl (ends-more before (40 ∷ []) (omega arith))
   after-token before text closes g a = inl (ends-more before (41 ∷ []) (omega arith))
 
-  at-token : (before text : List ℕ) (t : Token) → Good t → (isWord t ≡ true → Apart text) → Clean before (spell t ++ text) → AllKnown file (before ++ (spell t ++ text)) → AtomHolds Listed t
+  at-token : (before text : List ℕ) (t : Token) → GoodToken t → (isWord t ≡ true → NoWordByte text) → Clean before (spell t ++ text) → AllKnown file (before ++ (spell t ++ text)) → AtomHolds Listed t
   at-token before text (pre u) g a c known = tt
   at-token before text (mid o) g a c known = tt
   at-token before text (atom (name w)) g a c known =
@@ -197,7 +198,7 @@ module _ (file : List ℕ) where
 -- ---- the formula
 
 abbrev leafOf : List (List ℕ) → Atom → Leaf
-leafOf names (name w) = proposition (numberOf (findFrom 0 w names))
+leafOf names (name w) = proposition (nameNumber (findFrom 0 w names))
 leafOf names (constant b) = formula.constant b
 
 pub resolved : List (List ℕ) → Typed → Formula

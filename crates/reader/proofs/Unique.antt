@@ -17,7 +17,6 @@ use Rattle.names.specs.Names.{GoodName, namesUpTo, wholeNames, listed, namesIn}
 use Rattle.reading.specs.Reading.{Got, got, bad}
 use Rattle.reading.proofs.Ends.{each-at, end-sound}
 use Rattle.names.proofs.NameLaws.{names-sound}
-use Rattle.grammar.specs.Token.{Typed, name}
 use Rattle.grammar.specs.Naming.{typed, atomOf}
 use Rattle.grammar.specs.Nodes.{nodesOf}
 use Rattle.grammar.proofs.Theorems.{one-tree, one-offset}
@@ -25,7 +24,7 @@ use Rattle.reader.specs.declared.Parsed.{Parsed}
 use Rattle.reader.specs.declared.Parsed.the-variants.{Nodes, Broken, Stops, Unknown, Refused}
 use Rattle.typed.proofs.Unique.{first-one}
 use Rattle.text.specs.Tokens.{Named}
-use Rattle.reader.specs.Parsing.{saidParsed, ParseRow, Decides, Columns, written, brokenNames, longText, noFormula, unknownName, largeFormula, shortRoom, parseRows, Taken, Parses}
+use Rattle.reader.specs.Parsing.{saidParsed, ParseRow, Decides, Columns, nodesOver, parseRows, Taken, Parses}
 
 -- ---- one formula for a tree
 
@@ -148,7 +147,7 @@ module _ (file text : List ℕ) (old : Columns) where
         | yes z ↦
             let x = is-taken s z (a .answer) in
             let y = is-taken r (sym (ap (λ (v : Said). v .number) e) ∙ z) (b .answer) in
-            (e, x .nodes ∙ ap (λ (f : Formula). written (nodesOf codes 0 f) old) (taken-formula x y) ∙ sym (y .nodes))
+            (e, x .nodes ∙ ap (λ (f : Formula). nodesOver (nodesOf codes 0 f) old) (taken-formula x y) ∙ sym (y .nodes))
         | no z ↦ (e, a .refused z ∙ sym (b .refused (λ w. z (ap (λ (v : Said). v .number) e ∙ w))))
       ]
 

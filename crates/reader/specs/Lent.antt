@@ -7,7 +7,7 @@ use Prim.Native.Nat.{ℕ, _/_, _%_, _≤_}
 use lib.ListN.{length, take}
 use lib.Seq.{sets}
 use Rattle.rules.specs.Answers.{Said}
-use Rattle.reader.specs.Parsing.{Columns, Decides, longText, noFormula, unknownName, largeFormula, shortRoom, Taken}
+use Rattle.reader.specs.Parsing.{Columns, Decides, longText, noFormula, unknownName, largeFormula, shortNodeRoom, Taken}
 
 pub record Enough (n : ℕ) (s c l r z : List ℕ) : Type 0 where
   pub scratch : n ≤ length s
@@ -29,7 +29,7 @@ pub record ReadsGood (file text : List ℕ) (old new : Columns) (s : Said) : Typ
       ∷ noFormula file text old
       ∷ unknownName file text old
       ∷ largeFormula file text old
-      ∷ shortRoom file text old
+      ∷ shortNodeRoom file text old
       ∷ []
       ) (Taken file text old new) s
   pub refused : (s .number ≡ 0 → ⊥) → new ≡ old

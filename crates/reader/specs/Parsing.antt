@@ -42,11 +42,11 @@ Decides [] passed s = passed s
 Decides (row ∷ rows) passed s = ((s .number ≡ row .number) × row .given (s .values)) ⊎ (((vs : List ℕ) → row .given vs → ⊥) × Decides rows passed s)
 
 -- a row that carries only its number, and one that carries an offset
-abbrev pub plain : ℕ → Type 0 → ParseRow
-plain k given = record { number = k; given = λ vs. (vs ≡ []) × given }
+abbrev pub numberRow : ℕ → Type 0 → ParseRow
+numberRow k given = record { number = k; given = λ vs. (vs ≡ []) × given }
 
-abbrev pub placed : ℕ → (ℕ → Type 0) → ParseRow
-placed k given = record { number = k; given = λ vs. (o : ℕ) × (vs ≡ o ∷ []) × given o }
+abbrev pub offsetRow : ℕ → (ℕ → Type 0) → ParseRow
+offsetRow k given = record { number = k; given = λ vs. (o : ℕ) × (vs ≡ o ∷ []) × given o }
 
 -- ---- lent slices
 
@@ -65,8 +65,8 @@ abbrev pub roomOf : Columns → ℕ
 roomOf c = countOf (c .codes) (c .lefts) (c .rights) (c .sizes)
 
 -- the nodes at the front; "in any lent slice what no rule writes stays"
-abbrev pub written : List Node → Columns → Columns
-written ns c =
+abbrev pub nodesOver : List Node → Columns → Columns
+nodesOver ns c =
     columns
     (over (map (λ n. n .code) ns) (c .codes))
     (over (map (λ n. n .left) ns) (c .lefts))
@@ -81,30 +81,30 @@ module _ (file text : List ℕ) (old : Columns) where
 
   -- "the names' 8"
   abbrev pub brokenNames : ParseRow
-  brokenNames = placed 8 (λ o. wholeNames file ≡ bad o)
+  brokenNames = offsetRow 8 (λ o. wholeNames file ≡ bad o)
 
   -- "12 if the text passes 4,096 bytes"
   abbrev pub longText : ParseRow
-  longText = plain 12 (mostBytes < length text)
+  longText = numberRow 12 (mostBytes < length text)
 
   -- "11 with the offset of the first byte that can't continue a formula (the text's length if it ends early)"
   abbrev pub noFormula : ParseRow
-  noFormula = placed 11 (Refused11 text)
+  noFormula = offsetRow 11 (Refused11 text)
 
   -- "13 with the offset of the first unknown name"
   abbrev pub unknownName : ParseRow
-  unknownName = placed 13 (FirstUnknown names text)
+  unknownName = offsetRow 13 (FirstUnknown names text)
 
   -- "12 if size passes 31 or brackets 64"
   abbrev pub largeFormula : ParseRow
-  largeFormula = plain 12 (((t : Typed) × Reads text t × (mostSize < size t)) ⊎ Deep text)
+  largeFormula = numberRow 12 (((t : Typed) × Reads text t × (mostSize < size t)) ⊎ Deep text)
 
   -- "3 for node room below the size"
-  abbrev pub shortRoom : ParseRow
-  shortRoom = plain 3 ((t : Typed) × Reads text t × (roomOf old < size t))
+  abbrev pub shortNodeRoom : ParseRow
+  shortNodeRoom = numberRow 3 ((t : Typed) × Reads text t × (roomOf old < size t))
 
   abbrev pub parseRows : List ParseRow
-  parseRows = brokenNames ∷ longText ∷ noFormula ∷ unknownName ∷ largeFormula ∷ shortRoom ∷ []
+  parseRows = brokenNames ∷ longText ∷ noFormula ∷ unknownName ∷ largeFormula ∷ shortNodeRoom ∷ []
 
   -- "A text that isn't refused gives the one tree of the grammar, its nodes written left child, right child, parent, nothing shared": the formula
   -- whose text, typed with these names, has that tree; each of its propositions has a name
@@ -114,7 +114,7 @@ module _ (file text : List ℕ) (old : Columns) where
     pub under : Named (length names) formula
     pub reads : Reads text (typed names formula)
     pub values : s .values ≡ size formula ∷ []
-    pub nodes : new ≡ written (nodesOf codes 0 formula) old
+    pub nodes : new ≡ nodesOver (nodesOf codes 0 formula) old
 
   -- "A refusal .. writes nothing, and is given in no other case."
   pub record Parses (new : Columns) (s : Said) : Type 0 where

@@ -30,7 +30,7 @@ pub fn parse(
         (columns (now (codes .entry)) (now (lefts .entry)) (now (rights .entry)) (now (sizes .entry)))
         (columns (now (codes .exit)) (now (lefts .exit)) (now (rights .exit)) (now (sizes .exit))) (saidParsed p) ⌝ }
 {
-    let mut scratch = [0u64; 4096];
+    let mut scratch = [0u64; rules::TYPED];
     let j = judge(names, text, &mut scratch);
     match j {
         Judged::Broken(o) => Parsed::Broken(o),

@@ -9,7 +9,7 @@ use native.Mathlib.Omega.{arith}
 use borrow.Author.Tests.{ltb-true, lt-ltb}
 use lib.Dec.{ltb}
 use lib.ListN.{length, getD, drop}
-use Rattle.reading.specs.Reading.{section, one, Got, got, bad, Reader, andThen, each, byte, within, counted}
+use Rattle.reading.specs.Reading.{section, one, Got, got, bad, Reader, andThen, eachItem, byte, within, counted}
 use Rattle.rules.specs.Lists.{Each}
 use Rattle.reading.proofs.Spans.{Spans, none, both, first, second, head, one-byte}
 use Rattle.reading.proofs.Lists.{within-low, within-high, within-is}
@@ -69,14 +69,14 @@ module _ {A : Type 0} (item : List A → Reader A) (fit : List A → A → Type 
     pub fits : Each fit before new
     pub spans : Spans file at (flatMap bytes new) next
 
-  pub row-sound : Sound → (k : ℕ) (before : List A) (at : ℕ) {all : List A} {next : ℕ} → each item k before file at ≡ got all next → Row k before at all next
-  unfolding each Each flatMap
+  pub row-sound : Sound → (k : ℕ) (before : List A) (at : ℕ) {all : List A} {next : ℕ} → eachItem item k before file at ≡ got all next → Row k before at all next
+  unfolding eachItem Each flatMap
   row-sound s zero before at {all} {next} e =
       let v : before ≡ all = got-value e in
       let n : at ≡ next = got-next e in
       record { new = []; is = sym v ∙ sym (append-nil before); count = refl; fits = tt; spans = subst (λ (x : ℕ). Spans file at [] x) n (none file at) }
   row-sound s (suc k) before at {all} {next} e =
-      let t = in-turn (item before file at) (λ a n. each item k (before ++ (a ∷ [])) file n) e in
+      let t = in-turn (item before file at) (λ a n. eachItem item k (before ++ (a ∷ [])) file n) e in
       let r = row-sound s k (before ++ (t .0 ∷ [])) (t .1) (t .3) in
       let f = s before at (t .0) (t .1) (t .2) in
       record {
@@ -87,9 +87,9 @@ module _ {A : Type 0} (item : List A → Reader A) (fit : List A → A → Type 
         spans = both file (bytes (t .0)) (flatMap bytes (r .new)) (f .1) (r .spans);
       }
 
-  pub row-complete : Complete → (new before : List A) (at : ℕ) {next : ℕ} → Each fit before new → Spans file at (flatMap bytes new) next → each item
+  pub row-complete : Complete → (new before : List A) (at : ℕ) {next : ℕ} → Each fit before new → Spans file at (flatMap bytes new) next → eachItem item
       (length new) before file at ≡ got (before ++ new) next
-  unfolding each Each flatMap
+  unfolding eachItem Each flatMap
   row-complete c [] before at {next} f s =
       let n : at ≡ next = omega (arith, s .end) in
       rw append-nil (ap (λ (x : ℕ). got before x) n)
@@ -108,7 +108,7 @@ module _ {A : Type 0} (item : List A → Reader A) (fit : List A → A → Type 
 
   pub section-sound : Sound → (lo hi at : ℕ) {all : List A} {next : ℕ} → counted lo hi item file at ≡ got all next → Section lo hi at all next
   section-sound s lo hi at {all} {next} e =
-      let t = in-turn (byte (within lo hi) file at) (λ k n. each item k [] file n) e in
+      let t = in-turn (byte (within lo hi) file at) (λ k n. eachItem item k [] file n) e in
       let b = byte-sound (within lo hi) file at (t .2) in
       let r = row-sound s (t .0) [] (t .1) (t .3) in
       let k : t .0 ≡ length all = sym (ap length (r .is) ∙ r .count) in

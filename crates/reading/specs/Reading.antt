@@ -7,8 +7,8 @@ use Prim.Native.Nat.{ℕ, zero, suc, _+_}
 use lib.Dec.{eqb, leb, ltb}
 use lib.ListN.{length, getD}
 use Rattle.rules.specs.Answers.{Said}
-use Rattle.reading.specs.declared.Step.{Step}
-use Rattle.reading.specs.declared.Step.the-variants.{Read, Broken}
+use Rattle.reading.specs.declared.ReadStep.{ReadStep}
+use Rattle.reading.specs.declared.ReadStep.the-variants.{Read, Broken}
 
 -- ---- the bytes of a section
 
@@ -37,9 +37,9 @@ andThen (got a next) k = k a next
 andThen (bad o) k = bad o
 
 -- as many items as `k` says, each judged with those before it
-unfoldable pub each : {A : Type 0} → (List A → Reader A) → ℕ → List A → Reader (List A)
-each item zero before file at = got before at
-each item (suc k) before file at = andThen (item before file at) (λ a next. each item k (before ++ (a ∷ [])) file next)
+unfoldable pub eachItem : {A : Type 0} → (List A → Reader A) → ℕ → List A → Reader (List A)
+eachItem item zero before file at = got before at
+eachItem item (suc k) before file at = andThen (item before file at) (λ a next. eachItem item k (before ++ (a ∷ [])) file next)
 
 -- one byte: one that fails its test offends where it stands, and if the file ends before it, "the file's length if it ends early"
 unfoldable pub byte : (ℕ → Bool) → Reader ℕ
@@ -53,7 +53,7 @@ within lo hi b = leb lo b && leb b hi
 
 -- "each after its one-byte count": a count outside its numbers offends where it stands
 abbrev pub counted : {A : Type 0} → ℕ → ℕ → (List A → Reader A) → Reader (List A)
-counted lo hi item file at = andThen (byte (within lo hi) file at) (λ k next. each item k [] file next)
+counted lo hi item file at = andThen (byte (within lo hi) file at) (λ k next. eachItem item k [] file next)
 
 -- "Nothing follows": "the first extra byte"
 unfoldable pub atEnd : {A : Type 0} → Got A → List ℕ → Got A
@@ -67,7 +67,7 @@ isIn same x (y ∷ ys) = same x y || isIn same x ys
 -- ---- answers
 
 -- of what was read a sub-reader hands up one number
-abbrev pub stepOf : {A : Type 0} → (A → ℕ) → Got A → Step
+abbrev pub stepOf : {A : Type 0} → (A → ℕ) → Got A → ReadStep
 stepOf value (got a next) = Read (value a) next
 stepOf value (bad o) = Broken o
 

@@ -10,33 +10,29 @@ use lib.Dec.{lit<}
 use lib.ListN.{length, take, drop, replicate, length-replicate}
 use lib.Seq.{sets, sets-eq}
 use Rattle.words.specs.Word.{width, At}
-use Rattle.rules.specs.Refusals.{Row, Decided}
-use Rattle.rules.specs.Answers.{Said, over}
-use Rattle.rules.proofs.Refusals.{Numbered, decided-unique, decided-both, decided-given, decided-not}
+use Rattle.rules.specs.Refusals.{Decided}
+use Rattle.rules.specs.Answers.{over}
+use Rattle.rules.proofs.Refusals.{Numbered, decided-unique, decided-both, decided-given, decided-not, decided-early}
 use Rattle.writing.specs.Writing.{Wrote}
 use Rattle.writing.proofs.Writing.{wrote-both, wrote-whole}
 use Rattle.writing.proofs.Digits.{written-front}
 use Rattle.sequence.specs.declared.CharSeq.{CharSeq}
 use Rattle.session.specs.Recording.{Recording, lengthOf}
-use Rattle.formula.specs.Nodes.{Node, nodeAt}
+use Rattle.formula.specs.Nodes.{Node}
 use Rattle.verdict.specs.Check.{checkRows, saidVerdict, CheckAnswer}
-use Rattle.verdict.specs.Sequences.{SequenceAnswer, Carries}
+use Rattle.verdict.specs.Sequences.{SequenceAnswer}
 use Rattle.verdict.specs.declared.Sequenced.{Sequenced}
 use Rattle.verdict.specs.declared.Sequenced.the-variants as sequenced
 use Rattle.rules.specs.declared.kinds.Session.{Session}
 use Rattle.verdict.specs.declared.Verdict.{Verdict}
 use Rattle.verdict.specs.declared.Verdict.the-variants as verdict
-use Rattle.formula.proofs.Tests.{decided-early}
 use Rattle.summary.specs.declared.values.Summary.{Summary}
-use Rattle.report.specs.declared.Reported.{Reported}
 use Rattle.report.specs.declared.Reported.the-variants.{Text, Refused}
 use Rattle.summary.specs.Values.{Summed}
-use Rattle.report.specs.Under.{Under}
-use Rattle.report.specs.Lines.{NodeSays, PlaceLine, PlaceLines, SessionLines, SessionsLines, ReportText, rootLine}
+use Rattle.report.specs.Lines.{NodeSays, PlaceLines, rootLine}
 use Rattle.report.specs.Lines.PlaceLine.{one, none}
-use Rattle.report.specs.Report.{saidReport, shortText, reportRows, Reports}
-use Rattle.report.specs.Promises.{longestReport}
-use Rattle.report.specs.Inner.{Marked, MarksUnder, WrotePlace, WrotePlaces, WroteSession, WroteSessions}
+use Rattle.report.specs.Report.{saidReport, shortText, Reports}
+use Rattle.report.specs.Inner.{PlaceMarked, MarksUnder, WrotePlace, WrotePlaces, WroteSession, WroteSessions}
 use Rattle.summary.proofs.Firsts.{summed-same}
 use Rattle.report.proofs.Unique.{one-report}
 use Rattle.report.proofs.Length.{report-fits, longest-is}
@@ -72,7 +68,7 @@ nothing-wrote : (l : List ℕ) (at : ℕ) → Wrote l at [] l at
 nothing-wrote l at = record { next = omega arith; holds = refl }
 
 module _ (i : Recording) (k : List Node) (marks : List ℕ) (j : ℕ) where
-  pub no-line : (p : ℕ) (l : List ℕ) (at : ℕ) → (Marked marks p → ⊥) → WrotePlace i k marks j p l at l at
+  pub no-line : (p : ℕ) (l : List ℕ) (at : ℕ) → (PlaceMarked marks p → ⊥) → WrotePlace i k marks j p l at l at
   no-line p l at u = ([], none u refl, nothing-wrote l at)
 
   pub no-places : (l : List ℕ) (at : ℕ) → WrotePlaces i k marks j 0 l at l at

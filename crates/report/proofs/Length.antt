@@ -31,9 +31,9 @@ use Rattle.summary.specs.declared.values.First.the-variants.{Never, Snapshot}
 use Rattle.summary.specs.declared.values.Summary.{Summary}
 use Rattle.summary.specs.Values.{LeastIn, CountIn, Fails, Summed}
 use Rattle.report.specs.Under.{Child, Down, Under}
-use Rattle.report.specs.Lines.{firstText, summaryText, placeLine, rootLine, newline, blank, rootWord, NodeSays, PlaceLine, PlaceLines, SessionLines, SessionsLines}
+use Rattle.report.specs.Lines.{firstText, summaryText, placeLine, rootLine, newline, blank, rootWord, PlaceLines, SessionLines, SessionsLines}
 use Rattle.report.specs.Lines.PlaceLine.{one, none}
-use Rattle.report.specs.Promises.{longestLine, longestOf, longestReport, ReportFits}
+use Rattle.report.specs.Promises.{longestLine, longestOf, longestReport, mostReport, ReportFits}
 use Rattle.report.proofs.Marking.{few-places}
 
 -- ---- digits
@@ -217,6 +217,6 @@ report-fits i k root out d a =
     le-trans (sessions-short i k root d (i .sessions) (omega arith) out a) (longest-rises (i .sessions) mostSessions (passed-sessions i k root d))
 
 -- its figure
-pub longest-is : longestReport ≡ 15562
+pub longest-is : longestReport ≡ mostReport
 unfolding digits
 longest-is = refl

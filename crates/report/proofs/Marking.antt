@@ -11,13 +11,13 @@ use native.Mathlib.Omega.{arith}
 use lib.ListN.{length, getD, set, length-set, replicate, getD-replicate, length-replicate}
 use lib.Seq.{getD-set-same, getD-set-other}
 use Rattle.formula.specs.Nodes.{Node, nodeAt}
-use Rattle.formula.specs.Rule.{IsUnary, IsBinary, Broken}
+use Rattle.formula.specs.Rule.{IsUnary, IsBinary}
 use Rattle.formula.specs.Rule.Fault.{unaryPlace, leftPlace, rightPlace}
 use Rattle.formula.specs.Rule.Broken.{tooMany, listed, rooted}
 use Rattle.formula.proofs.Faults.{not-both}
 use Rattle.rules.specs.Limits.{mostRoom}
 use Rattle.report.specs.Under.{Child, Down}
-use Rattle.report.specs.Inner.{Marked, MarksChildren, MarksBelow, Whole, MarksUnder}
+use Rattle.report.specs.Inner.{PlaceMarked, MarksChildren, MarksBelow, WholeList, MarksUnder}
 
 -- ---- what has been passed
 
@@ -26,15 +26,15 @@ abbrev Reached : List Node → (ℕ → Type 0) → ℕ → ℕ → Type 0
 Reached k top q p = top p ⊎ ((a : ℕ) × (q ≤ a) × (a < length k) × ((d : ℕ) × Down k top d a) × Child (nodeAt k a) p)
 
 abbrev pub Passed : List Node → (ℕ → Type 0) → ℕ → List ℕ → Type 0
-Passed k top q marks = (p : ℕ) → p < length k → Marked marks p ↔ Reached k top q p
+Passed k top q marks = (p : ℕ) → p < length k → PlaceMarked marks p ↔ Reached k top q p
 
 -- the top is what was marked at the start
 abbrev pub Top : List Node → List ℕ → ℕ → Type 0
-Top k start p = (p < length k) × Marked start p
+Top k start p = (p < length k) × PlaceMarked start p
 
 -- ---- one mark more
 
-marked-set : (l : List ℕ) (p q : ℕ) → q < length l → Marked (set l p 1) q ↔ (Marked l q ⊎ (p ≡ q))
+marked-set : (l : List ℕ) (p q : ℕ) → q < length l → PlaceMarked (set l p 1) q ↔ (PlaceMarked l q ⊎ (p ≡ q))
 marked-set l p q h =
     elim (ℕ-discrete q p) [
       | yes e ↦ (λ a. inr (sym e), λ a. subst (λ (x : ℕ). getD (set l p 1) x 0 ≡ 1) (sym e) (getD-set-same l p 1 0 (omega arith)))
@@ -81,10 +81,10 @@ module _ (l : List ℕ) (n : Node) where
         marked = λ p h. (λ a. inl a, λ a. ⊎-elim (λ b. b) (λ b. ⊎-elim (λ c. absurd (u (c .0))) (λ c. absurd (v (c .0))) b) a);
       }
 
-  pub below-unmarked : (q : ℕ) → (Marked l q → ⊥) → MarksBelow l q n l
+  pub below-unmarked : (q : ℕ) → (PlaceMarked l q → ⊥) → MarksBelow l q n l
   below-unmarked q u = record { same = refl; marked = λ p h. (λ a. inl a, λ a. ⊎-elim (λ b. b) (λ b. absurd (u (b .0))) a) }
 
-  pub below-marked : (q : ℕ) {new : List ℕ} → Marked l q → MarksChildren l n new → MarksBelow l q n new
+  pub below-marked : (q : ℕ) {new : List ℕ} → PlaceMarked l q → MarksChildren l n new → MarksBelow l q n new
   below-marked q a c =
       record {
         same = c .same;
@@ -96,7 +96,7 @@ module _ (l : List ℕ) (n : Node) where
 
 -- ---- a child stands below its node
 
-module _ (k : List Node) (root : Node) (w : Whole k root) where
+module _ (k : List Node) (root : Node) (w : WholeList k root) where
   child-below : (a p : ℕ) → a < length k → Child (nodeAt k a) p → p < a
   child-below a p h c =
       ⊎-elim
@@ -136,7 +136,7 @@ module _ (k : List Node) (above : (a p : ℕ) → a < length k → Child (nodeAt
   down-reached p zero c = inl c
   down-reached p (suc d) (a, r, c) = let h = down-below d a r in let g = above a p h c in inr (a, omega arith, h, (d, r), c)
 
-  none-passed : (marks : List ℕ) → ((p : ℕ) → p < length k → Marked marks p ↔ top p) → Passed k top (length k) marks
+  none-passed : (marks : List ℕ) → ((p : ℕ) → p < length k → PlaceMarked marks p ↔ top p) → Passed k top (length k) marks
   none-passed marks same p l = (λ a. inl (same p l .0 a), λ a. ⊎-elim (λ b. same p l .1 b) (λ b. absurd (omega (arith, b .1, b .2))) a)
 
   one-passed : {old new : List ℕ} (q : ℕ) → q < length k → length k ≤ length old → Passed k top (suc q) old → MarksBelow old q (nodeAt k q) new → Passed k top q new
@@ -149,7 +149,7 @@ module _ (k : List Node) (above : (a p : ℕ) → a < length k → Child (nodeAt
         λ a. s .1 (⊎-elim (λ c. inl (before p l .1 (inl c))) (λ c. further c) a),
       )
     where
-      further : (a : ℕ) × (q ≤ a) × (a < length k) × ((d : ℕ) × Down k top d a) × Child (nodeAt k a) p → Marked old p ⊎ (Marked old q × Child (nodeAt k q) p)
+      further : (a : ℕ) × (q ≤ a) × (a < length k) × ((d : ℕ) × Down k top d a) × Child (nodeAt k a) p → PlaceMarked old p ⊎ (PlaceMarked old q × Child (nodeAt k q) p)
       further (a, g, i, u, c) =
           ⊎-elim
           (λ e. inr (
@@ -159,7 +159,7 @@ module _ (k : List Node) (above : (a p : ℕ) → a < length k → Child (nodeAt
           (λ e. inl (before p l .1 (inr (a, e, i, u, c))))
           (eq-or-lt-of-le {n = q} {m = a} g)
 
-  all-passed : (marks : List ℕ) → Passed k top 0 marks → (p : ℕ) → p < length k → Marked marks p ↔ ((d : ℕ) × Down k top d p)
+  all-passed : (marks : List ℕ) → Passed k top 0 marks → (p : ℕ) → p < length k → PlaceMarked marks p ↔ ((d : ℕ) × Down k top d p)
   all-passed marks b p l = (
     λ a. reached-down 0 p (b p l .0 a),
     λ u. b p l .1 (⊎-elim (λ c. inl c) (λ c. inr (c .0, omega arith, c .2, c .3, c .4)) (down-reached p (u .0) (u .1))),
@@ -171,8 +171,8 @@ down-same k f (suc d) p (a, r, c) = (a, down-same k f d a r, c)
 
 -- ---- the marks at the start are those of the root's children
 
-module _ (k : List Node) (root : Node) (w : Whole k root) (room : ℕ) (start : List ℕ) (wide : length k ≤ room) (c : MarksChildren (replicate room 0) root start) where
-  first-marks : (p : ℕ) → p < length k → Marked start p ↔ Child root p
+module _ (k : List Node) (root : Node) (w : WholeList k root) (room : ℕ) (start : List ℕ) (wide : length k ≤ room) (c : MarksChildren (replicate room 0) root start) where
+  first-marks : (p : ℕ) → p < length k → PlaceMarked start p ↔ Child root p
   first-marks p l =
       let z : _≡_ {A = ℕ} (getD (replicate room 0) p 0) 0 = getD-replicate room p 0 0 (omega arith) in
       let s = c .marked p (omega (arith, length-replicate {A = ℕ} room 0)) in

@@ -8,51 +8,23 @@ use native.Mathlib.Nat.{eq-or-lt-of-le}
 use native.Mathlib.Decide.{decLt}
 use native.Mathlib.Omega.{arith}
 use lib.ListN.{length}
-use Rattle.words.specs.Ltlf.{Reading}
-use Rattle.rules.specs.Answers.{Said, over}
+use Rattle.rules.specs.Answers.{over}
 use Rattle.rules.proofs.Refusals.{decided-unique}
 use Rattle.session.specs.Recording.{Recording, lengthOf}
 use Rattle.formula.specs.Formula.{Formula, Holds}
 use Rattle.formula.specs.Nodes.{Node, nodeAt}
 use Rattle.formula.specs.Recorded.{markedTrace}
 use Rattle.formula.proofs.Spelled.{one-formula}
-use Rattle.summary.specs.declared.values.First.{First}
-use Rattle.summary.specs.declared.values.First.the-variants.{Never, Snapshot}
 use Rattle.summary.specs.declared.values.Summary.{Summary}
 use Rattle.report.specs.declared.Reported.{Reported}
 use Rattle.report.specs.declared.Reported.the-variants.{Text, Refused}
-use Rattle.summary.specs.Values.{LeastIn, CountIn, Summed}
+use Rattle.summary.specs.Values.{Summed}
 use Rattle.report.specs.Under.{Under}
-use Rattle.report.specs.Lines.{NodeSays, PlaceLine, PlaceLines, SessionLines, SessionsLines, ReportText, placeLine, rootLine}
+use Rattle.report.specs.Lines.{NodeSays, PlaceLine, PlaceLines, SessionLines, SessionsLines, placeLine, rootLine}
 use Rattle.report.specs.Lines.PlaceLine.{one, none}
 use Rattle.report.specs.Report.{saidReport, Reports}
 use Rattle.report.specs.Promises.{OneReport}
-
--- ---- values
-
-least-unique : (n : ℕ) (f : Reading) (a b : First) → LeastIn n f a → LeastIn n f b → a ≡ b
-least-unique n f Never Never p q = refl
-least-unique n f Never (Snapshot b) p q = absurd (p b (q .0) (q .1))
-least-unique n f (Snapshot a) Never p q = absurd (q a (p .0) (p .1))
-least-unique n f (Snapshot a) (Snapshot b) p q =
-    elim (decLt a b) [
-      | yes h ↦ absurd (q .2 a h (p .1))
-      | no h ↦ ⊎-elim (λ e. ap Snapshot (sym e)) (λ g. absurd (p .2 b g (q .1))) (eq-or-lt-of-le {n = b} {m = a} (omega arith))
-    ]
-
-count-unique : (n : ℕ) (f : Reading) (a b : ℕ) → CountIn n f a → CountIn n f b → a ≡ b
-count-unique zero f a b p q = p ∙ sym q
-count-unique (suc n) f a b (inl (h, (c, d, p))) (inl (k, (e, g, q))) = let s = count-unique n f c e p q in omega arith
-count-unique (suc n) f a b (inl (h, p)) (inr (k, q)) = absurd (k h)
-count-unique (suc n) f a b (inr (h, p)) (inl (k, q)) = absurd (h k)
-count-unique (suc n) f a b (inr (h, p)) (inr (k, q)) = count-unique n f a b p q
-
--- `summary_of`
-pub summed-unique : {n : ℕ} {f : Reading} (s t : Summary) → Summed n f s → Summed n f t → s ≡ t
-summed-unique {n} {f} s t a b =
-    ap (λ (x : First). record { holds = x; fails = s .fails; count = s .count }) (least-unique n f (s .holds) (t .holds) (a .holds) (b .holds))
-    ∙ ap (λ (x : First). record { holds = t .holds; fails = x; count = s .count }) (least-unique n _ (s .fails) (t .fails) (a .fails) (b .fails))
-    ∙ ap (λ (x : ℕ). record { holds = t .holds; fails = t .fails; count = x }) (count-unique n f (s .count) (t .count) (a .count) (b .count))
+use Rattle.summary.proofs.Unique.{summed-unique}
 
 -- ---- the text
 

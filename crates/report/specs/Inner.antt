@@ -5,7 +5,6 @@ use mathlib.Core.Logic.{_↔_, _⊎_}
 use mathlib.Core.List.{List}
 use Prim.Native.Nat.{ℕ, _≤_, _<_}
 use lib.ListN.{length, getD}
-use Rattle.words.specs.Ltlf.{Reading}
 use Rattle.rules.specs.Refusals.{Decided}
 use Rattle.writing.specs.Writing.{Wrote}
 use Rattle.session.specs.Recording.{Recording}
@@ -16,27 +15,27 @@ use Rattle.report.specs.Under.{Child, Under}
 use Rattle.report.specs.Lines.{PlaceLine, PlaceLines, SessionLines, SessionsLines}
 
 -- a place has a mark
-abbrev pub Marked : List ℕ → ℕ → Type 0
-Marked marks p = getD marks p 0 ≡ 1
+abbrev pub PlaceMarked : List ℕ → ℕ → Type 0
+PlaceMarked marks p = getD marks p 0 ≡ 1
 
 -- the children of a node are marked too
 pub record MarksChildren (old : List ℕ) (n : Node) (new : List ℕ) : Type 0 where
   pub same : length new ≡ length old
-  pub marked : (p : ℕ) → p < length old → Marked new p ↔ (Marked old p ⊎ Child n p)
+  pub marked : (p : ℕ) → p < length old → PlaceMarked new p ↔ (PlaceMarked old p ⊎ Child n p)
 
 -- and so are those of a place that has a mark itself
 pub record MarksBelow (old : List ℕ) (q : ℕ) (n : Node) (new : List ℕ) : Type 0 where
   pub same : length new ≡ length old
-  pub marked : (p : ℕ) → p < length old → Marked new p ↔ (Marked old p ⊎ (Marked old q × Child n p))
+  pub marked : (p : ℕ) → p < length old → PlaceMarked new p ↔ (PlaceMarked old p ⊎ (PlaceMarked old q × Child n p))
 
 -- the list passes the rule, for some number of propositions
-abbrev pub Whole : List Node → Node → Type 0
-Whole k root = (m : ℕ) × (Broken m k root → ⊥)
+abbrev pub WholeList : List Node → Node → Type 0
+WholeList k root = (m : ℕ) × (Broken m k root → ⊥)
 
 -- exactly the places under the root are marked
 pub record MarksUnder (k : List Node) (root : Node) (marks : List ℕ) : Type 0 where
   pub room : length k ≤ length marks
-  pub exactly : (p : ℕ) → p < length k → Marked marks p ↔ Under k root p
+  pub exactly : (p : ℕ) → p < length k → PlaceMarked marks p ↔ Under k root p
 
 -- each listed node passes the check in the root's stead
 abbrev pub AllPass : Recording → List Node → Type 0
@@ -45,10 +44,10 @@ AllPass i k = (p : ℕ) → p < length k → Decided (checkRows i k (nodeAt k p)
 -- ---- what is written
 
 abbrev pub WrotePlace : Recording → List Node → List ℕ → ℕ → ℕ → List ℕ → ℕ → List ℕ → ℕ → Type 0
-WrotePlace i k marks j p old at new r = (out : List ℕ) × PlaceLine i k (Marked marks) j p out × Wrote old at out new r
+WrotePlace i k marks j p old at new r = (out : List ℕ) × PlaceLine i k (PlaceMarked marks) j p out × Wrote old at out new r
 
 abbrev pub WrotePlaces : Recording → List Node → List ℕ → ℕ → ℕ → List ℕ → ℕ → List ℕ → ℕ → Type 0
-WrotePlaces i k marks j n old at new r = (out : List ℕ) × PlaceLines i k (Marked marks) j n out × Wrote old at out new r
+WrotePlaces i k marks j n old at new r = (out : List ℕ) × PlaceLines i k (PlaceMarked marks) j n out × Wrote old at out new r
 
 abbrev pub WroteSession : Recording → List Node → Node → ℕ → List ℕ → ℕ → List ℕ → ℕ → Type 0
 WroteSession i k root j old at new r = (out : List ℕ) × SessionLines i k root j out × Wrote old at out new r

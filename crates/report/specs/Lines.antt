@@ -10,7 +10,8 @@ use Rattle.formula.specs.Nodes.{Node, nodeAt, Spells, codes}
 use Rattle.formula.specs.Recorded.{markedTrace}
 use Rattle.summary.specs.declared.values.Summary.{Summary}
 use Rattle.summary.specs.Values.{Summed}
-pub use Rattle.summary.specs.Line.{blank, newline, rootWord, firstText, summaryText, placeLine, rootLine}
+pub use Rattle.summary.specs.Line.{blank, rootWord, firstText, summaryText, placeLine, rootLine}
+pub use Rattle.writing.specs.Writing.{newline}
 use Rattle.report.specs.Under.{Under}
 
 -- what is said of a node on session j, by the reading of the formula that it spells

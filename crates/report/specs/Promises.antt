@@ -30,6 +30,10 @@ longestOf (suc j) = longestOf j + mostSize * longestLine j
 abbrev pub longestReport : ℕ
 longestReport = longestOf mostSessions
 
+-- as a number
+abbrev pub mostReport : ℕ
+mostReport = 15562
+
 -- so much text room suffices for any report (report-fits, in proofs/Length)
 abbrev pub ReportFits : Type 0
 ReportFits = (i : Recording) (k : List Node) (root : Node) (out : List ℕ) → Decided (checkRows i k root) 0 → ReportText i k root out → length out ≤ longestReport

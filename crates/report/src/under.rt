@@ -9,7 +9,7 @@ ghost use Prim.Native.Nat.{_<_};
 ghost use lib.ListN.{length, set};
 ghost use Rattle.formula.specs.Nodes.{nodeAt};
 ghost use Rattle.formula.specs.Kinds.{nodeOf, nodes};
-ghost use Rattle.report.specs.Inner.{MarksChildren, MarksBelow, Whole, MarksUnder};
+ghost use Rattle.report.specs.Inner.{MarksChildren, MarksBelow, WholeList, MarksUnder};
 
 fn mark(marks: &mut [u8], place: Place)
     ensures { λ r. ⌜ now (marks .exit) ≡ set (now (marks .entry)) (place .0) 1 ⌝ }
@@ -56,7 +56,7 @@ pub(crate) fn places_under(
     sizes: &[u8],
     root: Node,
 ) -> [u8; rules::ROOM]
-    requires { ⌜ Whole (nodes (now codes) (now lefts) (now rights) (now sizes)) (nodeOf root) ⌝ }
+    requires { ⌜ WholeList (nodes (now codes) (now lefts) (now rights) (now sizes)) (nodeOf root) ⌝ }
     ensures { λ r. ⌜ MarksUnder (nodes (now (codes .entry)) (now (lefts .entry)) (now (rights .entry)) (now (sizes .entry))) (nodeOf root) r ⌝ }
 {
     let mut marks = [0u8; rules::ROOM];

@@ -21,7 +21,7 @@ use Rattle.text.specs.Print.{printRows, PrintAnswer, PrintsBy, Prints}
 use Rattle.grammar.specs.Token.{Typed}
 use Rattle.grammar.specs.Grammar.{Reads}
 use Rattle.grammar.specs.Naming.{typed}
-use Rattle.grammar.proofs.Theorems.{one-tree, not-both}
+use Rattle.grammar.proofs.Theorems.{one-tree, formula-not-refused}
 use Rattle.typed.specs.Words.{UnknownAt, Deep}
 use Rattle.reader.specs.Words.{mostBytes}
 use Rattle.reader.specs.Parsing.{Columns, roomOf, Decides, parseRows, Taken, Parses}
@@ -96,7 +96,7 @@ module _ (file bytes : List ℕ) (old new : Columns) (p : Said) where
       by-row : Decides (parseRows file bytes old) (Taken file bytes old new) p → Taken file bytes old new p
       by-row (inl a) = absurd (let e : bad (a .1 .0) ≡ got (namesIn file) (g .0) = sym (a .1 .2) ∙ g .1 in let z : _≡_ {A = ℕ} 0 1 = cc in omega arith)
       by-row (inr (_, inl a)) = absurd (omega (arith, a .1 .1))
-      by-row (inr (_, inr (_, inl a))) = absurd (not-both (t, reads) (a .1 .2))
+      by-row (inr (_, inr (_, inl a))) = absurd (formula-not-refused (t, reads) (a .1 .2))
       by-row (inr (_, inr (_, inr (_, inl a)))) = absurd (known (a .1 .0) (a .1 .2 .here))
       by-row (inr (_, inr (_, inr (_, inr (_, inl a))))) = absurd (⊎-elim (λ x. omega (arith, x .2, same-size (x .1))) flat (a .1 .1))
       by-row (inr (_, inr (_, inr (_, inr (_, inr (_, inl a)))))) = absurd (omega (arith, a .1 .1 .2, same-size (a .1 .1 .1)))

@@ -7,7 +7,8 @@ use native.Mathlib.Omega.{arith}
 use lib.ListN.{length, getD}
 use Rattle.rules.specs.Lists.{Each}
 use Rattle.reading.proofs.Ends.{each-at, end-sound}
-use Rattle.names.specs.Names.{propositions, GoodName, namesUpTo, namesIn, GoodNames}
+use Rattle.names.specs.Names.{GoodName, namesUpTo, namesIn, GoodNames}
+use Rattle.rules.specs.Limits.{mostPropositions}
 use Rattle.names.proofs.NameLaws.{names-sound}
 use Rattle.formula.specs.Formula.{leaf, unary, binary, proposition, constant, Formula}
 use Rattle.formula.specs.Nodes.{Node, nodeAt, Spells, codes}
@@ -47,7 +48,7 @@ module _ (file : List ℕ) (g : GoodNames file) where
   -- a good name is one wherever it stands
   name-at : (p : ℕ) → p < length (namesIn file) → Name (getD (namesIn file) p [])
   name-at p h =
-      let fits : Each GoodName [] (namesIn file) = names-sound file propositions 0 (end-sound file (namesUpTo propositions file 0) (g .1) .0) .fits in
+      let fits : Each GoodName [] (namesIn file) = names-sound file mostPropositions 0 (end-sound file (namesUpTo mostPropositions file 0) (g .1) .0) .fits in
       let n = each-at GoodName [] (namesIn file) [] fits p h in
       record { some = n .some; short = n .short; letters = n .letters; free = n .free; new = λ m. List·Memᴰ·not-nil m }
 

@@ -13,7 +13,7 @@ use Rattle.names.specs.Names.{namesIn, GoodNames}
 use Rattle.names.proofs.Starts.{short-names}
 use Rattle.formula.specs.Formula.{size, Formula}
 use Rattle.formula.specs.Nodes.{Node, nodeAt, Spells, codes}
-use Rattle.formula.specs.Kinds.{node, nodes, countOf}
+use Rattle.formula.specs.Kinds.{node, nodes}
 use Rattle.formula.specs.Rule.{Broken}
 use Rattle.formula.proofs.Listed.{length-nodes, node-at}
 use Rattle.formula.proofs.Spelled.{list-spells}
@@ -27,7 +27,7 @@ use Rattle.grammar.specs.Naming.{typed}
 use Rattle.grammar.specs.Nodes.{nodesOf}
 use Rattle.grammar.proofs.Printing.{printed}
 use Rattle.grammar.proofs.Theorems.{one-tree}
-use Rattle.reader.specs.Parsing.{Columns, roomOf, written, Taken, Parses}
+use Rattle.reader.specs.Parsing.{Columns, roomOf, nodesOver, Taken, Parses}
 use Rattle.reader.proofs.Scratch.{nodes-length}
 use Rattle.reader.proofs.Unique as reader
 use Rattle.round_trip.specs.Promises.{nodesIn, rootIn, ReadBack, RoundTrip, ReadPrints}
@@ -59,7 +59,7 @@ from-columns ns =
 front : (f : Node → ℕ) (ns : List Node) (n : ℕ) (old : List ℕ) → length ns ≡ n → take n (over (map f ns) old) ≡ map f ns
 front f ns n old e = take-at (map f ns) (drop (length (map f ns)) old) n (length-map ns f ∙ e)
 
-read-nodes : (old : Columns) {new : Columns} (ns : List Node) (n : ℕ) → length ns ≡ n → new ≡ written ns old → nodesIn new n ≡ ns
+read-nodes : (old : Columns) {new : Columns} (ns : List Node) (n : ℕ) → length ns ≡ n → new ≡ nodesOver ns old → nodesIn new n ≡ ns
 read-nodes old ns n e w =
     ap (λ (c : Columns). nodesIn c n) w
     ∙ rw (
@@ -70,7 +70,7 @@ read-nodes old ns n e w =
     ) (from-columns ns)
 
 -- over the nodes read: they spell the formula, and pass number 9
-module _ (old : Columns) {new : Columns} (t : Formula) (w : new ≡ written (nodesOf codes 0 t) old) where
+module _ (old : Columns) {new : Columns} (t : Formula) (w : new ≡ nodesOver (nodesOf codes 0 t) old) where
   same : nodesOf codes 0 t ≡ nodesIn new (size t)
   same = sym (read-nodes old (nodesOf codes 0 t) (size t) (nodes-length codes 0 t) w)
 
@@ -118,8 +118,8 @@ module _ (file : List ℕ) (k : List Node) (root : Node) (room out : List ℕ) (
     is : taken .formula ≡ t
     is = reader.one-formula file (taken .formula) t (taken .under) named (one-tree (taken .reads) reads)
 
-    put : new ≡ written (nodesOf codes 0 t) old
-    put = taken .nodes ∙ ap (λ (f : Formula). written (nodesOf codes 0 f) old) is
+    put : new ≡ nodesOver (nodesOf codes 0 t) old
+    put = taken .nodes ∙ ap (λ (f : Formula). nodesOver (nodesOf codes 0 f) old) is
 
     back : ReadBack file k root n out new p
     back = record {

@@ -17,7 +17,8 @@ use Rattle.formula.specs.Faultless.Fits.{leaf as leafFits, unary as unaryFits, 
 use Rattle.formula.proofs.Trees.{size-pos}
 use Rattle.formula.proofs.Faults.{fits-whole}
 use Rattle.formula.specs.Nodes.{Node, nodeAt, Spells, codes}
-use Rattle.grammar.specs.Nodes.{node, leafNode, nodesOf}
+use Rattle.grammar.specs.Nodes.{leafNode, nodesOf}
+use Rattle.formula.specs.Kinds.{node}
 use Rattle.reader.proofs.Scratch.{nodes-length}
 
 abbrev none : Node

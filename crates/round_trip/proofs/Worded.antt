@@ -13,12 +13,11 @@ use Rattle.sequence.specs.Operators.{Unary, Binary, unaryToken, binaryToken}
 use Rattle.sequence.specs.Operators.Unary.{not, weakNext, strongNext, finally, globally}
 use Rattle.sequence.specs.Operators.Binary.{or, and, until, release, implies, equiv}
 use Rattle.formula.specs.Formula.{leaf, unary, binary, Leaf, proposition, constant, Formula}
-use Rattle.reading.proofs.Lists.{true-false}
 use Rattle.names.specs.Names.{isNameByte}
 use Rattle.names.specs.Reserved.{reserved}
 use Rattle.text.specs.Text.{space, bracketed, leafText, text}
 use Rattle.text.proofs.Tokens.{unary-reserved, binary-reserved, constant-reserved}
-use Rattle.grammar.specs.Token.{Apart}
+use Rattle.grammar.specs.Token.{NoWordByte}
 use Rattle.grammar.proofs.Words.{WordBytes}
 use Rattle.typed.specs.Words.{WordAt, UnknownAt}
 
@@ -96,12 +95,12 @@ module _ (P : List ℕ → Type 0) where
 
   -- ---- a whole word before what begins with no word's byte
 
-  behind : (w : List ℕ) (more : List ℕ) → Ended w → Apart more → Worded [] more → Worded w more
+  behind : (w : List ℕ) (more : List ℕ) → Ended w → NoWordByte more → Worded [] more → Worded w more
   unfolding Worded
   behind w [] e a m = e
   behind w (b ∷ more) e a m = let r : Worded [] more = subst (λ (c : Bool). Byte c (Worded (b ∷ []) more) (Unit {0} × Worded [] more)) a m .1 in rw a (e, r)
 
-  grown : (v w more : List ℕ) → WordBytes w → Ended (v ++ w) → Apart more → Worded [] more → Worded v (w ++ more)
+  grown : (v w more : List ℕ) → WordBytes w → Ended (v ++ w) → NoWordByte more → Worded [] more → Worded v (w ++ more)
   unfolding Worded
   grown v [] more b e a m = behind v more (rw append-nil at e) a m
   grown v (x ∷ w) more b e a m =
@@ -125,7 +124,7 @@ module _ (names : List (List ℕ)) where
   AllListed (binary op l r) = AllListed l × AllListed r
 
   abbrev Wording : List ℕ → Type 0
-  Wording t = (more : List ℕ) → Apart more → Worded Known [] more → Worded Known [] (t ++ more)
+  Wording t = (more : List ℕ) → NoWordByte more → Worded Known [] more → Worded Known [] (t ++ more)
 
   known-ended : (w : List ℕ) → Known w → Ended Known w
   known-ended [] k = tt

@@ -6,7 +6,7 @@ use mathlib.Core.List.{List, []}
 use Prim.Native.Nat.{ℕ, _+_, _*_, _≤_, _<_, min}
 use native.Mathlib.Omega.{arith}
 use lib.ListN.{length, getD}
-use Rattle.words.specs.Masked.{Placed}
+use Rattle.words.specs.Masked.{PlacesOn}
 use Rattle.words.specs.Word.{width, At, Means}
 use Rattle.sequence.specs.Operators.{Unary, Binary, unaryCode, binaryCode}
 use Rattle.sequence.specs.Masked.{unaryMasked, binaryMasked}
@@ -14,10 +14,9 @@ use Rattle.rules.specs.Limits.{mostSessions, mostPropositions}
 use Rattle.formula.specs.Formula.{Leaf}
 use Rattle.formula.specs.Nodes.{leafCode}
 use Rattle.formula.specs.Rule.{IsUnary, IsBinary}
-use Rattle.loops.specs.Loops.{Filled}
-use Rattle.rows.specs.Rows.{Told, Reads, RowIs, RowsAsk, RowsAnswer}
-use Rattle.loops.specs.Loops.{UnaryRow, BinaryRow}
-use Rattle.rows.specs.Inner.{part, UnaryAnswer, BinaryAnswer, LeafAnswer}
+use Rattle.loops.specs.Loops.{Filled, Told, UnaryRow, BinaryRow}
+use Rattle.rows.specs.Rows.{ReadThere, RowIs, RowsAsk, RowsAnswer}
+use Rattle.rows.specs.Inner.{wordsFrom, UnaryRowsAnswer, BinaryRowsAnswer, LeafAnswer}
 use Rattle.loops.proofs.Filling.{filled-as}
 use Rattle.rows.proofs.Parts.{part-at}
 use Rattle.rows.proofs.Groups.{unary-or-binary, unary-or-leaf, binary-or-leaf, unary-same, binary-same}
@@ -26,37 +25,37 @@ use Rattle.rows.proofs.Groups.{unary-or-binary, unary-or-leaf, binary-o
 abbrev pub LeafWord : ℕ → List ℕ → List ℕ → ℕ → ℕ → Leaf → ℕ → Type 0
 LeafWord m masks words left j (Leaf.proposition p) w = w ≡ getD words (j * m + left) 0
 LeafWord m masks words left j (Leaf.constant false) w = w ≡ 0
-LeafWord m masks words left j (Leaf.constant true) w = Means width w (Placed (At (getD masks j 0)))
+LeafWord m masks words left j (Leaf.constant true) w = Means width w (PlacesOn (At (getD masks j 0)))
 
 module _ {r m : ℕ} {masks words matrices : List ℕ} {code left right : ℕ} where
   -- ---- what is read
 
-  pub unary-reads : IsUnary code → Reads r m masks words matrices code left right → left * r + r ≤ length matrices
-  unary-reads u (Reads.unary op e h) = h
-  unary-reads u (Reads.binary op e h l) = absurd (unary-or-binary (u .0) op (u .1 ∙ sym e))
-  unary-reads u (Reads.proposition e a b c) = absurd (unary-or-leaf (u .0) (Leaf.proposition left) (u .1 ∙ sym e))
-  unary-reads u (Reads.constant b e) = absurd (unary-or-leaf (u .0) (Leaf.constant b) (u .1 ∙ sym e))
+  pub unary-reads : IsUnary code → ReadThere r m masks words matrices code left right → left * r + r ≤ length matrices
+  unary-reads u (ReadThere.unary op e h) = h
+  unary-reads u (ReadThere.binary op e h l) = absurd (unary-or-binary (u .0) op (u .1 ∙ sym e))
+  unary-reads u (ReadThere.proposition e a b c) = absurd (unary-or-leaf (u .0) (Leaf.proposition left) (u .1 ∙ sym e))
+  unary-reads u (ReadThere.constant b e) = absurd (unary-or-leaf (u .0) (Leaf.constant b) (u .1 ∙ sym e))
 
-  pub binary-reads : IsBinary code → Reads r m masks words matrices code left right → (left * r + r ≤ length matrices) × (right * r + r ≤ length matrices)
-  binary-reads u (Reads.unary op e h) = absurd (unary-or-binary op (u .0) (e ∙ sym (u .1)))
-  binary-reads u (Reads.binary op e h l) = (h, l)
-  binary-reads u (Reads.proposition e a b c) = absurd (binary-or-leaf (u .0) (Leaf.proposition left) (u .1 ∙ sym e))
-  binary-reads u (Reads.constant b e) = absurd (binary-or-leaf (u .0) (Leaf.constant b) (u .1 ∙ sym e))
+  pub binary-reads : IsBinary code → ReadThere r m masks words matrices code left right → (left * r + r ≤ length matrices) × (right * r + r ≤ length matrices)
+  binary-reads u (ReadThere.unary op e h) = absurd (unary-or-binary op (u .0) (e ∙ sym (u .1)))
+  binary-reads u (ReadThere.binary op e h l) = (h, l)
+  binary-reads u (ReadThere.proposition e a b c) = absurd (binary-or-leaf (u .0) (Leaf.proposition left) (u .1 ∙ sym e))
+  binary-reads u (ReadThere.constant b e) = absurd (binary-or-leaf (u .0) (Leaf.constant b) (u .1 ∙ sym e))
 
-  pub proposition-reads : (IsUnary code → ⊥) → (IsBinary code → ⊥) → code ≡ 16 → Reads r m masks words matrices code left right
+  pub proposition-reads : (IsUnary code → ⊥) → (IsBinary code → ⊥) → code ≡ 16 → ReadThere r m masks words matrices code left right
       → (m ≤ mostPropositions) × (left < m) × (m * r ≤ length words)
-  proposition-reads u v p (Reads.unary op e h) = absurd (u (op, e))
-  proposition-reads u v p (Reads.binary op e h l) = absurd (v (op, e))
-  proposition-reads u v p (Reads.proposition e a b c) = (a, b, c)
-  proposition-reads u v p (Reads.constant false e) = absurd (omega arith)
-  proposition-reads u v p (Reads.constant true e) = absurd (omega arith)
+  proposition-reads u v p (ReadThere.unary op e h) = absurd (u (op, e))
+  proposition-reads u v p (ReadThere.binary op e h l) = absurd (v (op, e))
+  proposition-reads u v p (ReadThere.proposition e a b c) = (a, b, c)
+  proposition-reads u v p (ReadThere.constant false e) = absurd (omega arith)
+  proposition-reads u v p (ReadThere.constant true e) = absurd (omega arith)
 
-  pub no-leaf : (IsUnary code → ⊥) → (IsBinary code → ⊥) → (code ≡ 16 → ⊥) → (code ≡ 17 → ⊥) → (code ≡ 18 → ⊥) → Reads r m masks words matrices code left right → ⊥
-  no-leaf u v p q s (Reads.unary op e h) = u (op, e)
-  no-leaf u v p q s (Reads.binary op e h l) = v (op, e)
-  no-leaf u v p q s (Reads.proposition e a b c) = p (sym e)
-  no-leaf u v p q s (Reads.constant false e) = q (sym e)
-  no-leaf u v p q s (Reads.constant true e) = s (sym e)
+  pub no-leaf : (IsUnary code → ⊥) → (IsBinary code → ⊥) → (code ≡ 16 → ⊥) → (code ≡ 17 → ⊥) → (code ≡ 18 → ⊥) → ReadThere r m masks words matrices code left right → ⊥
+  no-leaf u v p q s (ReadThere.unary op e h) = u (op, e)
+  no-leaf u v p q s (ReadThere.binary op e h l) = v (op, e)
+  no-leaf u v p q s (ReadThere.proposition e a b c) = p (sym e)
+  no-leaf u v p q s (ReadThere.constant false e) = q (sym e)
+  no-leaf u v p q s (ReadThere.constant true e) = s (sym e)
 
   -- ---- what a row is
 
@@ -97,19 +96,19 @@ module _ {r m : ℕ} {masks words matrices : List ℕ} {code left right : ℕ} w
 
   module _ {old new : List ℕ} where
     pub proposition-told : {p : ℕ} → code ≡ 16 → m ≤ mostPropositions → left < m → m * r ≤ length words → p ≡ min left 255
-        → Filled r old (λ j w. w ≡ getD words (j * m + p) 0) new → Told (Reads r m masks words matrices code left right)
+        → Filled r old (λ j w. w ≡ getD words (j * m + p) 0) new → Told (ReadThere r m masks words matrices code left right)
         (Filled r old (RowIs r m masks words matrices code left right) new) (new ≡ old) true
     proposition-told {p} e a b c q f =
         let n : p ≡ left = omega arith in
-        (Reads.proposition (sym e) a b c, filled-as (λ j w l h. RowIs.proposition (sym e) (h ∙ ap (λ (x : ℕ). getD words (j * m + x) 0) n)) f)
+        (ReadThere.proposition (sym e) a b c, filled-as (λ j w l h. RowIs.proposition (sym e) (h ∙ ap (λ (x : ℕ). getD words (j * m + x) 0) n)) f)
 
-    pub false-told : code ≡ 17 → Filled r old (λ j w. w ≡ 0) new → Told (Reads r m masks words matrices code left right)
+    pub false-told : code ≡ 17 → Filled r old (λ j w. w ≡ 0) new → Told (ReadThere r m masks words matrices code left right)
         (Filled r old (RowIs r m masks words matrices code left right) new) (new ≡ old) true
-    false-told e f = (Reads.constant false (sym e), filled-as (λ j w l h. RowIs.none (sym e) h) f)
+    false-told e f = (ReadThere.constant false (sym e), filled-as (λ j w l h. RowIs.none (sym e) h) f)
 
-    pub true-told : code ≡ 18 → Filled r old (λ j w. Means width w (Placed (At (getD masks j 0)))) new → Told
-        (Reads r m masks words matrices code left right) (Filled r old (RowIs r m masks words matrices code left right) new) (new ≡ old) true
-    true-told e f = (Reads.constant true (sym e), filled-as (λ j w l h. RowIs.all (sym e) h) f)
+    pub true-told : code ≡ 18 → Filled r old (λ j w. Means width w (PlacesOn (At (getD masks j 0)))) new → Told
+        (ReadThere r m masks words matrices code left right) (Filled r old (RowIs r m masks words matrices code left right) new) (new ≡ old) true
+    true-told e f = (ReadThere.constant true (sym e), filled-as (λ j w l h. RowIs.all (sym e) h) f)
 
 -- ---- from the groups to the candidate
 
@@ -120,26 +119,26 @@ module _ (r m : ℕ) (masks words matrices : List ℕ) (code left right : ℕ) (
   abbrev Answer : Bool → Type 0
   Answer = RowsAnswer r m masks words matrices code left right old new
 
-  asks : Reads r m masks words matrices code left right → RowsAsk r m masks words matrices code left right old
+  asks : ReadThere r m masks words matrices code left right → RowsAsk r m masks words matrices code left right old
   asks q = record { sessions-in = s; masks-there = k; rows-there = o; reads = q }
 
-  unary-row : IsUnary code → left * r + r ≤ length matrices → (j w : ℕ) → j < r → UnaryRow code masks (part matrices (left * r)) j w → Is j w
+  unary-row : IsUnary code → left * r + r ≤ length matrices → (j w : ℕ) → j < r → UnaryRow code masks (wordsFrom matrices (left * r)) j w → Is j w
   unary-row u h j w l (op, e, p) =
       RowIs.unary op e (subst (λ (x : ℕ). Means width w (unaryMasked op (At (getD masks j 0)) (At x))) (part-at matrices (left * r) j (omega arith)) p)
 
-  pub unary-told : IsUnary code → (b : Bool) → UnaryAnswer r masks matrices code left old new b → Answer b
-  unary-told u true g = (asks (Reads.unary (u .0) (u .1) (g .0)), filled-as (unary-row u (g .0)) (g .1))
+  pub unary-told : IsUnary code → (b : Bool) → UnaryRowsAnswer r masks matrices code left old new b → Answer b
+  unary-told u true g = (asks (ReadThere.unary (u .0) (u .1) (g .0)), filled-as (unary-row u (g .0)) (g .1))
   unary-told u false g = (λ a. g .0 (unary-reads u (a .reads)), g .1)
 
   binary-row : IsBinary code → left * r + r ≤ length matrices → right * r + r ≤ length matrices → (j w : ℕ) → j < r
-      → BinaryRow code masks (part matrices (left * r)) (part matrices (right * r)) j w → Is j w
+      → BinaryRow code masks (wordsFrom matrices (left * r)) (wordsFrom matrices (right * r)) j w → Is j w
   binary-row u h h′ j w l (op, e, p) =
       RowIs.binary op e
       (subst (λ (x : ℕ). Means width w (binaryMasked op (At (getD masks j 0)) (At x) (At (getD matrices (right * r + j) 0)))) (part-at matrices (left * r) j (omega arith))
-      (subst (λ (y : ℕ). Means width w (binaryMasked op (At (getD masks j 0)) (At (getD (part matrices (left * r)) j 0)) (At y))) (part-at matrices (right * r) j (omega arith)) p))
+      (subst (λ (y : ℕ). Means width w (binaryMasked op (At (getD masks j 0)) (At (getD (wordsFrom matrices (left * r)) j 0)) (At y))) (part-at matrices (right * r) j (omega arith)) p))
 
-  pub binary-told : IsBinary code → (b : Bool) → BinaryAnswer r masks matrices code left right old new b → Answer b
-  binary-told u true g = (asks (Reads.binary (u .0) (u .1) (g .0 .0) (g .0 .1)), filled-as (binary-row u (g .0 .0) (g .0 .1)) (g .1))
+  pub binary-told : IsBinary code → (b : Bool) → BinaryRowsAnswer r masks matrices code left right old new b → Answer b
+  binary-told u true g = (asks (ReadThere.binary (u .0) (u .1) (g .0 .0) (g .0 .1)), filled-as (binary-row u (g .0 .0) (g .0 .1)) (g .1))
   binary-told u false g = (λ a. g .0 (binary-reads u (a .reads)), g .1)
 
   module _ (u : IsUnary code → ⊥) (v : IsBinary code → ⊥) where
@@ -150,17 +149,17 @@ module _ (r m : ℕ) (masks words matrices : List ℕ) (code left right : ℕ) (
     leaf-row j w (RowIs.none e p) = RowIs.none e p
     leaf-row j w (RowIs.all e p) = RowIs.all e p
 
-    leaf-reads : Reads r m masks words [] code left 0 → Reads r m masks words matrices code left right
-    leaf-reads (Reads.unary op e h) = absurd (u (op, e))
-    leaf-reads (Reads.binary op e h l) = absurd (v (op, e))
-    leaf-reads (Reads.proposition e a b c) = Reads.proposition e a b c
-    leaf-reads (Reads.constant b e) = Reads.constant b e
+    leaf-reads : ReadThere r m masks words [] code left 0 → ReadThere r m masks words matrices code left right
+    leaf-reads (ReadThere.unary op e h) = absurd (u (op, e))
+    leaf-reads (ReadThere.binary op e h l) = absurd (v (op, e))
+    leaf-reads (ReadThere.proposition e a b c) = ReadThere.proposition e a b c
+    leaf-reads (ReadThere.constant b e) = ReadThere.constant b e
 
-    read-leaf : Reads r m masks words matrices code left right → Reads r m masks words [] code left 0
-    read-leaf (Reads.unary op e h) = absurd (u (op, e))
-    read-leaf (Reads.binary op e h l) = absurd (v (op, e))
-    read-leaf (Reads.proposition e a b c) = Reads.proposition e a b c
-    read-leaf (Reads.constant b e) = Reads.constant b e
+    read-leaf : ReadThere r m masks words matrices code left right → ReadThere r m masks words [] code left 0
+    read-leaf (ReadThere.unary op e h) = absurd (u (op, e))
+    read-leaf (ReadThere.binary op e h l) = absurd (v (op, e))
+    read-leaf (ReadThere.proposition e a b c) = ReadThere.proposition e a b c
+    read-leaf (ReadThere.constant b e) = ReadThere.constant b e
 
     pub leaf-told : (b : Bool) → LeafAnswer r m masks words code left old new b → Answer b
     leaf-told true g = (asks (leaf-reads (g .0)), filled-as (λ j w l p. leaf-row j w p) (g .1))

@@ -1,5 +1,4 @@
 -- Laws of a candidate's rows, by subject.
-pub mod Products
 pub mod Parts
 pub mod Groups
 pub mod Candidates

@@ -1,13 +1,13 @@
 -- A candidate's rows as a list: for an input that passes, they are the walk's matrix.
 -- Assumes nothing.
 use mathlib.Core.Path.{_≡_, refl, sym, ap, ap₂, _∙_, subst}
-use mathlib.Core.Bool.{Bool, true, false, true≢false}
+use mathlib.Core.Bool.{true, false, true≢false}
 use mathlib.Core.List.{List, [], _∷_, map}
 use Prim.Native.Nat.{ℕ, zero, suc, _+_, _*_, _≤_, _<_}
 use native.Mathlib.Omega.{arith}
 use lib.ListN.{length, getD, take}
 use lib.Seq.{ext-getD, length-take-le, getD-take}
-use Rattle.words.specs.Masked.{Placed}
+use Rattle.words.specs.Masked.{PlacesOn}
 use Rattle.words.specs.Word.{width, At, WfComputed, Means}
 use Rattle.words.proofs.Bits.{bit-zero}
 use Rattle.words.proofs.At.{means-unique, means, recorded-computed}
@@ -24,11 +24,11 @@ use Rattle.walk.specs.Kept.{Table}
 use Rattle.walk.proofs.Reading.{row-rows}
 use Rattle.walk.proofs.Rows.{unary-row-means, binary-row-means, constant-row-means, unary-row-only, binary-row-only}
 use Rattle.loops.specs.Loops.{Filled}
-use Rattle.rows.specs.Rows.{MaskOf, Reads, RowIs, RowsAsk}
-use Rattle.rows.specs.Formulas.{matrixAt, LeafIn, Makes, made, Fine, Stored, Masks}
+use Rattle.rows.specs.Rows.{ReadThere, RowIs, RowsAsk}
+use Rattle.rows.specs.Formulas.{matrixAt, Makes, made, Fine, Stored, Masks}
 use Rattle.rows.specs.Promises.{MasksMade, RowsMade, MadeFine}
 use Rattle.rows.proofs.Candidates.{unary-is, binary-is, leaf-is}
-use Rattle.rows.proofs.Products.{place-end}
+use Rattle.leaves.proofs.Products.{place-end}
 
 -- ---- the rows
 
@@ -60,7 +60,7 @@ masks-made i ok old new false h a = absurd (a .0 (record { sessions-in = ok .ses
 false-row : (n : ℕ) → n ≤ width → 0 ≡ constantRow false n
 false-row n h = means-unique (means h (λ i a. absurd (omega (arith, bit-zero i))) (λ i l q. absurd (true≢false (sym q)))) (constant-row-means false h)
 
-true-row : (n m w : ℕ) → n ≤ width → Mask n m → Means width w (Placed (At m)) → w ≡ constantRow true n
+true-row : (n m w : ℕ) → n ≤ width → Mask n m → Means width w (PlacesOn (At m)) → w ≡ constantRow true n
 true-row n m w h k p = means-unique (places-cut h k p (λ i. refl)) (constant-row-means true h)
 
 module _ {i : Input} (ok : Passes i) {k : Table} {masks matrices : List ℕ} (ms : Masks i masks) (st : Stored i k matrices) where
@@ -93,12 +93,12 @@ module _ {i : Input} (ok : Passes i) {k : Table} {masks matrices : List ℕ} (ms
   -- ---- the matrix
 
   module _ {code left right : ℕ} (c : Makes (i .recording .propositions) (length k) code left right) where
-    reads : Makes (i .recording .propositions) (length k) code left right → Reads r (i .recording .propositions) masks (i .recording .words) matrices code left right
+    reads : Makes (i .recording .propositions) (length k) code left right → ReadThere r (i .recording .propositions) masks (i .recording .words) matrices code left right
     reads (Makes.leaf (proposition p) e n z h) =
-        Reads.proposition (ap (λ (q : ℕ). leafCode (proposition q)) (sym n) ∙ e) (ok .propositions-in .1) (omega arith) (ok .words-there)
-    reads (Makes.leaf (constant b) e n z h) = Reads.constant b e
-    reads (Makes.unary op e h z) = Reads.unary op e (omega (arith, place-end left (length k) r h, st .there))
-    reads (Makes.binary op e h h′) = Reads.binary op e (omega (arith, place-end left (length k) r h, st .there)) (omega (arith, place-end right (length k) r h′, st .there))
+        ReadThere.proposition (ap (λ (q : ℕ). leafCode (proposition q)) (sym n) ∙ e) (ok .propositions-in .1) (omega arith) (ok .words-there)
+    reads (Makes.leaf (constant b) e n z h) = ReadThere.constant b e
+    reads (Makes.unary op e h z) = ReadThere.unary op e (omega (arith, place-end left (length k) r h, st .there))
+    reads (Makes.binary op e h h′) = ReadThere.binary op e (omega (arith, place-end left (length k) r h, st .there)) (omega (arith, place-end right (length k) r h′, st .there))
 
     module _ {old : List ℕ} (o : r ≤ length old) where
       asks : RowsAsk r (i .recording .propositions) masks (i .recording .words) matrices code left right old

@@ -6,25 +6,21 @@ use Prim.Native.Nat.{ℕ, _+_, _*_, _≤_, _<_}
 use lib.ListN.{length, getD}
 use Rattle.words.specs.Word.{WfComputed}
 use Rattle.sequence.specs.Operators.{Unary, Binary, unaryCode, binaryCode}
-use Rattle.formula.specs.Formula.{Leaf, proposition, constant}
+use Rattle.formula.specs.Formula.{Leaf}
 use Rattle.formula.specs.Nodes.{leafCode, leafNumber}
 use Rattle.walk.specs.Walk.{Candidate}
 use Rattle.walk.specs.Input.{Input, row, offer}
 use Rattle.session.specs.Recording.{lengthOf}
 use Rattle.walk.specs.Kept.{Table}
-use Rattle.rows.specs.Rows.{MaskOf}
+use Rattle.masks.specs.Masks.{MaskOf}
+use Rattle.formula.specs.Faultless.{LeafIn}
 
 -- a formula beyond the list, never looked at
-abbrev pub nothing : Candidate (List ℕ)
-nothing = record { node = record { code = 0; left = 0; right = 0; size = 0 }; matrix = [] }
+abbrev pub noCandidate : Candidate (List ℕ)
+noCandidate = record { node = record { code = 0; left = 0; right = 0; size = 0 }; matrix = [] }
 
 abbrev pub matrixAt : Table → ℕ → List ℕ
-matrixAt k p = getD k p nothing .matrix
-
--- the leaf is a proposition of the m, or a constant
-abbrev pub LeafIn : ℕ → Leaf → Type 0
-LeafIn m (proposition p) = p < m
-LeafIn m (constant b) = Unit {0}
+matrixAt k p = getD k p noCandidate .matrix
 
 -- a candidate over m propositions and so many kept formulas: the code is a leaf's or an operator's, and the fields are as they are for it,
 -- "unused fields are 0, and a proposition's number is its left field"

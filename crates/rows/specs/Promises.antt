@@ -8,7 +8,8 @@ use Prim.Native.Nat.{ℕ, _≤_}
 use lib.ListN.{length, take}
 use Rattle.walk.specs.Input.{Input, Passes}
 use Rattle.walk.specs.Kept.{Table}
-use Rattle.rows.specs.Rows.{MasksAnswer, RowsAnswer}
+use Rattle.masks.specs.Masks.{MasksAnswer}
+use Rattle.rows.specs.Rows.{RowsAnswer}
 use Rattle.rows.specs.Formulas.{Makes, made, Fine, Stored, Masks}
 
 -- the masks are written

@@ -1,31 +1,13 @@
-// A candidate's matrix (cm.rs): its r rows, over those of its children in a lent slice. Every function tests the numbers that it is handed, once for a
+// A candidate's matrix (cm.rs): its r rows, over those of its children in a lent slice. The function tests the numbers that it is handed, once for a
 // candidate, and says so where they are out of range; the loops behind it are private.
 mod binary;
-mod leaves;
-mod masks;
+mod leaf;
 mod unary;
 
 use operators::Group;
 use operators::operator_of;
 use rules::kinds::Place;
-ghost use Rattle.rows.specs.Rows.{MasksAnswer, RowsAnswer};
-
-// Writes the masks of r sessions, once for a search. False where r is above the most sessions or a slice is shorter.
-pub fn masks_of(r: usize, lengths: &[u8], masks: &mut [u64]) -> bool
-    ensures { λ b. ⌜ MasksAnswer r (now (lengths .entry)) (now (masks .entry)) (now (masks .exit)) b ⌝ }
-{
-    if rules::SESSIONS < r {
-        return false;
-    }
-    if lengths.len() < r {
-        return false;
-    }
-    if masks.len() < r {
-        return false;
-    }
-    masks::fill(r, lengths, masks);
-    true
-}
+ghost use Rattle.rows.specs.Rows.{RowsAnswer};
 
 // Writes the matrix of the candidate with that code, left and right field: the operator's words over those of its children, which are kept, or a
 // leaf's. False where the code is no operator's and no leaf's, or what it reads isn't there.
@@ -55,6 +37,6 @@ pub fn rows_of(
     match group {
         Group::Unary => unary::rows_of(r, masks, matrices, code, left, rows),
         Group::Binary => binary::rows_of(r, masks, matrices, code, left, right, rows),
-        Group::Neither => leaves::rows_of(r, m, masks, words, code, left, rows),
+        Group::Neither => leaf::rows_of(r, m, masks, words, code, left, rows),
     }
 }

@@ -31,6 +31,13 @@ decided-both [] more a b n p q = rw p q
 decided-both (row ∷ rows) more a b n (inl p) q = inl (p .0, first-some a b (subst (λ (k : ℕ). 0 < k) (sym (p .1)) (n .0)) ∙ p .1)
 decided-both (row ∷ rows) more a b n (inr p) q = inr (p .0, decided-both rows more a b (n .1) (p .1) q)
 
+-- a number that is decided stays, whatever comes after
+pub decided-early : (rows more : List Row) (a : ℕ) → Decided rows a → (a ≡ 0 → ⊥) → Decided (rows ++ more) a
+unfolding Decided
+decided-early [] more a d n = absurd (n d)
+decided-early (row ∷ rows) more a (inl p) n = inl p
+decided-early (row ∷ rows) more a (inr p) n = inr (p .0, decided-early rows more a (p .1) n)
+
 -- a row decides by itself
 pub decided-given : (row : Row) → row .given → Decided (row ∷ []) (row .number)
 unfolding Decided

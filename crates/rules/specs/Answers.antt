@@ -1,5 +1,6 @@
 -- What any operation answers, in document 01's terms, and what it leaves in a lent slice.
 -- Assumes nothing.
+use mathlib.Core.Bool.{Bool, true, false}
 use mathlib.Core.List.{List, _++_}
 use Prim.Native.Nat.{ℕ}
 use lib.ListN.{length, drop}
@@ -12,3 +13,8 @@ pub record Said : Type 0 where
 -- new contents at the front; "in any lent slice what no rule writes stays"
 abbrev pub over : List ℕ → List ℕ → List ℕ
 over new old = new ++ drop (length new) old
+
+-- what a test says: a fact, or its refutation
+abbrev pub Tested : Type 0 → Bool → Type 0
+Tested fact true = fact
+Tested fact false = fact → ⊥

@@ -8,7 +8,7 @@ use stored::say;
 
 // What the bench writes for this file with this room.
 fn say_lines(file: &[u8], room: usize) {
-    let mut text = [0u8; 512];
+    let mut text = [0u8; lines::LONGEST];
     let length = lines::of_file(file, room, &mut text);
     say(&text[..length]);
 }

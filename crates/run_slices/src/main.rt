@@ -4,7 +4,7 @@ use libc::STDOUT_FILENO;
 use slices::Resumed;
 use slices::fresh;
 use slices::resume;
-use slices::state::State;
+use state::State;
 
 fn say(text: &[u8]) {
     io::write_all(STDOUT_FILENO, text);

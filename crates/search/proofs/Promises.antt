@@ -9,7 +9,7 @@ use lib.ListN.{length}
 use Rattle.rules.specs.Refusals.{Decided}
 use Rattle.rules.proofs.Refusals.{decided-unique}
 use Rattle.rules.specs.Answers.{Said}
-use Rattle.walk.specs.Walk.{Ending, found, full, none, Tally, tally, State, ended, kept}
+use Rattle.walk.specs.Walk.{Ending, found, full, none, Tally, tally, WalkState, ended, kept}
 use Rattle.walk.specs.Input.{Input, Passes, search}
 use Rattle.walk.specs.Kept.{Table}
 use Rattle.walk.proofs.Promises as walk
@@ -19,13 +19,14 @@ use Rattle.walk.proofs.Position.{tried-is-position as walk-tried}
 use Rattle.walk.proofs.Dropped.{tried-adds-up as walk-adds}
 use Rattle.formula.specs.declared.kinds.Node.{Node}
 use Rattle.formula.specs.Kinds.{nodeOf}
-use Rattle.candidate.specs.declared.counts.Counts.{Counts}
+use Rattle.counting.specs.declared.Counts.{Counts}
 use Rattle.search.specs.declared.SearchAnswer.{SearchAnswer}
 use Rattle.search.specs.declared.SearchAnswer.the-variants.{Found, None, Full, Refused}
 use Rattle.search.specs.Table.{Cols, tableOver}
 use Rattle.checks.specs.Refusals.{searchRows}
-use Rattle.search.specs.Search.{tallyOf, counts, said, walkSaid, endSaid, foundSaid, noneSaid, fullSaid, Searched}
-use Rattle.search.specs.Promises.{Unique, SameWhereRead, Holding, FoundSmallest, NoneMeansNone, FullNeedsRoom, LargerSame, TriedIsPosition, TriedAddsUp}
+use Rattle.search.specs.Search.{tallyOf, counts, saidSearch, walkSaid, endSaid, foundSaid, noneSaid, fullSaid, Searched}
+use Rattle.search.specs.Promises.{SearchUnique, SearchSameWhereRead, Holding, SearchFoundSmallest, SearchNoneMeansNone, SearchFullNeedsRoom, SearchLargerSame}
+use Rattle.search.specs.Promises.{SearchTriedIsPosition, SearchTriedAddsUp}
 use Rattle.checks.proofs.Passing.{search-passes, decided-same}
 
 -- ---- any two results for the same input are equal
@@ -46,7 +47,7 @@ same-counts a b e f g =
 same-tally : (a b : Tally) → a .tried ≡ b .tried → a .dropped ≡ b .dropped → a ≡ b
 same-tally a b e f = ap₂ tally e f
 
-pub said-same : (a b : SearchAnswer) → said a ≡ said b → a ≡ b
+pub said-same : (a b : SearchAnswer) → saidSearch a ≡ saidSearch b → a ≡ b
 said-same (Found n c) (Found n′ c′) e =
     let v = values e in
     let p : n .code ≡ n′ .code = cc v in
@@ -77,17 +78,17 @@ said-same (Refused k) (Full s′ c′) e = let v = values e in let z : _≡_ {A 
 said-same (Refused k) (Refused k′) e = ap Refused (ap (λ (x : Said). x .number) e)
 
 module _ {i : Input} {t : Cols} where
-  one-number : {a b : SearchAnswer} {u v : Cols} → Searched i t a u → Searched i t b v → said a .number ≡ said b .number
+  one-number : {a b : SearchAnswer} {u v : Cols} → Searched i t a u → Searched i t b v → saidSearch a .number ≡ saidSearch b .number
   one-number p q = decided-unique (searchRows i t) _ _ (p .decided) (q .decided)
 
   -- an answer that is no refusal is the walk's
-  answered : (a : SearchAnswer) (u : Cols) → said a .number ≡ 0 → Searched i t a u → (said a ≡ walkSaid (search i)) × (u ≡ tableOver (kept (search i)) t)
+  answered : (a : SearchAnswer) (u : Cols) → saidSearch a .number ≡ 0 → Searched i t a u → (saidSearch a ≡ walkSaid (search i)) × (u ≡ tableOver (kept (search i)) t)
   answered (Found n c) u e w = w .outcome
   answered (None c) u e w = w .outcome
   answered (Full s c) u e w = w .outcome
   answered (Refused k) u e w = absurd (omega (arith, w .outcome .0, e))
 
-  same : (a b : SearchAnswer) (u v : Cols) → said a .number ≡ 0 → Searched i t a u → Searched i t b v → (a ≡ b) × (u ≡ v)
+  same : (a b : SearchAnswer) (u v : Cols) → saidSearch a .number ≡ 0 → Searched i t a u → Searched i t b v → (a ≡ b) × (u ≡ v)
   same a b u v e p q =
       let x = answered a u e p in
       let y = answered b v (sym (one-number p q) ∙ e) q in
@@ -104,24 +105,24 @@ module _ {i : Input} {t : Cols} where
   unique (Full s c) b u v p q = same (Full s c) b u v refl p q
 
 -- (a) of document 01's "How tight the statements have to be"
-pub search-unique : Unique
+pub search-unique : SearchUnique
 search-unique i t a b u v p q = unique a b u v p q
 
 -- the answers to two inputs whose walks are one, where neither is a refusal
-same-answers : (i j : Input) (t : Cols) (a b : SearchAnswer) (u v : Cols) → search i ≡ search j → said a .number ≡ 0 → said b .number ≡ 0
+same-answers : (i j : Input) (t : Cols) (a b : SearchAnswer) (u v : Cols) → search i ≡ search j → saidSearch a .number ≡ 0 → saidSearch b .number ≡ 0
     → Searched i t a u → Searched j t b v → (a ≡ b) × (u ≡ v)
 same-answers i j t a b u v e f g p q =
     let x = answered {i = i} a u f p in
     let y = answered {i = j} b v g q in (
       said-same a b (x .0 ∙ ap walkSaid e ∙ sym (y .0)),
-      x .1 ∙ ap (λ (st : State (List ℕ)). tableOver (kept st) t) e ∙ sym (y .1),
+      x .1 ∙ ap (λ (st : WalkState (List ℕ)). tableOver (kept st) t) e ∙ sym (y .1),
     )
 
-pub same-where-read : SameWhereRead
-same-where-read i j s x y t a b u v p q =
+pub search-same-where-read : SearchSameWhereRead
+search-same-where-read i j s x y t a b u v p q =
     go a b p q (decided-unique (searchRows j t) _ _ (decided-same i j s x y t _ (p .decided)) (q .decided))
   where
-    go : (a b : SearchAnswer) → Searched i t a u → Searched j t b v → said a .number ≡ said b .number → (a ≡ b) × (u ≡ v)
+    go : (a b : SearchAnswer) → Searched i t a u → Searched j t b v → saidSearch a .number ≡ saidSearch b .number → (a ≡ b) × (u ≡ v)
     go (Refused k) (Refused l) p q e = (ap Refused e, p .outcome .1 ∙ sym (q .outcome .1))
     go (Refused k) (Found n c) p q e = absurd (omega (arith, p .outcome .0))
     go (Refused k) (None c) p q e = absurd (omega (arith, p .outcome .0))
@@ -178,33 +179,33 @@ holding : (i : Input) (t u : Cols) (n : ℕ) (e : Ending) (k : Table) (m : Tally
     → Holding i t u n k
 holding i t u n e k m ok w l h = record {
   as-many = l;
-  holds = h ∙ ap (λ (st : State (List ℕ)). tableOver (kept st) t) w;
+  holds = h ∙ ap (λ (st : WalkState (List ℕ)). tableOver (kept st) t) w;
   formulas = walk.kept-distinct i ok e k m w;
 }
 
-pub found-smallest : FoundSmallest
-found-smallest i t u root c w =
+pub search-found-smallest : SearchFoundSmallest
+search-found-smallest i t u root c w =
     let (e, k, m, q) = walk.walk-ends i in
     let ok = search-passes i t (w .decided) in
     let (p, l) = found-end i root c e k m q (w .outcome .0 ∙ ap walkSaid q) in
     (k, holding i t u (c .kept) (found (nodeOf root)) k (tallyOf c) ok p l (w .outcome .1), walk.found-smallest i ok (nodeOf root) k (tallyOf c) p)
 
-pub none-means-none : NoneMeansNone
-none-means-none i t u c w =
+pub search-none-means-none : SearchNoneMeansNone
+search-none-means-none i t u c w =
     let (e, k, m, q) = walk.walk-ends i in
     let ok = search-passes i t (w .decided) in
     let (p, l) = none-end i c e k m q (w .outcome .0 ∙ ap walkSaid q) in
     (k, holding i t u (c .kept) none k (tallyOf c) ok p l (w .outcome .1), walk.none-means-none i ok k (tallyOf c) p)
 
-pub full-needs-room : FullNeedsRoom
-full-needs-room i t u s c w =
+pub search-full-needs-room : SearchFullNeedsRoom
+search-full-needs-room i t u s c w =
     let (e, k, m, q) = walk.walk-ends i in
     let ok = search-passes i t (w .decided) in
     let (p, l) = full-end i s c e k m q (w .outcome .0 ∙ ap walkSaid q) in
     (k, holding i t u (c .kept) (full s) k (tallyOf c) ok p l (w .outcome .1), walk.full-needs-room i ok s k (tallyOf c) p)
 
-pub larger-same : LargerSame
-larger-same i j wide t u root c w t′ a v z e =
+pub search-larger-same : SearchLargerSame
+search-larger-same i j wide t u root c w t′ a v z e =
     let (d, k, m, q) = walk.walk-ends i in
     let (p, l) = found-end i root c d k m q (w .outcome .0 ∙ ap walkSaid q) in
     let later = found-stays i j wide (nodeOf root) k (tallyOf c) p in
@@ -220,33 +221,33 @@ larger-same i j wide t u root c w t′ a v z e =
 
 -- ---- the counts
 
-pub tried-is-position : TriedIsPosition
-tried-is-position i t u (Found root c) w =
+pub search-tried-is-position : SearchTriedIsPosition
+search-tried-is-position i t u (Found root c) w =
     let (e, k, m, q) = walk.walk-ends i in
     let (p, l) = found-end i root c e k m q (w .outcome .0 ∙ ap walkSaid q) in
     let ok = search-passes i t (w .decided) in
     (k, holding i t u (c .kept) (found (nodeOf root)) k (tallyOf c) ok p l (w .outcome .1), walk-tried i (found (nodeOf root)) k (tallyOf c) p)
-tried-is-position i t u (None c) w =
+search-tried-is-position i t u (None c) w =
     let (e, k, m, q) = walk.walk-ends i in
     let (p, l) = none-end i c e k m q (w .outcome .0 ∙ ap walkSaid q) in
     (k, holding i t u (c .kept) none k (tallyOf c) (search-passes i t (w .decided)) p l (w .outcome .1), walk-tried i none k (tallyOf c) p)
-tried-is-position i t u (Full s c) w =
+search-tried-is-position i t u (Full s c) w =
     let (e, k, m, q) = walk.walk-ends i in
     let (p, l) = full-end i s c e k m q (w .outcome .0 ∙ ap walkSaid q) in
     (k, holding i t u (c .kept) (full s) k (tallyOf c) (search-passes i t (w .decided)) p l (w .outcome .1), walk-tried i (full s) k (tallyOf c) p)
-tried-is-position i t u (Refused n) w = tt
+search-tried-is-position i t u (Refused n) w = tt
 
-pub tried-adds-up : TriedAddsUp
-tried-adds-up i t u (Found root c) w =
+pub search-tried-adds-up : SearchTriedAddsUp
+search-tried-adds-up i t u (Found root c) w =
     let (e, k, m, q) = walk.walk-ends i in
     let (p, l) = found-end i root c e k m q (w .outcome .0 ∙ ap walkSaid q) in
     omega (arith, walk-adds i (found (nodeOf root)) k (tallyOf c) p)
-tried-adds-up i t u (None c) w =
+search-tried-adds-up i t u (None c) w =
     let (e, k, m, q) = walk.walk-ends i in
     let (p, l) = none-end i c e k m q (w .outcome .0 ∙ ap walkSaid q) in
     omega (arith, walk-adds i none k (tallyOf c) p)
-tried-adds-up i t u (Full s c) w =
+search-tried-adds-up i t u (Full s c) w =
     let (e, k, m, q) = walk.walk-ends i in
     let (p, l) = full-end i s c e k m q (w .outcome .0 ∙ ap walkSaid q) in
     omega (arith, walk-adds i (full s) k (tallyOf c) p)
-tried-adds-up i t u (Refused n) w = tt
+search-tried-adds-up i t u (Refused n) w = tt

@@ -6,7 +6,7 @@ use mathlib.Core.List.{List, [], _∷_, _++_}
 use Prim.Native.Nat.{ℕ, _+_, _<_}
 use native.Mathlib.Omega.{arith}
 use Rattle.rules.specs.Refusals.{Row, Decided}
-use Rattle.walk.specs.Walk.{found, none, full, State, kept}
+use Rattle.walk.specs.Walk.{found, none, full, WalkState, kept}
 use Rattle.walk.specs.Input.{Input}
 use Rattle.walk.specs.Cut.{Cut, more, over}
 use Rattle.walk.specs.Kept.{begun, goOn}
@@ -14,16 +14,17 @@ use Rattle.walk.specs.Promises.{CutOf}
 use Rattle.walk.proofs.Resume.{cut-resume}
 use Rattle.checks.specs.Refusals.{searchRows}
 use Rattle.checks.proofs.Passing.{search-passes, room-there}
-use Rattle.slices.specs.declared.state.State as value
+use Rattle.state.specs.declared.State as value
 use Rattle.slices.specs.declared.Resumed.{Resumed}
 use Rattle.slices.specs.declared.Resumed.the-variants.{Goes, Refused}
-use Rattle.slices.specs.Costs.{inAll}
-use Rattle.slices.specs.Slices.{freshState, stateWrong, StandsIn}
+use Rattle.turns.specs.Costs.{inAll}
+use Rattle.turns.specs.Standing.{StandsIn}
+use Rattle.slices.specs.Slices.{freshState, stateWrong}
 use Rattle.slices.specs.Resume.{Advanced}
 use Rattle.slices.proofs.Slicing.{fresh-passes, fresh-stands}
 use Rattle.search.specs.Table.{Cols, tableOver}
 use Rattle.search.specs.Search.{Searched}
-use Rattle.search.specs.Inner.{endOf, SizeFits, answerOf}
+use Rattle.search.specs.Inner.{endOf, SizeFits, searchAnswerOf}
 
 -- a row at the end decides only where no row before it does
 decided-last : (rows : List Row) (row : Row) (k : ℕ) → Decided (rows ++ (row ∷ [])) k → Decided rows k ⊎ (Decided rows 0 × row .given)
@@ -46,15 +47,15 @@ module _ (i : Input) (t : Cols) where
     ends-as state d (more s j k n) (e, l, f) w = absurd (omega (arith, w .sound .tried, e))
     ends-as state d (over (found root) k n) (e, l) w =
         subst (λ (x : value.State). Searched i t (endOf x) t′) (sym (w .is))
-        (record { decided = d; outcome = (rw e refl, w .holds ∙ ap (λ (st : State (List ℕ)). tableOver (kept st) t) (sym e)) })
+        (record { decided = d; outcome = (rw e refl, w .holds ∙ ap (λ (st : WalkState (List ℕ)). tableOver (kept st) t) (sym e)) })
     ends-as state d (over none k n) (e, l) w =
         subst (λ (x : value.State). Searched i t (endOf x) t′) (sym (w .is))
-        (record { decided = d; outcome = (rw e refl, w .holds ∙ ap (λ (st : State (List ℕ)). tableOver (kept st) t) (sym e)) })
+        (record { decided = d; outcome = (rw e refl, w .holds ∙ ap (λ (st : WalkState (List ℕ)). tableOver (kept st) t) (sym e)) })
     ends-as state d (over (full s) k n) (e, l) w =
         subst (λ (x : value.State). Searched i t (endOf x) t′) (sym (w .is))
-        (record { decided = d; outcome = (rw e refl, w .holds ∙ ap (λ (st : State (List ℕ)). tableOver (kept st) t) (sym e)) })
+        (record { decided = d; outcome = (rw e refl, w .holds ∙ ap (λ (st : WalkState (List ℕ)). tableOver (kept st) t) (sym e)) })
 
-    pub search-answers : (resumed : Resumed) → Advanced i t budget freshState resumed t′ → Searched i t (answerOf resumed) t′
+    pub search-answers : (resumed : Resumed) → Advanced i t budget freshState resumed t′ → Searched i t (searchAnswerOf resumed) t′
     search-answers (Goes state) w =
         let d = rows-decide 0 (w .decided) in
         let e : 0 + budget ≡ budget = omega arith in

@@ -3,7 +3,7 @@
 use mathlib.Core.Bool.{cond}
 use Prim.Native.Nat.{_<_}
 use lib.Dec.{eqb}
-use Rattle.slices.specs.declared.state.State.{State}
+use Rattle.state.specs.declared.State.{State}
 use Rattle.slices.specs.declared.Resumed.{Resumed}
 use Rattle.slices.specs.declared.Resumed.the-variants as slices
 use Rattle.search.specs.declared.SearchAnswer.{SearchAnswer}
@@ -17,6 +17,6 @@ abbrev pub SizeFits : Resumed → Type 0
 SizeFits (slices.Goes st) = st .size < 256
 SizeFits (slices.Refused k) = Unit {0}
 
-abbrev pub answerOf : Resumed → SearchAnswer
-answerOf (slices.Goes st) = endOf st
-answerOf (slices.Refused k) = Refused k
+abbrev pub searchAnswerOf : Resumed → SearchAnswer
+searchAnswerOf (slices.Goes st) = endOf st
+searchAnswerOf (slices.Refused k) = Refused k

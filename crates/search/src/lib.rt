@@ -1,14 +1,14 @@
 // The search: the walk of document 01 over a table in lent slices (aux.rs, cache.rs, cm.rs), in one go: the search in slices with budget enough.
-use candidate::counts::Counts;
+use counting::Counts;
 use formula::kinds::Node;
 use slices::Resumed;
-use slices::state::State;
+use state::State;
 ghost use mathlib.Core.Path.{_≡_};
 ghost use Prim.Native.Nat.{_<_};
 ghost use Rattle.walk.specs.Input.{inputOf};
 ghost use Rattle.search.specs.Table.{cols};
 ghost use Rattle.search.specs.Search.{Searched};
-ghost use Rattle.search.specs.Inner.{endOf, SizeFits, answerOf};
+ghost use Rattle.search.specs.Inner.{endOf, SizeFits, searchAnswerOf};
 
 // FOUND with the root node over the kept list, NONE, FULL at a size, each with the counts; or a refusal.
 pub enum SearchAnswer {
@@ -38,7 +38,7 @@ fn end_of(state: State) -> SearchAnswer
 // The answer, or the refusal.
 fn answer_of(resumed: Resumed) -> SearchAnswer
     requires { ⌜ SizeFits resumed ⌝ }
-    ensures { λ answer. ⌜ answer ≡ answerOf resumed ⌝ }
+    ensures { λ answer. ⌜ answer ≡ searchAnswerOf resumed ⌝ }
 {
     match resumed {
         Resumed::Goes(state) => end_of(state),

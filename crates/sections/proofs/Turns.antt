@@ -8,9 +8,9 @@ use native.Mathlib.Omega.{arith}
 use borrow.Author.Tests.{lt-ltb, le-ltb}
 use lib.Dec.{eqb}
 use lib.ListN.{length, getD, take, drop}
-use Rattle.reading.specs.declared.Step.{Step}
-use Rattle.reading.specs.declared.Step.the-variants.{Read, Broken}
-use Rattle.reading.specs.Reading.{each, byte, isIn, stepOf, one}
+use Rattle.reading.specs.declared.ReadStep.{ReadStep}
+use Rattle.reading.specs.declared.ReadStep.the-variants.{Read, Broken}
+use Rattle.reading.specs.Reading.{eachItem, byte, isIn, stepOf, one}
 use Rattle.sections.specs.Sections.{code}
 use Rattle.reading.proofs.Spans.{head, inside}
 use Rattle.reading.proofs.Steps.{step-read, step-broken, Loop, start, turn, broken}
@@ -53,7 +53,7 @@ module _ (group : ℕ → Bool) (file : List ℕ) (from count : ℕ) where
   unfolding start
   codes-start h = record { loop = start (code group) file from count; seen = refl; at = omega arith; room = h }
 
-  module _ {i p : ℕ} (l : Codes group file from count i p) (r : Step) (h : i < count) (e : r ≡ stepOf (λ c. c) (code group (take i (drop from file)) file (from + i))) where
+  module _ {i p : ℕ} (l : Codes group file from count i p) (r : ReadStep) (h : i < count) (e : r ≡ stepOf (λ c. c) (code group (take i (drop from file)) file (from + i))) where
     item : r ≡ stepOf (λ c. c) (code group (l .loop .seen) file p)
     item = e ∙ ap (stepOf (λ c. c)) (ap (λ (q : ℕ). code group (take i (drop from file)) file q) (sym (l .at)) ∙ ap (λ (b : List ℕ). code group b file p) (sym (l .seen)))
 
@@ -72,5 +72,5 @@ module _ (group : ℕ → Bool) (file : List ℕ) (from count : ℕ) where
           room = inside file (one (t .0)) s (l .room);
         }
 
-    pub codes-broken : {o : ℕ} → r ≡ Broken o → Broken o ≡ stepOf length (each (code group) count [] file from)
+    pub codes-broken : {o : ℕ} → r ≡ Broken o → Broken o ≡ stepOf length (eachItem (code group) count [] file from)
     codes-broken q = broken (code group) file (l .loop) h (step-broken (λ c. c) r (code group (l .loop .seen) file p) item q)

@@ -2,16 +2,11 @@
 -- and the largest length is `width`, of `words`.
 -- Assumes nothing.
 use Prim.Native.Nat.{ℕ}
-use Rattle.rules.specs.Limits.{mostSize}
 
 -- "sessions r 1 to 32"
 abbrev pub fileSessions : ℕ
 fileSessions = 32
 
 -- "propositions m 1 to 16"
-abbrev pub propositions : ℕ
-propositions = 16
-
--- "size bound B 1 to 31"
-abbrev pub bound : ℕ
-bound = mostSize
+abbrev pub filePropositions : ℕ
+filePropositions = 16

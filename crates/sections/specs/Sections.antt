@@ -8,7 +8,7 @@ use lib.ListN.{length, take, drop}
 use Rattle.words.specs.Word.{width}
 use Rattle.sequence.specs.Operators.{Coded, unary, binary, neither, decode}
 use Rattle.sections.specs.Numbers.{fileSessions}
-use Rattle.reading.specs.Reading.{got, bad, Reader, andThen, each, byte, within, counted, isIn}
+use Rattle.reading.specs.Reading.{got, bad, Reader, andThen, eachItem, byte, within, counted, isIn}
 
 -- ---- sessions
 
@@ -33,7 +33,7 @@ unfoldable pub session : ℕ → Reader FileSession
 session m file at =
     andThen (byte (within 0 1) file at) (λ mark a.
     andThen (byte (within 0 width) file a) (λ n b.
-    andThen (each (λ _. eightBytes n) m [] file b) (λ words next.
+    andThen (eachItem (λ _. eightBytes n) m [] file b) (λ words next.
     got (record { mark = mark; length = n; words = words }) next)))
 
 abbrev pub allSessions : ℕ → Reader (List FileSession)
@@ -68,5 +68,5 @@ abbrev pub code : (ℕ → Bool) → List ℕ → Reader ℕ
 code group before = byte (λ c. group c && not (isIn eqb c before))
 
 -- "a code count is never refused itself"
-abbrev pub codes : (ℕ → Bool) → Reader (List ℕ)
-codes group = counted 0 255 (code group)
+abbrev pub allCodes : (ℕ → Bool) → Reader (List ℕ)
+allCodes group = counted 0 255 (code group)

@@ -1,7 +1,7 @@
 // The sessions section: mark, length and m words a session.
 use crate::bytes::bytes_left;
 use crate::bytes::word_at;
-use reading::Step;
+use reading::ReadStep;
 use reading::byte_within;
 use sequence::Answer;
 use sequence::CharSeq;
@@ -11,7 +11,7 @@ ghost use Prim.Native.Nat.{_+_, _^_, _≤_, _<_};
 ghost use lib.ListN.{length};
 ghost use lib.Dec.{ltb};
 ghost use Rattle.words.specs.Word.{width};
-ghost use Rattle.reading.specs.Reading.{each, stepOf};
+ghost use Rattle.reading.specs.Reading.{eachItem, stepOf};
 ghost use Rattle.sections.specs.Sections.{eightBytes, session, allSessions};
 ghost use Rattle.sections.specs.Inner.{nothing, wordCount};
 
@@ -30,94 +30,94 @@ fn is_clear(n: usize, w: u64) -> bool
 }
 
 // The word at an offset, of a session of length n.
-fn word_step(file: &[u8], at: usize, n: usize) -> Step
+fn word_step(file: &[u8], at: usize, n: usize) -> ReadStep
     requires { ⌜ n ≤ width ⌝ }
     ensures { λ r. ⌜ r ≡ stepOf nothing (eightBytes n (now (file .entry)) at) ⌝ }
 {
     let left = bytes_left(file, at);
     if left < 8 {
-        return Step::Broken(file.len());
+        return ReadStep::Broken(file.len());
     }
     let w = word_at(file, at);
     if is_clear(n, w) {
-        Step::Read {
+        ReadStep::Read {
             value: 0,
             next: at + 8,
         }
     } else {
-        Step::Broken(at)
+        ReadStep::Broken(at)
     }
 }
 
 // m words of a session of length n.
-fn words_from(file: &[u8], at: usize, n: usize, m: usize) -> Step
+fn words_from(file: &[u8], at: usize, n: usize, m: usize) -> ReadStep
     requires { ⌜ n ≤ width ⌝ }
-    ensures { λ r. ⌜ r ≡ stepOf length (each (λ _. eightBytes n) m [] (now (file .entry)) at) ⌝ }
+    ensures { λ r. ⌜ r ≡ stepOf length (eachItem (λ _. eightBytes n) m [] (now (file .entry)) at) ⌝ }
 {
     let mut i: usize = 0;
     let mut p = at;
     while i < m {
         let s = word_step(file, p, n);
         match s {
-            Step::Read { value: _, next } => {
+            ReadStep::Read { value: _, next } => {
                 p = next;
             }
-            Step::Broken(o) => {
-                return Step::Broken(o);
+            ReadStep::Broken(o) => {
+                return ReadStep::Broken(o);
             }
         }
         i += 1;
     }
-    Step::Read { value: m, next: p }
+    ReadStep::Read { value: m, next: p }
 }
 
-fn session_at(file: &[u8], at: usize, m: usize) -> Step
+fn session_at(file: &[u8], at: usize, m: usize) -> ReadStep
     ensures { λ r. ⌜ r ≡ stepOf wordCount (session m (now (file .entry)) at) ⌝ }
 {
     let mark = byte_within(file, at, 0, 1);
     match mark {
-        Step::Read { value: _, next: a } => {
+        ReadStep::Read { value: _, next: a } => {
             let length = byte_within(file, a, 0, CharSeq::MAX_LENGTH);
             match length {
-                Step::Read { value: n, next: b } => words_from(file, b, n, m),
-                Step::Broken(o) => Step::Broken(o),
+                ReadStep::Read { value: n, next: b } => words_from(file, b, n, m),
+                ReadStep::Broken(o) => ReadStep::Broken(o),
             }
         }
-        Step::Broken(o) => Step::Broken(o),
+        ReadStep::Broken(o) => ReadStep::Broken(o),
     }
 }
 
 // `count` sessions from an offset.
-fn sessions_from(file: &[u8], at: usize, m: usize, count: usize) -> Step
-    ensures { λ r. ⌜ r ≡ stepOf length (each (λ _. session m) count [] (now (file .entry)) at) ⌝ }
+fn sessions_from(file: &[u8], at: usize, m: usize, count: usize) -> ReadStep
+    ensures { λ r. ⌜ r ≡ stepOf length (eachItem (λ _. session m) count [] (now (file .entry)) at) ⌝ }
 {
     let mut i: usize = 0;
     let mut p = at;
     while i < count {
         let s = session_at(file, p, m);
         match s {
-            Step::Read { value: _, next } => {
+            ReadStep::Read { value: _, next } => {
                 p = next;
             }
-            Step::Broken(o) => {
-                return Step::Broken(o);
+            ReadStep::Broken(o) => {
+                return ReadStep::Broken(o);
             }
         }
         i += 1;
     }
-    Step::Read {
+    ReadStep::Read {
         value: count,
         next: p,
     }
 }
 
 // A count of sessions, and as many sessions of m words.
-pub fn sessions_section(file: &[u8], at: usize, m: usize) -> Step
+pub fn sessions_section(file: &[u8], at: usize, m: usize) -> ReadStep
     ensures { λ r. ⌜ r ≡ stepOf length (allSessions m (now (file .entry)) at) ⌝ }
 {
     let c = byte_within(file, at, 1, SESSIONS);
     match c {
-        Step::Read { value: n, next } => sessions_from(file, next, m, n),
-        Step::Broken(o) => Step::Broken(o),
+        ReadStep::Read { value: n, next } => sessions_from(file, next, m, n),
+        ReadStep::Broken(o) => ReadStep::Broken(o),
     }
 }

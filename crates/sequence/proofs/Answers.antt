@@ -14,7 +14,7 @@ use Rattle.sequence.specs.declared.Answer.{Answer}
 use Rattle.sequence.specs.declared.Answer.the-variants.{Sequence, Refused}
 use Rattle.sequence.specs.Operators.{Unary, Binary, unaryCode, binaryCode}
 use Rattle.rules.specs.Refusals.{Row, Decided, firstOf}
-use Rattle.sequence.specs.Sequence.{seq, WellFormed, notUnary, notBinary, unequal, illFormed, illRecorded, NewAnswer, RecordedAnswer, unaryRows, binaryRows}
+use Rattle.sequence.specs.Sequence.{seq, WellFormed, notUnary, notBinary, unequal, illFormed, illRecorded, RecordedAnswer, unaryRows, binaryRows}
 use Rattle.rules.proofs.Refusals.{Numbered, decided-unique, decided-both, decided-none, decided-not}
 
 -- ---- the rows, part by part

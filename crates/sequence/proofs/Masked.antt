@@ -7,7 +7,7 @@ use native.Mathlib.Nat.{lt-of-not-le, lt-of-lt-of-le}
 use native.Mathlib.Omega.{arith}
 use lib.Pow.{ones-lt, pow-mono, shl-exact}
 use Rattle.words.specs.Ltlf.{Reading, Not, Implies, Equiv}
-use Rattle.words.specs.Masked.{Placed}
+use Rattle.words.specs.Masked.{PlacesOn}
 use Rattle.words.specs.Word.{width, At, WfComputed, Means}
 use Rattle.words.proofs.Bits.{bit-ones, bit-high}
 use Rattle.words.proofs.At.{lt-wf}
@@ -52,10 +52,10 @@ binary-cut equiv {x = x} {y = y} k w u p = masked-cut (in-word w) k (Equiv (At x
 -- ---- a mask as a word, and as the snapshots below a length: an operator looks at it only within the word
 
 module _ {m m′ : Reading} (a : Agree width m m′) where
-  placed : (i : ℕ) → i < width → Placed m i → Placed m′ i
+  placed : (i : ℕ) → i < width → PlacesOn m i → PlacesOn m′ i
   placed i h p = ⊎-elim (λ q. inl (a i h .0 q)) inr p
 
-  unplaced : (i : ℕ) → i < width → Placed m′ i → Placed m i
+  unplaced : (i : ℕ) → i < width → PlacesOn m′ i → PlacesOn m i
   unplaced i h p = ⊎-elim (λ q. inl (a i h .1 q)) inr p
 
   unary-on-other : (op : Unary) (f : Reading) (i : ℕ) → i < width → unaryMasked op m f i → unaryMasked op m′ f i

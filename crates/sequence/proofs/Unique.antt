@@ -20,7 +20,6 @@ use Rattle.sequence.specs.Masked.BinaryBy.{operator as bop, nothing as b
 use Rattle.sequence.specs.Sequence.{seq, Denotes, Answers, NewAnswer, RecordedAnswer, UnaryRead, UnaryAnswer, BinaryRead, BinaryAnswer}
 use Rattle.rules.specs.Refusals.{Row}
 use Rattle.rules.proofs.Refusals.{decided-unique}
-use Rattle.sequence.proofs.Groups.{unary-below, binary-between}
 
 -- ---- tests: `CharSeq::is_well_formed`, `CharSeq::accepts`
 

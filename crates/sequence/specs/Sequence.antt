@@ -20,8 +20,8 @@ abbrev pub WellFormed : CharSeq → Type 0
 WellFormed s = WfComputed (s .length) (s .values)
 
 -- "A session accepts a formula if .. the formula holds at 0."
-abbrev pub Accepts : CharSeq → Type 0
-Accepts s = AcceptsAt (At (s .values))
+abbrev pub SeqAccepts : CharSeq → Type 0
+SeqAccepts s = AcceptsAt (At (s .values))
 
 -- r is the characteristic sequence of f at length n
 pub record Denotes (n : ℕ) (f : Reading) (r : CharSeq) : Type 0 where
@@ -31,8 +31,8 @@ pub record Denotes (n : ℕ) (f : Reading) (r : CharSeq) : Type 0 where
 -- ---- the rows
 
 -- 4: "a length above 64"
-abbrev pub tooLong : CharSeq → Row
-tooLong s = record { number = 4; given = width < s .length }
+abbrev pub seqTooLong : CharSeq → Row
+seqTooLong s = record { number = 4; given = width < s .length }
 
 -- 5: "a bit set at or above the length", n of them being allowed
 abbrev pub bitFrom : ℕ → CharSeq → Row
@@ -51,11 +51,11 @@ unequal s t = record { number = 10; given = (s .length ≡ t .length → ⊥) }
 
 -- the constructor: 4, then 5; "refusal 5 at operators allows that bit", bit 0 at length 0
 abbrev pub illFormed : CharSeq → List Row
-illFormed s = tooLong s ∷ bitFrom (places (s .length)) s ∷ []
+illFormed s = seqTooLong s ∷ bitFrom (places (s .length)) s ∷ []
 
 -- of what was recorded: "a proposition's word must still be 0" there
 abbrev pub illRecorded : CharSeq → List Row
-illRecorded s = tooLong s ∷ bitFrom (s .length) s ∷ []
+illRecorded s = seqTooLong s ∷ bitFrom (s .length) s ∷ []
 
 -- "at operators 7 first, then 4, 5 of the left, 4, 5 of the right, 10"
 abbrev pub unaryRows : ℕ → CharSeq → List Row
@@ -67,18 +67,18 @@ binaryRows code s t = notBinary code ∷ (illFormed s ++ (illFormed t ++ (unequa
 -- ---- the answers
 
 -- 01's number of each case of an answer; 0 where it is a sequence
-abbrev pub numberOf : Answer → ℕ
-numberOf (Sequence s) = 0
-numberOf (Refused k) = k
+abbrev pub answerNumber : Answer → ℕ
+answerNumber (Sequence s) = 0
+answerNumber (Refused k) = k
 
 -- and what the case carries: the sequence is as it is asked, and a refusal has only its number, which is not 0
-abbrev pub Carries : (CharSeq → Type 0) → Answer → Type 0
-Carries asked (Sequence s) = asked s
-Carries asked (Refused k) = 0 < k
+abbrev pub AnswerCarries : (CharSeq → Type 0) → Answer → Type 0
+AnswerCarries asked (Sequence s) = asked s
+AnswerCarries asked (Refused k) = 0 < k
 
 -- an answer by the rows
 abbrev pub Answers : List Row → (CharSeq → Type 0) → Answer → Type 0
-Answers rows asked a = Decided rows (numberOf a) × Carries asked a
+Answers rows asked a = Decided rows (answerNumber a) × AnswerCarries asked a
 
 -- the sequence of that length and word
 abbrev pub IsSeq : ℕ → ℕ → CharSeq → Type 0

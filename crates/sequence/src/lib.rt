@@ -7,7 +7,7 @@ ghost use Rattle.words.specs.Word.{width, Wf, places, Means};
 ghost use Rattle.rules.specs.Refusals.{Decided};
 ghost use Rattle.sequence.specs.Operators.{not, weakNext, strongNext, finally, globally, or, and, until, release, implies, equiv};
 ghost use Rattle.sequence.specs.Masked.{UnaryOn, BinaryOn, UnaryBy, BinaryBy};
-ghost use Rattle.sequence.specs.Sequence.{seq, WellFormed, Accepts, illFormed, NewAnswer, RecordedAnswer};
+ghost use Rattle.sequence.specs.Sequence.{seq, WellFormed, SeqAccepts, illFormed, NewAnswer, RecordedAnswer};
 
 pub struct CharSeq {
     pub length: usize,
@@ -85,7 +85,7 @@ impl CharSeq {
 
     // Whether the formula holds at 0. At length 0 that is its reading on the empty trace.
     pub fn accepts(self) -> bool
-        ensures { λ r. ⌜ (r ≡ true) ↔ Accepts self ⌝ }
+        ensures { λ r. ⌜ (r ≡ true) ↔ SeqAccepts self ⌝ }
     {
         self.values & 1 == 1
     }

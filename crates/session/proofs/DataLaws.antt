@@ -13,11 +13,12 @@ use Rattle.rules.specs.Refusals.{Decided}
 use Rattle.rules.proofs.Refusals.{decided-unique}
 use Rattle.rules.specs.Limits.{mostSessions, mostPropositions, Outside}
 use Rattle.session.specs.Data.{tooLong, bitAbove, dataRows}
+use Rattle.session.specs.Recording.{recording}
 use Rattle.session.specs.Inner.{AllUpTo, AllClear}
 
 module _ (r m : ℕ) (marks lengths words : List ℕ) where
   abbrev D : ℕ → Type 0
-  D k = Decided (dataRows r m marks lengths words) k
+  D k = Decided (dataRows (recording r m marks lengths words)) k
 
   pub is-1 : Outside 1 mostSessions r ⊎ Outside 1 mostPropositions m → D 1
   unfolding Decided
@@ -34,7 +35,7 @@ module _ (r m : ℕ) (marks lengths words : List ℕ) where
       is-4 h = inr (n1, inr (n3, inl (h, refl)))
 
       module _ (a4 : AllUpTo lengths r width true) where
-        n4 : tooLong r m marks lengths words .given → ⊥
+        n4 : tooLong (recording r m marks lengths words) .given → ⊥
         n4 t = omega (arith, a4 (t .0) (t .1), t .2)
 
         pub is-5 : AllClear lengths words r m false → D 5
@@ -42,7 +43,7 @@ module _ (r m : ℕ) (marks lengths words : List ℕ) where
         is-5 h = inr (n1, inr (n3, inr (n4, inl ((h .0, h .1, h .2 .0, h .2 .1, h .2 .2, h .2 .3, h .2 .4), refl))))
 
         module _ (a5 : AllClear lengths words r m true) where
-          n5 : bitAbove r m marks lengths words .given → ⊥
+          n5 : bitAbove (recording r m marks lengths words) .given → ⊥
           n5 t = omega (arith, a5 (t .0) (t .1) (t .2) (t .3) .clear (t .4) (t .5), t .6)
 
           pub is-6 : AllUpTo marks r 1 false → D 6
@@ -72,5 +73,5 @@ pub block : (i r m : ℕ) → i < r → i * m + m ≤ m * r
 block i r m h = omega (arith, suc-mul i m, mul-le-mul-right m h, mul-comm m r)
 
 -- any two allowed results of `test` are equal
-pub data-unique : (r m : ℕ) (marks lengths words : List ℕ) (j k : ℕ) → Decided (dataRows r m marks lengths words) j → Decided (dataRows r m marks lengths words) k → j ≡ k
-data-unique r m marks lengths words j k p q = decided-unique (dataRows r m marks lengths words) j k p q
+pub data-unique : (r m : ℕ) (marks lengths words : List ℕ) (j k : ℕ) → Decided (dataRows (recording r m marks lengths words)) j → Decided (dataRows (recording r m marks lengths words)) k → j ≡ k
+data-unique r m marks lengths words j k p q = decided-unique (dataRows (recording r m marks lengths words)) j k p q

@@ -8,6 +8,7 @@ use Prim.Native.Nat.{ℕ}
 use native.Mathlib.Omega.{arith}
 use Rattle.rules.specs.Refusals.{Row, Decided}
 use Rattle.session.specs.Data.{outsideNumbers, tooShort, tooLong, bitAbove, markWrong, dataRows}
+use Rattle.session.specs.Recording.{recording}
 
 module _ (r m : ℕ) (marks lengths words : List ℕ) (second rooms seventh : Type 0) where
   -- the rows of the caller: `second` is when it gives 2, `rooms` when its own rooms are too short, `seventh` when it gives 7
@@ -15,15 +16,15 @@ module _ (r m : ℕ) (marks lengths words : List ℕ) (second rooms seventh : Ty
   callerRows =
       outsideNumbers r m
       ∷ record { number = 2; given = second }
-      ∷ record { number = 3; given = tooShort r m marks lengths words .given ⊎ rooms }
-      ∷ tooLong r m marks lengths words
-      ∷ bitAbove r m marks lengths words
-      ∷ markWrong r m marks lengths words
+      ∷ record { number = 3; given = tooShort (recording r m marks lengths words) .given ⊎ rooms }
+      ∷ tooLong (recording r m marks lengths words)
+      ∷ bitAbove (recording r m marks lengths words)
+      ∷ markWrong (recording r m marks lengths words)
       ∷ record { number = 7; given = seventh }
       ∷ []
 
   abbrev Data : ℕ → Type 0
-  Data k = Decided (dataRows r m marks lengths words) k
+  Data k = Decided (dataRows (recording r m marks lengths words)) k
 
   abbrev Caller : ℕ → Type 0
   Caller k = Decided callerRows k
@@ -60,8 +61,8 @@ module _ (r m : ℕ) (marks lengths words : List ℕ) (second rooms seventh : Ty
         unfolding Decided
         then-it z = inr (numbered, inr (n2, go d))
           where
-            go : Data k → Decided (record { number = 3; given = tooShort r m marks lengths words .given ⊎ rooms } ∷ tooLong r m marks lengths words ∷
-                bitAbove r m marks lengths words ∷ markWrong r m marks lengths words ∷ record { number = 7; given = seventh } ∷ []) k
+            go : Data k → Decided (record { number = 3; given = tooShort (recording r m marks lengths words) .given ⊎ rooms } ∷ tooLong (recording r m marks lengths words) ∷
+                bitAbove (recording r m marks lengths words) ∷ markWrong (recording r m marks lengths words) ∷ record { number = 7; given = seventh } ∷ []) k
             go (inl t) = absurd (n (t .1))
             go (inr (n1, inl t)) = inl (inl (t .0), t .1)
             go (inr (n1, inr (n3, inl t))) = inr (⊎-elim n3 nr, inl t)

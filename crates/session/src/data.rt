@@ -7,6 +7,7 @@ ghost use lib.ListN.{length};
 ghost use Rattle.words.specs.Word.{width};
 ghost use Rattle.rules.specs.Refusals.{Decided};
 ghost use Rattle.session.specs.Data.{dataRows};
+ghost use Rattle.session.specs.Recording.{recording};
 ghost use Rattle.session.specs.Inner.{AllUpTo, Clear, AllClear};
 
 // The largest length, as lengths are lent.
@@ -63,7 +64,7 @@ fn all_clear(lengths: &[u8], words: &[u64], r: usize, m: usize) -> bool
 // 0 where the data are good, or the number of the first row that refuses them. A caller with rows of its own puts them between these by the number
 // alone: 1 comes before all of them; then its 2; then its own rooms, which are 3 before any other number here; then this number; then its 7.
 pub fn test(r: usize, m: usize, marks: &[u8], lengths: &[u8], words: &[u64]) -> u8
-    ensures { λ k. ⌜ Decided (dataRows r m (now (marks .entry)) (now (lengths .entry)) (now (words .entry))) k ⌝ }
+    ensures { λ k. ⌜ Decided (dataRows (recording r m (now (marks .entry)) (now (lengths .entry)) (now (words .entry)))) k ⌝ }
 {
     if r < 1 {
         return 1;

@@ -3,45 +3,39 @@
 -- Assumes nothing.
 use mathlib.Core.Path.{_≡_, refl, sym, ap, _∙_, subst}
 use mathlib.Core.Logic.{_⊎_, inl, inr}
-use mathlib.Core.Bool.{Bool, true, false, cond}
 use mathlib.Core.List.{List, [], _∷_, _++_, map, flatMap}
-use Prim.Native.Nat.{ℕ, zero, suc, _+_, _≤_, _<_}
+use Prim.Native.Nat.{ℕ, _+_, _≤_, _<_}
 use native.Mathlib.Omega.{arith}
 use native.Mathlib.Decide.{decLe}
-use lib.ListN.{length, take, drop, length-append}
-use lib.Seq.{take-all}
+use lib.ListN.{length, drop, length-append}
 use lib.Dec.{eqb}
-use borrow.Author.Tests.{ne-eqb}
 use Rattle.rules.specs.Limits.{mostSize, mostRoom}
 use Rattle.rules.specs.Lists.{count}
 use Rattle.rules.specs.Refusals.{Row, Decided}
 use Rattle.rules.proofs.Refusals.{Numbered, decided-both}
 use Rattle.formula.specs.Formula.{proposition}
-use Rattle.walk.specs.Walk.{found, none, full, Tally, tally, layer, seed}
+use Rattle.walk.specs.Walk.{tally, layer, seed}
 use Rattle.walk.specs.Input as walk
 use Rattle.walk.specs.Input.{Input, Passes, offer}
 use Rattle.walk.specs.Cut.{Cut, more, over}
-use Rattle.walk.specs.Kept.{Table, begun, goOn}
+use Rattle.walk.specs.Kept.{begun, goOn}
 use Rattle.walk.proofs.Resume.{turns-add}
-use Rattle.order.specs.Size.{cand, leaves, constantsIf}
-use Rattle.order.specs.Ahead.{ahead, first, leafCursor, codesOf, cursorAfter}
-use Rattle.order.specs.Starts.{startsOf, below}
-use Rattle.order.proofs.Leaves.{length-count}
-use Rattle.order.proofs.Layers.{column-begins}
-use Rattle.rows.specs.Formulas.{nothing}
+use Rattle.order.specs.Ahead.{ahead, first, leafCursor, cursorAfter}
+use Rattle.starts.proofs.Numbers.{length-count}
 use Rattle.rows.proofs.Matrices.{length-map}
 use Rattle.table.specs.Slices.{Cols, tableOver}
-use Rattle.checks.specs.Promises.{RoomThere}
 use Rattle.checks.specs.Refusals.{settingWrong, searchRows}
-use Rattle.slices.specs.declared.state.State.{State}
-use Rattle.slices.specs.Costs.{inAll}
-use Rattle.slices.specs.Said.{counts}
-use Rattle.slices.specs.Slices.{startsIn, layerAt, stateAt, freshState, todo, Ongoing, StandsIn, StandsAt, stateWrong, mostBudget, resumeRows, advanceRows, StateIn}
+use Rattle.state.specs.declared.State.{State}
+use Rattle.turns.specs.Costs.{inAll}
+use Rattle.turns.specs.Standing.{startsIn, layerAt, stateAt, todo, StandsIn}
+use Rattle.turns.specs.Turns.{StateIn, GoAsks, GoDoes}
+use Rattle.turns.proofs.Rounds.{began, few-left}
+use Rattle.turns.proofs.Settling.{settled-more, turn-none, turn-over, begun-is}
+use Rattle.rules.specs.Limits.{mostBudget}
+use Rattle.slices.specs.Slices.{freshState, StandsAt, stateWrong, resumeRows, advanceRows}
 use Rattle.slices.specs.Resume.{Went}
-use Rattle.slices.specs.Inner.{PointAt, GoAsks, GoDoes, positionOf, StateFits, OneOrTwo}
+use Rattle.slices.specs.Inner.{OneOrTwo}
 use Rattle.slices.proofs.Checks.{unary-few, binary-few}
-use Rattle.slices.proofs.Rounds.{began, few-left, kept-sizes}
-use Rattle.slices.proofs.Settling.{settled-more, turn-none, turn-over, begun-is}
 
 -- ---- the refusals
 
@@ -104,116 +98,10 @@ module _ (i : Input) (t : Cols) (state : State) where
   rows-within budget k h (inr (a, inl b)) = inr (a, inl b)
   rows-within budget k h (inr (a, inr (b, c))) = inr (a, inr (b, inr ((λ l. omega arith), c)))
 
--- ---- 14
-
-leaves-long : (m c : ℕ) → length (leaves m c) ≡ cond (eqb c 1) (m + 2) m
-unfolding leaves
-leaves-long m c = go (eqb c 1)
-  where
-    many : length (map (λ p. cand 16 p 0) (count 0 m)) ≡ m
-    many = length-map (λ p. cand 16 p 0) (count 0 m) ∙ length-count 0 m
-
-    go : (b : Bool) → length (map (λ p. cand 16 p 0) (count 0 m) ++ constantsIf b) ≡ cond b (m + 2) m
-    go true = omega (arith, length-append (map (λ p. cand 16 p 0) (count 0 m)) (constantsIf true), many)
-    go false = omega (arith, length-append (map (λ p. cand 16 p 0) (count 0 m)) (constantsIf false), many)
-
-codes-long : (unary binary : List ℕ) (split : ℕ) → length (codesOf unary binary split) ≡ cond (eqb split 0) (length unary) (length binary)
-codes-long unary binary zero = refl
-codes-long unary binary (suc split) = rw (ne-eqb (suc split) 0 (λ e. omega arith))
-
-module _ (i : Input) (st : State) where
-  position-is : positionOf (i .recording .propositions) (i .constants) (length (i .unary)) (length (i .binary)) (st .size) (st .at .split)
-      ≡ cond (eqb (st .size) 1) (length (leaves (i .recording .propositions) (i .constants))) (length (codesOf (i .unary) (i .binary) (st .at .split)))
-  position-is = rw (leaves-long (i .recording .propositions) (i .constants), codes-long (i .unary) (i .binary) (st .at .split))
-
-  pub state-in : StateFits (i .recording .propositions) (i .bound) (i .room) (i .constants) (length (i .unary)) (length (i .binary)) st → StateIn i st
-  state-in w = record {
-    kept-in = w .kept-in;
-    kept-tried = w .kept-tried;
-    size-in = w .size-in;
-    left-in = w .left-in;
-    right-in = w .right-in;
-    operator-in = omega (arith, w .operator-in, position-is);
-  }
-
-  pub not-wrong : StateIn i st → stateWrong i st .given → ⊥
-  not-wrong w (inl h) = omega (arith, w .kept-in)
-  not-wrong w (inr (inl h)) = omega (arith, w .kept-tried)
-  not-wrong w (inr (inr (inl (inl h)))) = omega (arith, w .size-in)
-  not-wrong w (inr (inr (inl (inr h)))) = omega (arith, w .size-in)
-  not-wrong w (inr (inr (inr (inl h)))) = omega (arith, w .left-in)
-  not-wrong w (inr (inr (inr (inr (inl h))))) = omega (arith, w .right-in)
-  not-wrong w (inr (inr (inr (inr (inr h))))) = omega (arith, w .operator-in)
-
-  pub wrong : (StateFits (i .recording .propositions) (i .bound) (i .room) (i .constants) (length (i .unary)) (length (i .binary)) st → ⊥) → stateWrong i st .given
-  wrong h = elim (decLe (st .counts .kept) (i .room)) [
-    | no a ↦ inl (omega arith)
-    | yes a ↦ elim (decLe (st .counts .kept) (st .counts .tried)) [
-      | no b ↦ inr (inl (omega arith))
-      | yes b ↦ elim (decLe 1 (st .size)) [
-        | no c ↦ inr (inr (inl (inl (omega arith))))
-        | yes c ↦ elim (decLe (st .size) (i .bound)) [
-          | no e ↦ inr (inr (inl (inr (omega arith))))
-          | yes e ↦ elim (decLe (st .at .left) (st .counts .kept)) [
-            | no f ↦ inr (inr (inr (inl (omega arith))))
-            | yes f ↦ elim (decLe (st .at .right) (st .counts .kept)) [
-              | no g ↦ inr (inr (inr (inr (inl (omega arith)))))
-              | yes g ↦ elim (decLe (st .at .operator) (positionOf (i .recording .propositions) (i .constants) (length (i .unary)) (length (i .binary)) (st .size) (st .at .split))) [
-                | no o ↦ inr (inr (inr (inr (inr (omega (arith, position-is))))))
-                | yes o ↦ absurd (h (record { kept-in = a; kept-tried = b; size-in = (c, e); left-in = f; right-in = g; operator-in = o }))
-              ]
-            ]
-          ]
-        ]
-      ]
-    ]
-  ]
-
 -- ---- the walk goes on
 
--- where the sizes of the slices begin is where those of the table do
-starts-are : (sizes : List ℕ) (k : Table) → take (length k) sizes ≡ map (λ c. c .node .size) k → startsOf sizes (length k) ≡ startsIn k
-unfolding startsOf
-starts-are sizes k e =
-    ap (λ (l : List ℕ). map (λ x. below x l) (count 0 (mostSize + 2)))
-    (e ∙ sym (take-all (length k) (map (λ c. c .node .size) k) (omega (arith, length-map (λ c. c .node .size) k))))
-
-module _ (i : Input) (t₀ t : Cols) (s j : ℕ) (k : Table) (n : Tally) (w : Ongoing i s j k n) (ok : Passes i) (h : t ≡ tableOver k t₀) where
-  sizes-are : take (length k) (t .sizes) ≡ map (λ c. c .node .size) k
-  sizes-are = kept-sizes {i = i} {k = k} {t₀ = t₀} {t = t} refl (record { fine = w .fine; are = h })
-
-  abbrev same : startsOf (t .sizes) (length k) ≡ startsIn k
-  same = starts-are (t .sizes) k sizes-are
-
-  pub ongoing-point : PointAt i t₀ t (startsOf (t .sizes) (length k)) s (cursorAfter (layerAt i s (startsIn k)) j) (counts k n) k j
-  ongoing-point = record {
-    stands = record {
-      counted = refl;
-      holds = record { fine = w .fine; are = h };
-      rising = w .rising;
-      small = w .small;
-      begins = λ u l. column-begins nothing k (t .sizes) (length k) (w .rising) sizes-are u (omega (arith, w .size-in, ok .bound-in));
-    };
-    cursor = ap (λ (x : List ℕ). cursorAfter (layerAt i s x) j) (sym same);
-    left = subst (λ (x : List ℕ). ahead (layerAt i s x) (cursorAfter (layerAt i s (startsIn k)) j) ≡ drop j (ahead (layerAt i s x) (first x s))) (sym same) (w .left);
-    tried = subst (λ (x : List ℕ). n .tried + todo i x s (cursorAfter (layerAt i s (startsIn k)) j) ≤ inAll) (sym same) (w .tried);
-    dropped = w .dropped;
-  }
-
 module _ (i : Input) (t : Cols) (ok : Passes i) (budget : ℕ) (state : State) where
-  -- the walk goes on where the state says so
-  on : (after : State) {t′ : Cols} (t₀ : Cols) → RoomThere i t₀ → (c : Cut (List ℕ)) → state .end ≡ 0 → StandsIn i t₀ c state t → GoDoes i budget state t t′ after
-      → StandsIn i t₀ (goOn i budget c) after t′
-  on after t₀ r (over (found root) k n) e w v = absurd (let z = ap (λ (x : State). x .end) (w .is) in omega arith)
-  on after t₀ r (over none k n) e w v = absurd (let z = ap (λ (x : State). x .end) (w .is) in omega arith)
-  on after t₀ r (over (full s) k n) e w v = absurd (let z = ap (λ (x : State). x .end) (w .is) in omega arith)
-  on after {t′} t₀ r (more s j k n) e w v =
-      let q = w .sound in
-      let g = subst (λ (x : State). GoDoes i budget x t t′ after) (w .is) v in
-      subst (λ (c : Cut (List ℕ)). StandsIn i t₀ (goOn i budget c) after t′) (settled-more i s j k n (q .size-in .1) (q .next))
-      (g .runs t₀ k j ok r (ongoing-point i t₀ t s j k n q ok (w .holds)))
-
-  -- and stays where it has ended
+  -- where it has ended it stays
   stays : (t₀ : Cols) (c : Cut (List ℕ)) → (state .end ≡ 0 → ⊥) → StandsIn i t₀ c state t → StandsIn i t₀ (goOn i budget c) state t
   stays t₀ (more s j k n) e w = absurd (e (ap (λ (x : State). x .end) (w .is)))
   stays t₀ (over f k n) e w = subst (λ (c : Cut (List ℕ)). StandsIn i t₀ c state t) (sym (turn-over i budget f k n)) w
@@ -223,7 +111,7 @@ module _ (i : Input) (t : Cols) (ok : Passes i) (budget : ℕ) (state : State) w
     passes = v .state-in;
     spends = v .spends;
     keeps = v .keeps;
-    runs = λ t₀ r n w. subst (λ (c : Cut (List ℕ)). StandsIn i t₀ c after t′) (turns-add i n budget (begun i)) (on after t₀ r (goOn i n (begun i)) e w v);
+    runs = λ t₀ r n w. subst (λ (c : Cut (List ℕ)). StandsIn i t₀ c after t′) (turns-add i n budget (begun i)) (v .runs t₀ (goOn i n (begun i)) ok r e w);
   }
 
   pub went-ended : (state .end ≡ 0 → ⊥) → StateIn i state → Went i t budget state state t
@@ -287,7 +175,7 @@ module _ (i : Input) (ok : Passes i) where
   fresh-few =
       omega (
         arith,
-        few-left (asks-of i ok freshState fresh-in) (startsIn []) 1 (leafCursor 0) (began [] 0 1 (omega arith) (omega arith)) (ok .bound-in .0),
+        few-left i (asks-of i ok freshState fresh-in) (startsIn []) 1 (leafCursor 0) (began [] 0 1 (omega arith) (omega arith)) (ok .bound-in .0),
         ok .bound-in,
       )
 

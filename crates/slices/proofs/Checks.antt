@@ -1,4 +1,4 @@
--- Codes that pass the checks are few; a number that isn't 0 is at least 1.
+-- Codes that pass the checks are few.
 -- Assumes nothing.
 use mathlib.Core.Path.{_≡_, refl, sym, _∙_, subst}
 use mathlib.Core.List.{List, [], _∷_, _++_, List·Memᴰ}
@@ -12,11 +12,7 @@ use Rattle.session.proofs.Few.{few}
 use Rattle.walk.specs.Input.{Input, Passes}
 use Rattle.checks.proofs.Codes.{at-position}
 use Rattle.checks.proofs.Passing.{at-in, once-at}
-use Rattle.slices.specs.Costs.{operators}
-
-pub pos-of-ne : (n : ℕ) → (n ≡ 0 → ⊥) → 1 ≤ n
-pos-of-ne zero h = absurd (h refl)
-pos-of-ne (suc n) h = omega arith
+use Rattle.turns.specs.Costs.{operators}
 
 -- no number twice in a range of n: at most n
 abbrev fit : ℕ → ℕ → List ℕ → ℕ → Type 0

@@ -1,8 +1,4 @@
 -- The laws behind the proofs, by subject.
 pub mod Checks
-pub mod Making
-pub mod Settling
-pub mod Points
-pub mod Rounds
 pub mod Calls
 pub mod Slicing

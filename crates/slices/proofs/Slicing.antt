@@ -6,25 +6,27 @@ use mathlib.Core.List.{List, [], _∷_}
 use Prim.Native.Nat.{ℕ, _+_, _≤_, _<_}
 use native.Mathlib.Omega.{arith}
 use lib.ListN.{length}
-use Rattle.walk.specs.Walk.{found, none, full, State, kept, tried}
+use Rattle.walk.specs.Walk.{found, none, full, WalkState, kept, tried}
 use Rattle.walk.specs.Input.{Input, search}
 use Rattle.walk.specs.Cut.{Cut, more, over}
 use Rattle.walk.specs.Kept.{begun, goOn}
 use Rattle.walk.specs.Promises.{CutOf}
 use Rattle.walk.proofs.Resume.{cut-resume, turns-add}
-use Rattle.slices.specs.declared.state.State as value
 use Rattle.table.specs.Slices.{Cols, tableOver}
 use Rattle.checks.specs.Promises.{RoomThere}
+use Rattle.state.specs.declared.State as value
+use Rattle.state.proofs.Passing.{in-passes}
+use Rattle.turns.specs.Standing.{stateAt, StandsIn}
+use Rattle.turns.proofs.Settling.{turn-over}
 use Rattle.slices.specs.Said.{walkSaid}
-use Rattle.slices.specs.Slices.{stateAt, freshState, stateSaid, cutSaid, moreSaid, StandsIn, StandsAt, stateWrong, resumeRows}
+use Rattle.slices.specs.Slices.{freshState, stateSaid, cutSaid, moreSaid, StandsAt, stateWrong, resumeRows}
 use Rattle.slices.specs.declared.Resumed.the-variants.{Goes, Refused}
-use Rattle.slices.specs.Resume.{numberOf}
+use Rattle.slices.specs.Resume.{resumedNumber}
 use Rattle.slices.specs.Slicing.{FreshStands, CallStands, StandsUnique, CallUnique, TellsCut, GrownByBudget, BudgetNone, EndsInTime, EndRepeats}
 use Rattle.slices.specs.Slicing.{Turns, stop, turn, total, Each1, WholeByTurns, EnoughTurns, FreshPasses, LeftPasses, WithinBudget, CallGoes}
 use Rattle.rules.proofs.Refusals.{decided-unique, decided-not}
 use Rattle.checks.proofs.Passing.{passes-whole}
-use Rattle.slices.proofs.Calls.{fresh-in, fresh-stands-here, not-wrong, rows-state, rows-within}
-use Rattle.slices.proofs.Settling.{turn-over}
+use Rattle.slices.proofs.Calls.{fresh-in, fresh-stands-here, rows-state, rows-within}
 
 pub fresh-stands : FreshStands
 fresh-stands i ok t = fresh-stands-here i ok t
@@ -65,7 +67,7 @@ Either i n state =
 either : (i : Input) (t₀ : Cols) (n : ℕ) (state : value.State) (t : Cols) (c : Cut (List ℕ)) → CutOf i n c → StandsIn i t₀ c state t → Either i n state
 either i t₀ n state t (more s j k m) (e, l, f) w =
     inl (ap (λ (x : value.State). x .counts .tried) (w .is) ∙ e, l, subst (λ (x : value.State). stateSaid x ≡ moreSaid (x .counts)) (sym (w .is)) refl)
-either i t₀ n state t (over e k m) (f, l) w = inr (said-in i t₀ (over e k m) state t w ∙ ap walkSaid (sym f), subst (λ (st : State (List ℕ)). tried st ≤ n) (sym f) l)
+either i t₀ n state t (over e k m) (f, l) w = inr (said-in i t₀ (over e k m) state t w ∙ ap walkSaid (sym f), subst (λ (st : WalkState (List ℕ)). tried st ≤ n) (sym f) l)
 
 pub grown-by-budget : GrownByBudget
 grown-by-budget i t₀ n state t w = (either i t₀ n state t (goOn i n (begun i)) (cut-resume i n) w, w .holds)
@@ -101,7 +103,7 @@ turns-stand i t₀ r state last t u budgets n (turn budget rest s next l v t′ 
 whole-table : (i : Input) (t₀ : Cols) (n : ℕ) (state : value.State) (u : Cols) (c : Cut (List ℕ)) → CutOf i n c → tried (search i) ≤ n → StandsIn i t₀ c state u
     → u ≡ tableOver (kept (search i)) t₀
 whole-table i t₀ n state u (more s j k m) (e, l, f) h w = absurd (omega arith)
-whole-table i t₀ n state u (over e k m) (f, l) h w = w .holds ∙ ap (λ (st : State (List ℕ)). tableOver (kept st) t₀) (sym f)
+whole-table i t₀ n state u (over e k m) (f, l) h w = w .holds ∙ ap (λ (st : WalkState (List ℕ)). tableOver (kept st) t₀) (sym f)
 
 pub whole-by-turns : WholeByTurns
 whole-by-turns i ok t u r budgets last v h =
@@ -119,15 +121,15 @@ enough-turns i ok t u r budgets last v e h = whole-by-turns i ok t u r budgets l
 -- ---- any state
 
 pub fresh-passes : FreshPasses
-fresh-passes i ok w = not-wrong i freshState (fresh-in i ok) w
+fresh-passes i ok w = in-passes (fresh-in i ok) w
 
 pub left-passes : LeftPasses
-left-passes i t budget state after t′ c w = not-wrong i after (c .outcome .passes) w
+left-passes i t budget state after t′ c w = in-passes (c .outcome .passes) w
 
 pub within-budget : WithinBudget
 within-budget i t budget state after t′ c = (c .outcome .spends, c .outcome .keeps)
 
 pub call-goes : CallGoes
 call-goes i ok t r budget h state w a t′ c =
-    decided-unique (resumeRows i t budget state) (numberOf a) 0 (c .decided)
+    decided-unique (resumeRows i t budget state) (resumedNumber a) 0 (c .decided)
     (rows-within i t state budget 0 h (rows-state i t state 0 (passes-whole i t .1 (ok, r)) refl 0 (decided-not (stateWrong i state) w)))

@@ -8,13 +8,14 @@ use Rattle.walk.specs.Input.{Input}
 use Rattle.checks.specs.Promises.{RoomThere}
 use Rattle.slices.specs.declared.Resumed.{Resumed}
 use Rattle.slices.specs.declared.Resumed.the-variants.{Goes, Refused}
-use Rattle.slices.specs.declared.state.State.{State}
 use Rattle.table.specs.Slices.{Cols}
-use Rattle.slices.specs.Slices.{StandsAt, StateIn, resumeRows, advanceRows}
+use Rattle.state.specs.declared.State.{State}
+use Rattle.turns.specs.Turns.{StateIn}
+use Rattle.slices.specs.Slices.{StandsAt, resumeRows, advanceRows}
 
-abbrev pub numberOf : Resumed → ℕ
-numberOf (Goes st) = 0
-numberOf (Refused k) = k
+abbrev pub resumedNumber : Resumed → ℕ
+resumedNumber (Goes st) = 0
+resumedNumber (Refused k) = k
 
 -- whatever the state and the room hold, "only demand 1": the call leaves a state that a next call may be given; the count tried grows by at most `budget`
 -- (one that has reached the largest number of its word stays), and so does the number kept. Where state and room stand at count n of the walk, they
@@ -32,7 +33,7 @@ CallOutcome i t budget state (Refused k) t′ = (0 < k) × (t′ ≡ t)
 
 -- the number is that of the first of the rows that is given, 0 where none is
 pub record CalledBy (rows : List Row) (i : Input) (t : Cols) (budget : ℕ) (state : State) (answer : Resumed) (t′ : Cols) : Type 0 where
-  pub decided : Decided rows (numberOf answer)
+  pub decided : Decided rows (resumedNumber answer)
   pub outcome : CallOutcome i t budget state answer t′
 
 -- a call with a budget of at most 1,000,000

@@ -13,11 +13,13 @@ use Rattle.walk.specs.Kept.{begun, goOn}
 use Rattle.checks.specs.Promises.{RoomThere}
 use Rattle.slices.specs.declared.Resumed.{Resumed}
 use Rattle.slices.specs.declared.Resumed.the-variants.{Goes}
-use Rattle.slices.specs.declared.state.State as value
 use Rattle.table.specs.Slices.{Cols, tableOver}
+use Rattle.state.specs.declared.State as value
+use Rattle.turns.specs.Standing.{keptIn}
 use Rattle.slices.specs.Said.{walkSaid}
-use Rattle.slices.specs.Slices.{freshState, stateSaid, cutSaid, moreSaid, keptIn, StandsAt, stateWrong, mostBudget}
-use Rattle.slices.specs.Resume.{numberOf, Called}
+use Rattle.rules.specs.Limits.{mostBudget}
+use Rattle.slices.specs.Slices.{freshState, stateSaid, cutSaid, moreSaid, StandsAt, stateWrong}
+use Rattle.slices.specs.Resume.{resumedNumber, Called}
 
 -- "or a fresh one": a fresh state stands at count 0, whatever the slices hold
 abbrev pub FreshStands : Type 0
@@ -109,4 +111,4 @@ WithinBudget = (i : Input) (t : Cols) (budget : ℕ) (state after : value.State)
 -- where the input passes, the room is there, the budget is one and 14 lets the state pass, the call is not refused
 abbrev pub CallGoes : Type 0
 CallGoes = (i : Input) → Passes i → (t : Cols) → RoomThere i t → (budget : ℕ) → budget ≤ mostBudget → (state : value.State) → (stateWrong i state .given → ⊥)
-    → (a : Resumed) (t′ : Cols) → Called i t budget state a t′ → numberOf a ≡ 0
+    → (a : Resumed) (t′ : Cols) → Called i t budget state a t′ → resumedNumber a ≡ 0

@@ -1,22 +1,16 @@
 // The search in slices (request E7): a call goes on from the state of the call before for at most so many candidates.
-mod ends;
 mod good;
-pub mod state;
-mod turns;
 
-use crate::state::State;
-use candidate::counts::Counts;
+use counting::Counts;
 use formula::kinds::Node;
-use order::Cursor;
 use rules::kinds::Place;
+use split::Cursor;
+use state::State;
 ghost use mathlib.Core.Path.{_≡_};
 ghost use Rattle.walk.specs.Input.{inputOf};
 ghost use Rattle.table.specs.Slices.{cols};
 ghost use Rattle.slices.specs.Slices.{freshState};
 ghost use Rattle.slices.specs.Resume.{Advanced, Called};
-
-// The most candidates of a call of `resume`.
-pub const BUDGET: u64 = 1000000;
 
 // The state after a call, which tells the answer; or a refusal, and then the state is the one that was handed in.
 pub enum Resumed {
@@ -99,7 +93,7 @@ pub fn advance(
     if refused != 0 {
         return Resumed::Refused(refused);
     }
-    if !good::state_good(m, bound, room, constants, unary.len(), binary.len(), state) {
+    if state::wrong(m, bound, room, constants, unary.len(), binary.len(), state) {
         return Resumed::Refused(14);
     }
     if state.end != 0 {
@@ -153,7 +147,7 @@ pub fn resume(
         budget state answer
         (cols (now (codes .exit)) (now (lefts .exit)) (now (rights .exit)) (now (sizes .exit)) (now (matrices .exit))) ⌝ }
 {
-    if BUDGET < budget {
+    if rules::BUDGET < budget {
         return Resumed::Refused(good::one_or_two(r, m));
     }
     advance(

@@ -9,17 +9,13 @@ use borrow.Author.Tests.{le-leb}
 use lib.Dec.{leb, lit<}
 use lib.ListN.{length, getD, set, length-set}
 use lib.Seq.{getD-set-same, getD-set-other}
-use Rattle.slices.specs.declared.state.State.{State}
+use Rattle.state.specs.declared.State.{State}
 use Rattle.out.specs.Out.{written, inOrder}
-use Rattle.state_words.specs.Words.{stateWords, mark, marked, endRead, wordsOf, stateRead, Narrow}
+use Rattle.state_words.specs.Words.{stateWords, mark, marked, endRead, wordsOfState, stateRead, Narrow}
 use Rattle.state_words.specs.Written.{stateOver}
 use Rattle.state_words.specs.Promises.{StateComesBack}
 
 -- ---- words that are written in order
-
-written-long : (vs : List ℕ) (a : ℕ) (words : List ℕ) → length (written (inOrder a vs) words) ≡ length words
-written-long [] a words = refl
-written-long (v ∷ vs) a words = written-long vs (suc a) (set words a v) ∙ length-set words a v
 
 stays-before : (vs : List ℕ) (a : ℕ) (words : List ℕ) (j : ℕ) → j < a → getD (written (inOrder a vs) words) j 0 ≡ getD words j 0
 stays-before [] a words j h = refl
@@ -51,8 +47,8 @@ low-16 : (n : ℕ) → n < 65536 → n % 65536 ≡ n
 low-16 n h = omega arith
 
 module _ (s : State) (words : List ℕ) (h : stateWords ≤ length words) where
-  at : (j : ℕ) → j < 16 → getD (stateOver s words) (0 + j) 0 ≡ getD (wordsOf s) j 0
-  at j l = stands-there (wordsOf s) 0 words j h l
+  at : (j : ℕ) → j < 16 → getD (stateOver s words) (0 + j) 0 ≡ getD (wordsOfState s) j 0
+  at j l = stands-there (wordsOfState s) 0 words j h l
 
 -- any state comes back but for an end above 3
 pub comes-back : (s : State) (words : List ℕ) → stateWords ≤ length words → Narrow (s .root) → stateRead (stateOver s words)

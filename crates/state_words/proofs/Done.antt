@@ -9,7 +9,7 @@ use native.Mathlib.Omega.{arith}
 use borrow.Author.Tests.{le-leb, lt-leb, eq-eqb, ne-eqb}
 use lib.ListN.{length}
 use Rattle.rules.proofs.Refusals.{decided-unique, decided-given, decided-not}
-use Rattle.slices.specs.declared.state.State.{State}
+use Rattle.state.specs.declared.State.{State}
 use Rattle.state_words.specs.Words.{stateWords, marked, endRead, Narrow}
 use Rattle.state_words.specs.Written.{stateShort, stateOver, StateDone}
 

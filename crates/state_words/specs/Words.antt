@@ -7,9 +7,9 @@ use Prim.Native.Nat.{ℕ, _%_, _<_}
 use lib.Dec.{eqb, leb}
 use lib.ListN.{getD}
 use Rattle.formula.specs.declared.kinds.Node.{Node}
-use Rattle.order.specs.declared.Cursor.{Cursor}
-use Rattle.candidate.specs.declared.counts.Counts.{Counts}
-use Rattle.slices.specs.declared.state.State.{State}
+use Rattle.split.specs.declared.Cursor.{Cursor}
+use Rattle.counting.specs.declared.Counts.{Counts}
+use Rattle.state.specs.declared.State.{State}
 
 -- "a fresh state into its first 16 words"
 abbrev pub stateWords : ℕ
@@ -22,15 +22,15 @@ mark true = 1
 mark false = 0
 
 -- "0 size, 1 kept, 2 tried, 3 left place, 4 right place, 5 operator position"; ours are 6 the split, 7 whether an operator's first order is done
-abbrev pub firstOf : ℕ → Counts → Cursor → List ℕ
-firstOf size counts at = size ∷ counts .kept ∷ counts .tried ∷ at .left ∷ at .right ∷ at .operator ∷ at .split ∷ mark (at .second) ∷ []
+abbrev pub firstWords : ℕ → Counts → Cursor → List ℕ
+firstWords size counts at = size ∷ counts .kept ∷ counts .tried ∷ at .left ∷ at .right ∷ at .operator ∷ at .split ∷ mark (at .second) ∷ []
 
 -- 8 the end (0 none, 1 FOUND, 2 NONE, 3 FULL), 9 to 12 FOUND's root (code, left, right, size), 13 dropped; 14 and 15 are 0
-abbrev pub restOf : ℕ → Node → ℕ → List ℕ
-restOf end root dropped = end ∷ root .code ∷ root .left .0 ∷ root .right .0 ∷ root .size ∷ dropped ∷ 0 ∷ 0 ∷ []
+abbrev pub lastWords : ℕ → Node → ℕ → List ℕ
+lastWords end root dropped = end ∷ root .code ∷ root .left .0 ∷ root .right .0 ∷ root .size ∷ dropped ∷ 0 ∷ 0 ∷ []
 
-abbrev pub wordsOf : State → List ℕ
-wordsOf s = firstOf (s .size) (s .counts) (s .at) ++ restOf (s .end) (s .root) (s .counts .dropped)
+abbrev pub wordsOfState : State → List ℕ
+wordsOfState s = firstWords (s .size) (s .counts) (s .at) ++ lastWords (s .end) (s .root) (s .counts .dropped)
 
 -- a root's fields are within their kinds, as those of every value of that type are
 pub record Narrow (n : Node) : Type 0 where

@@ -5,9 +5,9 @@ use mathlib.Core.List.{List, [], _∷_}
 use Prim.Native.Nat.{ℕ, _<_}
 use lib.ListN.{length}
 use Rattle.rules.specs.Refusals.{Row, Decided}
-use Rattle.slices.specs.declared.state.State.{State}
+use Rattle.state.specs.declared.State.{State}
 use Rattle.out.specs.Out.{written, inOrder}
-use Rattle.state_words.specs.Words.{stateWords, wordsOf, Narrow}
+use Rattle.state_words.specs.Words.{stateWords, wordsOfState, Narrow}
 
 -- "3 (state below 16 words ..)"
 abbrev pub stateShort : List ℕ → Row
@@ -15,7 +15,7 @@ stateShort words = record { number = 3; given = length words < stateWords }
 
 -- the state's words in the first 16; what follows them stays
 abbrev pub stateOver : State → List ℕ → List ℕ
-stateOver s words = written (inOrder 0 (wordsOf s)) words
+stateOver s words = written (inOrder 0 (wordsOfState s)) words
 
 -- "writes a fresh state into its first 16 words; 3"; "a refusal writes nothing"
 pub record StateDone (s : State) (old : List ℕ) (returned : ℕ) (new : List ℕ) : Type 0 where

@@ -1,19 +1,19 @@
 // The 16 words in which a C program keeps the state of a search in slices: how a state is written there, and how whatever stands there is read.
-use candidate::counts::Counts;
+use counting::Counts;
 use formula::kinds::Node;
-use order::Cursor;
 use rules::kinds::Place;
-use slices::state::State;
+use split::Cursor;
+use state::State;
 ghost use mathlib.Core.Path.{_≡_};
 ghost use Prim.Native.Nat.{_≤_};
 ghost use lib.ListN.{length, getD};
 ghost use Rattle.out.specs.Out.{written, inOrder};
 ghost use Rattle.slices.specs.Slices.{freshState};
-ghost use Rattle.state_words.specs.Words.{stateWords, mark, firstOf, restOf, Narrow, marked, endRead, cursorRead, countsRead, rootRead, stateRead};
+ghost use Rattle.state_words.specs.Words.{stateWords, mark, firstWords, lastWords, Narrow, marked, endRead, cursorRead, countsRead, rootRead, stateRead};
 ghost use Rattle.state_words.specs.Written.{StateDone};
 
 // The words of a state.
-pub const WORDS: usize = 16;
+pub const STATE_WORDS: usize = 16;
 
 // A word, 0 past the end.
 fn word(words: &[u64], at: usize) -> u64
@@ -100,7 +100,7 @@ pub fn read(words: &[u64]) -> State
 // Words 0 to 7.
 fn put_first(size: usize, counts: Counts, at: Cursor, words: &mut [u64])
     requires { ⌜ stateWords ≤ length (now words) ⌝ }
-    ensures { λ u. ⌜ now (words .exit) ≡ written (inOrder 0 (firstOf size counts at)) (now (words .entry)) ⌝ }
+    ensures { λ u. ⌜ now (words .exit) ≡ written (inOrder 0 (firstWords size counts at)) (now (words .entry)) ⌝ }
 {
     words[0] = size as u64;
     words[1] = counts.kept as u64;
@@ -121,7 +121,7 @@ fn mark_word(second: bool) -> u64
 // Words 8 to 15. The root's fields fit their kinds.
 fn put_rest(end: u64, root: Node, dropped: u64, words: &mut [u64])
     requires { ⌜ stateWords ≤ length (now words) ⌝ }
-    ensures { λ u. ⌜ Narrow root × (now (words .exit) ≡ written (inOrder 8 (restOf end root dropped)) (now (words .entry))) ⌝ }
+    ensures { λ u. ⌜ Narrow root × (now (words .exit) ≡ written (inOrder 8 (lastWords end root dropped)) (now (words .entry))) ⌝ }
 {
     words[8] = end;
     words[9] = root.code as u64;
@@ -137,7 +137,7 @@ fn put_rest(end: u64, root: Node, dropped: u64, words: &mut [u64])
 pub fn put(state: State, words: &mut [u64]) -> u64
     ensures { λ k. ⌜ StateDone state (now (words .entry)) k (now (words .exit)) ⌝ }
 {
-    if words.len() < WORDS {
+    if words.len() < STATE_WORDS {
         return 3;
     }
     put_first(state.size, state.counts, state.at, words);

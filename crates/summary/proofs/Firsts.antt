@@ -10,8 +10,8 @@ use lib.Pow.{pow-pos, pow-mono}
 use lib.Count.{trailingZeros, under, ones, onesIn, ones-step}
 use Rattle.words.specs.Ltlf.{Reading}
 use Rattle.words.specs.Word.{width, bit, At, Means}
-use Rattle.words.proofs.Bits.{bit-lt, bit-first, bit-rest, bit-zero, bits-ext}
-use Rattle.words.proofs.At.{at-or-not, at-and, and-at, at-not, at-below, wf-lt, lt-wf, not-at}
+use Rattle.words.proofs.Bits.{bit-first, bit-rest, bit-zero, bits-ext}
+use Rattle.words.proofs.At.{at-or-not, at-and, and-at, at-not, at-below, wf-lt, not-at}
 use Rattle.summary.specs.declared.values.First.{First}
 use Rattle.summary.specs.declared.values.First.the-variants.{Never, Snapshot}
 use Rattle.summary.specs.declared.values.Summary.{Summary}

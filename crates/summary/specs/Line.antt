@@ -2,7 +2,7 @@
 -- Assumes nothing.
 use mathlib.Core.List.{List, [], _∷_, _++_}
 use Prim.Native.Nat.{ℕ}
-use Rattle.writing.specs.Writing.{decimal}
+use Rattle.writing.specs.Writing.{decimal, newline}
 use Rattle.summary.specs.declared.values.First.{First}
 use Rattle.summary.specs.declared.values.First.the-variants.{Never, Snapshot}
 use Rattle.summary.specs.declared.values.Summary.{Summary}
@@ -10,9 +10,6 @@ use Rattle.summary.specs.declared.values.Summary.{Summary}
 -- a blank between (docs/DECISIONS.md)
 abbrev pub blank : List ℕ
 blank = 32 ∷ []
-
-abbrev pub newline : List ℕ
-newline = 10 ∷ []
 
 -- ` root`: "then the root itself as `root`"
 abbrev pub rootWord : List ℕ

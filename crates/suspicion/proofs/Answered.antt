@@ -11,7 +11,7 @@ use Rattle.session.specs.Recording.{Recording, recording}
 use Rattle.file.specs.declared.ReadAnswer.{ReadAnswer}
 use Rattle.file.specs.declared.ReadAnswer.the-variants.{Broken}
 use Rattle.file.specs.Format.{Parts}
-use Rattle.file.specs.Reading.{said, Lent, after, marksOf, lengthsOf, readOf}
+use Rattle.file.specs.Reading.{saidRead, Lent, readAfter, marksOf, lengthsOf, readOf}
 use Rattle.file.proofs.Numbers.{Bytes}
 use Rattle.formula.specs.Nodes.{Node, nodeAt}
 use Rattle.verdict.specs.Check.{saidVerdict, CheckAnswer}
@@ -42,7 +42,7 @@ module _ (typed names : List ℕ) (i : Recording) {left : Columns} {p : Parsed} 
   nodes-judged {n} e a c = shown-judged {q = Nodes n} {lines = verdictLine (c .0)} e a (c .0, c .1, refl) (c .2)
 
 module _ (file : List ℕ) (bytes : Bytes file) (l : Lent) (wide : Wide l) (a : ReadAnswer) (marks lengths words unary binary : List ℕ)
-    (e : after (said a) marks lengths words unary binary ≡ readOf file l) (typed : List ℕ) {old new : List ℕ} {k : ℕ} where
+    (e : readAfter (saidRead a) marks lengths words unary binary ≡ readOf file l) (typed : List ℕ) {old new : List ℕ} {k : ℕ} where
   -- a good file's names and sessions are those that the reader and the check are handed
   pub good-said : {r m n u b constants bound : ℕ} → Handed file bytes l wide a marks lengths words unary binary e r m n u b constants bound
       → JudgedBy typed (take n file) (recording r m (take r marks) (take r lengths) (take (m * r) words)) old new k → TypedLinesOf typed file old new k

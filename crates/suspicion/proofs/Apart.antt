@@ -10,8 +10,8 @@ use native.Mathlib.Nat.{pow-suc}
 use native.Mathlib.Omega.{arith}
 use lib.Dec.{ltb}
 use lib.ListN.{getD, replicate}
-use Rattle.writing.specs.Writing.{digit, digits, decimal, mostDigits}
-use Rattle.line.specs.Line.{refusedWord, newline, refusedLine, separatesLine, sessionWord, disagreesWord, disagreesLine, atWord}
+use Rattle.writing.specs.Writing.{digit, digits, decimal, mostDigits, newline}
+use Rattle.line.specs.Line.{refusedWord, refusedLine, separatesLine, sessionWord, disagreesWord, disagreesLine, atWord}
 use Rattle.suspicion.specs.Caret.{caret, pointedLines}
 
 -- ---- the last byte, and the one before it

@@ -21,13 +21,13 @@ use Rattle.formula.specs.Formula.{Formula, Separates}
 use Rattle.formula.specs.Recorded.{markedTraces}
 use Rattle.formula.specs.Nodes.{Node, nodeAt, Spells, codes}
 use Rattle.formula.specs.Rule.{Broken as NodesBroken}
-use Rattle.verdict.specs.Check.{saidVerdict, checkRows, FirstDisagrees, Judged, CheckAnswer}
+use Rattle.verdict.specs.Check.{saidVerdict, checkRows, FirstDisagrees, VerdictSays, CheckAnswer}
 use Rattle.verdict.specs.declared.Verdict.{Verdict}
 use Rattle.verdict.specs.declared.Verdict.the-variants.{Accepted, Disagrees, Refused}
 use Rattle.verdict.proofs.Checking.{decided-list}
 use Rattle.formula.proofs.Spelled.{one-formula}
 use Rattle.grammar.specs.Grammar.{Refused11}
-use Rattle.grammar.proofs.Theorems.{one-tree, decided}
+use Rattle.grammar.proofs.Theorems.{one-tree, formula-or-offset}
 use Rattle.reader.specs.declared.Parsed.{Parsed}
 use Rattle.reader.specs.declared.Parsed.the-variants.{Nodes, Broken, Stops, Unknown}
 use Rattle.reader.specs.declared.Parsed.the-variants as parsed
@@ -40,22 +40,22 @@ use Rattle.line.specs.Line.{refusedLine, refusedAtLine}
 use Rattle.writing.proofs.Digits.{written-front}
 use Rattle.suspicion.specs.Caret.{pointedLines}
 use Rattle.suspicion.specs.Suspicion.{recordingOf, roomy, firstNodes, verdictLine, Shows, FileSays}
-use Rattle.suspicion.specs.Promises.{IsTyped, Answer, Meant, ShownFor, SuspicionMeans}
-use Rattle.suspicion.specs.Promises.Answer.{is-separates, is-disagrees, is-stops, is-unknown, is-large}
+use Rattle.suspicion.specs.Promises.{IsTyped, TypedAnswer, TypedMeant, TypedShown, SuspicionMeans}
+use Rattle.suspicion.specs.Promises.TypedAnswer.{is-separates, is-disagrees, is-stops, is-unknown, is-large}
 use Rattle.suspicion.proofs.Apart.{separates-disagrees, separates-refused, separates-pointed, disagrees-refused, disagrees-pointed, disagrees-one}
 use Rattle.suspicion.proofs.Sizes.{says-short}
 
 -- ---- what the check says of a formula
 
-said-separates : (i : Recording) (t : Formula) → Judged i t (1 ∷ []) → Separates (markedTraces i) t
+said-separates : (i : Recording) (t : Formula) → VerdictSays i t (1 ∷ []) → Separates (markedTraces i) t
 said-separates i t (inl (s, e)) = s
 said-separates i t (inr (j, d, e)) = absurd (let z : _≡_ {A = ℕ} 1 0 = head-eq-of-cons-eq e in omega arith)
 
-said-disagrees : (i : Recording) (t : Formula) (j : ℕ) → Judged i t (0 ∷ j ∷ []) → FirstDisagrees i t j
+said-disagrees : (i : Recording) (t : Formula) (j : ℕ) → VerdictSays i t (0 ∷ j ∷ []) → FirstDisagrees i t j
 said-disagrees i t j (inl (s, e)) = absurd (let z : _≡_ {A = ℕ} 0 1 = head-eq-of-cons-eq e in omega arith)
 said-disagrees i t j (inr (h, d, e)) = subst (FirstDisagrees i t) (sym (head-eq-of-cons-eq (tail-eq-of-cons-eq e))) d
 
-none-said : (i : Recording) (t : Formula) → Judged i t [] → ⊥
+none-said : (i : Recording) (t : Formula) → VerdictSays i t [] → ⊥
 none-said i t (inl (s, e)) = nil≢cons e
 none-said i t (inr (j, d, e)) = nil≢cons e
 
@@ -95,8 +95,8 @@ module _ (p : Parts) (g : Good p) (text : List ℕ) where
         subst (λ (m : ℕ). Spells codes (firstNodes m left) (nodeAt (firstNodes m left) (m - 1)) t) (sym (head-eq-of-cons-eq (this .taken .values)))
         (read-spells roomy t (this .taken .nodes))
 
-    checked : (i : Recording) (v : Verdict) → CheckAnswer i k root (saidVerdict v) → saidVerdict v .number ≡ 0 → Judged i t (saidVerdict v .values)
-    checked i v c z = let (u, s, o) = c .passed z in subst (λ (f : Formula). Judged i f (saidVerdict v .values)) (one-formula k root u t s spelled) o
+    checked : (i : Recording) (v : Verdict) → CheckAnswer i k root (saidVerdict v) → saidVerdict v .number ≡ 0 → VerdictSays i t (saidVerdict v .values)
+    checked i v c z = let (u, s, o) = c .passed z in subst (λ (f : Formula). VerdictSays i f (saidVerdict v .values)) (one-formula k root u t s spelled) o
 
     -- and the check takes them: a good file's sessions pass its tests, and what is read passes number 9
     taken : Decided (checkRows (recordingOf p) k root) 0
@@ -111,7 +111,7 @@ module _ (p : Parts) (g : Good p) (text : List ℕ) where
 
   module _ (out : List ℕ) (left : Columns) where
     verdict : (n : ℕ) (a : Parses front text roomy left (saidParsed (Nodes n))) (v : Verdict)
-        → CheckAnswer (recordingOf p) (firstNodes n left) (nodeAt (firstNodes n left) (n - 1)) (saidVerdict v) → out ≡ verdictLine v → Answer p text out
+        → CheckAnswer (recordingOf p) (firstNodes n left) (nodeAt (firstNodes n left) (n - 1)) (saidVerdict v) → out ≡ verdictLine v → TypedAnswer p text out
     verdict n a Accepted c e =
         is-separates (t left n a) e (is-typed left n a) (said-separates (recordingOf p) (t left n a) (checked left n a (recordingOf p) Accepted c refl))
     verdict n a (Disagrees s) c e =
@@ -140,7 +140,7 @@ module _ (p : Parts) (g : Good p) (text : List ℕ) where
     not-broken o (inr (_, inr (_, inr (_, inr (_, inr (_, inl a)))))) = omega (arith, a .0)
     not-broken o (inr (_, inr (_, inr (_, inr (_, inr (_, inr (_, x))))))) = omega (arith, x .number)
 
-    stops : (o : ℕ) → Given (Stops o) → out ≡ pointedLines text o 11 → Answer p text out
+    stops : (o : ℕ) → Given (Stops o) → out ≡ pointedLines text o 11 → TypedAnswer p text out
     unfolding Decides
     stops o (inl a) s = absurd (omega (arith, a .0))
     stops o (inr (_, inl a)) s = absurd (omega (arith, a .0))
@@ -150,19 +150,19 @@ module _ (p : Parts) (g : Good p) (text : List ℕ) where
     stops o (inr (_, inr (_, inr (_, inr (_, inr (_, inl a)))))) s = absurd (omega (arith, a .0))
     stops o (inr (_, inr (_, inr (_, inr (_, inr (_, inr (_, x))))))) s = absurd (omega (arith, x .number))
 
-    unknown : (o : ℕ) → Given (Unknown o) → out ≡ pointedLines text o 13 → Answer p text out
+    unknown : (o : ℕ) → Given (Unknown o) → out ≡ pointedLines text o 13 → TypedAnswer p text out
     unfolding Decides
     unknown o (inl a) s = absurd (omega (arith, a .0))
     unknown o (inr (_, inl a)) s = absurd (omega (arith, a .0))
     unknown o (inr (_, inr (_, inl a))) s = absurd (omega (arith, a .0))
     unknown o (inr (_, inr (_, inr (f, inl (_, (k, v, u)))))) s =
-        is-unknown o s (⊎-elim (λ h. h) (λ h. absurd (f (h .0 ∷ []) (h .0, refl, h .1))) (decided text))
+        is-unknown o s (⊎-elim (λ h. h) (λ h. absurd (f (h .0 ∷ []) (h .0, refl, h .1))) (formula-or-offset text))
         (subst (λ (names : List (List ℕ)). FirstUnknown names text o) names-are (subst (FirstUnknown (namesIn front) text) (sym (head-eq-of-cons-eq v)) u))
     unknown o (inr (_, inr (_, inr (_, inr (_, inl a))))) s = absurd (omega (arith, a .0))
     unknown o (inr (_, inr (_, inr (_, inr (_, inr (_, inl a)))))) s = absurd (omega (arith, a .0))
     unknown o (inr (_, inr (_, inr (_, inr (_, inr (_, inr (_, x))))))) s = absurd (omega (arith, x .number))
 
-    large : (m : ℕ) → Given (parsed.Refused m) → out ≡ refusedLine m → Answer p text out
+    large : (m : ℕ) → Given (parsed.Refused m) → out ≡ refusedLine m → TypedAnswer p text out
     unfolding Decides
     large m (inl a) s = absurd (nil≢cons (a .1 .1))
     large m (inr (_, inl (e, (_, l)))) s = is-large (s ∙ ap refusedLine e) (inl l)
@@ -172,7 +172,7 @@ module _ (p : Parts) (g : Good p) (text : List ℕ) where
     large m (inr (_, inr (_, inr (_, inr (_, inr (f, inl (_, (_, (u, r, h))))))))) s = absurd (f [] (refl, inl (u, r, h)))
     large m (inr (_, inr (_, inr (_, inr (_, inr (_, inr (_, x))))))) s = absurd (nil≢cons (x .values))
 
-    answer : (x : Parsed) → Parses front text roomy left (saidParsed x) → Shows (recordingOf p) text left x out → Answer p text out
+    answer : (x : Parsed) → Parses front text roomy left (saidParsed x) → Shows (recordingOf p) text left x out → TypedAnswer p text out
     answer (Nodes n) a (v, c, e) = verdict n a v c e
     answer (Broken o) a s = absurd (not-broken o (a .answer))
     answer (Stops o) a s = stops o (a .answer) s
@@ -182,7 +182,7 @@ module _ (p : Parts) (g : Good p) (text : List ℕ) where
   -- ---- what the lines say
 
   module _ (out : List ℕ) where
-    meant : Answer p text out → Meant p text out
+    meant : TypedAnswer p text out → TypedMeant p text out
     meant (is-separates t e x s) = record { answer = is-separates t e x s; separates = λ q. (t, x, s); disagrees = λ j l q. absurd (separates-disagrees j (sym e ∙ q)) }
     meant (is-disagrees t i e x d) = record {
       answer = is-disagrees t i e x d;
@@ -210,7 +210,7 @@ module _ (file : List ℕ) (bytes : (i : ℕ) → getD file i 0 < 256) (text out
   broken-says f (got p next) e s = absurd (let (g, is) = passed-is-good file bytes p next e in f (p, g, is))
   broken-says f (bad o) e s = (o, e, s)
 
-  shown-for : ShownFor file text out
+  shown-for : TypedShown file text out
   shown-for = record {
     good = λ p g e. let s = subst (λ (w : Got Parts). FileSays w text out) (good-passes file p g e) says in meant p g text out (answer p g text out (s .left) (s .answer)
         (s .parses) (s .shows));
@@ -221,4 +221,4 @@ pub suspicion-means : SuspicionMeans
 suspicion-means text file bytes old new r room w =
     let short = says-short (wholeFile file) text (w .lines) (w .says) in
     let is : take r new ≡ w .lines = written-front (w .lines) (omega arith) (w .wrote) .1 in
-    subst (ShownFor file text) (sym is) (shown-for file bytes text (w .lines) (w .says))
+    subst (TypedShown file text) (sym is) (shown-for file bytes text (w .lines) (w .says))

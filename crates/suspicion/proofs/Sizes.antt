@@ -16,9 +16,9 @@ use Rattle.reader.specs.declared.Parsed.{Parsed}
 use Rattle.reader.specs.declared.Parsed.the-variants.{Nodes, Broken, Stops, Unknown}
 use Rattle.reader.specs.declared.Parsed.the-variants as parsed
 use Rattle.reader.specs.Parsing.{Columns, saidParsed, Parses}
-use Rattle.writing.specs.Writing.{decimal, mostDigits}
+use Rattle.writing.specs.Writing.{decimal, mostDigits, newline}
 use Rattle.writing.proofs.Writing.{wrote-whole}
-use Rattle.line.specs.Line.{refusedWord, newline, sessionWord, disagreesWord, disagreesLine, atWord, refusedAtLine}
+use Rattle.line.specs.Line.{refusedWord, sessionWord, disagreesWord, disagreesLine, atWord, refusedAtLine}
 use Rattle.line.proofs.Digits.{refused-short}
 use Rattle.writing.proofs.Digits.{few-digits}
 use Rattle.suspicion.specs.Caret.{caret, pointedLines}

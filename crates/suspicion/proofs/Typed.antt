@@ -2,10 +2,9 @@
 -- 4,096 bytes.
 -- Assumes nothing.
 use mathlib.Core.Path.{_≡_, refl, sym, ap, _∙_, subst}
-use mathlib.Core.Logic.{_⊎_, inl, inr, ⊎-elim}
+use mathlib.Core.Logic.{_⊎_, inl, inr}
 use mathlib.Core.List.{List, [], _∷_, map, head-eq-of-cons-eq}
 use Prim.Native.Nat.{ℕ, zero, suc, _≤_, _<_}
-use native.Mathlib.Decide.{decLt}
 use native.Mathlib.Omega.{arith}
 use lib.ListN.{length, take, drop, replicate, length-append, length-map}
 use Rattle.rules.specs.Answers.{Said, over}
@@ -19,15 +18,13 @@ use Rattle.reader.specs.declared.Parsed.{Parsed}
 use Rattle.reader.specs.declared.Parsed.the-variants.{Nodes, Stops, Unknown}
 use Rattle.reader.specs.Parsing.{Decides, Columns, saidParsed, parseRows, Taken, Parses}
 use Rattle.reader.proofs.Scratch.{nodes-length}
+use Rattle.reader.proofs.Offsets.{within-11, within-13, at-most}
 use Rattle.round_trip.proofs.Contracts.{parse-passed}
 
 module _ (names text : List ℕ) (old left : Columns) where
   -- an offset carried by a refusal is within the text
   Within : Said → Type 0
   Within s = (o : ℕ) → s .values ≡ o ∷ [] → (s .number ≡ 11) ⊎ (s .number ≡ 13) → (o ≤ mostBytes) × (length text ≤ mostBytes)
-
-  not-long : ((values : List ℕ) → (values ≡ []) × (mostBytes < length text) → ⊥) → length text ≤ mostBytes
-  not-long f = elim (decLt mostBytes (length text)) [ yes h ↦ absurd (f [] (refl, h)) | no h ↦ omega arith ]
 
   other : {A : Type 0} {k n : ℕ} → k ≡ n → (n ≡ 11 → ⊥) → (n ≡ 13 → ⊥) → (k ≡ 11) ⊎ (k ≡ 13) → A
   other e f g (inl x) = absurd (f (sym e ∙ x))
@@ -39,10 +36,10 @@ module _ (names text : List ℕ) (old left : Columns) where
   within s (inr (_, inl a)) o v n = other (a .0) (λ z. omega arith) (λ z. omega arith) n
   within s (inr (_, inr (l, inl (e, (k, w, r))))) o v n =
       let h : o ≡ k = head-eq-of-cons-eq (sym v ∙ w) in
-      (⊎-elim (λ x. omega (arith, h, x .0, not-long l)) (λ x. omega (arith, h, x .0, not-long l)) (r .here), not-long l)
+      (omega (arith, h, within-11 r, at-most text l), at-most text l)
   within s (inr (_, inr (l, inr (_, inl (e, (k, w, u)))))) o v n =
       let h : o ≡ k = head-eq-of-cons-eq (sym v ∙ w) in
-      (omega (arith, h, u .here .word .some, u .here .word .within, not-long l), not-long l)
+      (omega (arith, h, within-13 u, at-most text l), at-most text l)
   within s (inr (_, inr (_, inr (_, inr (_, inl a))))) o v n = other (a .0) (λ z. omega arith) (λ z. omega arith) n
   within s (inr (_, inr (_, inr (_, inr (_, inr (_, inl a)))))) o v n = other (a .0) (λ z. omega arith) (λ z. omega arith) n
   within s (inr (_, inr (_, inr (_, inr (_, inr (_, inr (_, t))))))) o v n = other (t .number) (λ z. omega arith) (λ z. omega arith) n

@@ -18,7 +18,7 @@ use Rattle.reader.specs.Parsing.{Columns}
 use Rattle.reader.proofs.Unique.{parse-unique}
 use Rattle.writing.specs.Writing.{Wrote}
 use Rattle.writing.proofs.Writing.{wrote-unique, wrote-length}
-use Rattle.suspicion.specs.Suspicion.{roomy, firstNodes, verdictLine, Shows, TypedSays, FileSays, TypedLinesOf}
+use Rattle.suspicion.specs.Suspicion.{roomy, firstNodes, verdictLine, Shows, FileSays, TypedLinesOf}
 
 -- one answer has one list of lines
 shows-one : (i : Recording) (typed : List ℕ) (c : Columns) (p : Parsed) (x y : List ℕ) → Shows i typed c p x → Shows i typed c p y → x ≡ y

@@ -3,7 +3,8 @@
 use mathlib.Core.List.{List, [], _∷_, _++_}
 use Prim.Native.Nat.{ℕ}
 use lib.ListN.{replicate}
-use Rattle.line.specs.Line.{newline, refusedAtLine}
+use Rattle.line.specs.Line.{refusedAtLine}
+use Rattle.writing.specs.Writing.{newline}
 
 -- `^`, and the line's end
 abbrev pub caret : List ℕ

@@ -35,25 +35,29 @@ pub record IsTyped (names : List (List ℕ)) (text : List ℕ) (t : Formula) : T
 -- `session N disagrees`: what is typed is a formula, session N has another mark than it gives, and every session before N agrees;
 -- the caret with 11: the first byte that can't continue a formula; with 13: what is typed is a formula, and this is its first unknown name;
 -- `refused 12`: it is too long, too large or nested too deep. There is no other answer
-pub data Answer (p : Parts) (text out : List ℕ) : Type 0 where
-  is-separates : (t : Formula) → out ≡ separatesLine → IsTyped (p .names) text t → Separates (markedTraces (recordingOf p)) t → Answer p text out
-  is-disagrees : (t : Formula) (j : ℕ) → out ≡ disagreesLine j → IsTyped (p .names) text t → FirstDisagrees (recordingOf p) t j → Answer p text out
-  is-stops : (o : ℕ) → out ≡ pointedLines text o 11 → Refused11 text o → Answer p text out
-  is-unknown : (o : ℕ) → out ≡ pointedLines text o 13 → IsFormula text → FirstUnknown (p .names) text o → Answer p text out
-  is-large : out ≡ refusedLine 12 → (mostBytes < length text) ⊎ ((u : Typed) × Reads text u × (mostSize < size u)) ⊎ Deep text → Answer p text out
+pub data TypedAnswer (p : Parts) (text out : List ℕ) : Type 0 where
+  is-separates : (t : Formula) → out ≡ separatesLine → IsTyped (p .names) text t → Separates (markedTraces (recordingOf p)) t → TypedAnswer p text out
+  is-disagrees : (t : Formula) (j : ℕ) → out ≡ disagreesLine j → IsTyped (p .names) text t → FirstDisagrees (recordingOf p) t j → TypedAnswer p text out
+  is-stops : (o : ℕ) → out ≡ pointedLines text o 11 → Refused11 text o → TypedAnswer p text out
+  is-unknown : (o : ℕ) → out ≡ pointedLines text o 13 → IsFormula text → FirstUnknown (p .names) text o → TypedAnswer p text out
+  is-large : out ≡ refusedLine 12 → (mostBytes < length text) ⊎ ((u : Typed) × Reads text u × (mostSize < size u)) ⊎ Deep text → TypedAnswer p text out
 
 -- and no other answer has the line of a verdict: where such a line is all that is written, it is so. N has at most 20 digits
-pub record Meant (p : Parts) (text out : List ℕ) : Type 0 where
-  pub answer : Answer p text out
+pub record TypedMeant (p : Parts) (text out : List ℕ) : Type 0 where
+  pub answer : TypedAnswer p text out
   pub separates : out ≡ separatesLine → (t : Formula) × IsTyped (p .names) text t × Separates (markedTraces (recordingOf p)) t
   pub disagrees : (j : ℕ) → j < 10 ^ mostDigits → out ≡ disagreesLine j → (t : Formula) × IsTyped (p .names) text t × FirstDisagrees (recordingOf p) t j
 
 -- of the bytes of good parts, and of any other file
-pub record ShownFor (file text out : List ℕ) : Type 0 where
-  pub good : (p : Parts) → Good p → fileBytes p ≡ file → Meant p text out
+pub record TypedShown (file text out : List ℕ) : Type 0 where
+  pub good : (p : Parts) → Good p → fileBytes p ≡ file → TypedMeant p text out
   pub broken : (GoodFile file → ⊥) → (o : ℕ) × (wholeFile file ≡ bad o) × (out ≡ refusedAtLine 8 o)
 
--- whatever is written for a text and a file, a list of bytes, means what it says; 8,248 bytes hold every answer
+-- so many bytes hold every answer
+abbrev pub longestAnswer : ℕ
+longestAnswer = 8248
+
+-- whatever is written for a text and a file, a list of bytes, means what it says
 abbrev pub SuspicionMeans : Type 0
-SuspicionMeans = (text file : List ℕ) → ((i : ℕ) → getD file i 0 < 256) → (old new : List ℕ) (r : ℕ) → 8248 ≤ length old → TypedLinesOf text file old new r
-    → ShownFor file text (take r new)
+SuspicionMeans = (text file : List ℕ) → ((i : ℕ) → getD file i 0 < 256) → (old new : List ℕ) (r : ℕ) → longestAnswer ≤ length old → TypedLinesOf text file old new r
+    → TypedShown file text (take r new)

@@ -2,15 +2,16 @@
 use line::refused_at;
 use writing::put;
 ghost use Prim.Native.Nat.{_≤_};
+ghost use Rattle.rules.specs.Limits.{mostBytes};
 ghost use Rattle.writing.specs.Writing.{Wrote};
 ghost use Rattle.suspicion.specs.Caret.{pointedLines};
 
 // What was typed, a caret under the byte at the offset, and the refusal.
 pub(crate) fn pointed(text: &mut [u8], typed: &[u8], at: usize, number: u8) -> usize
-    requires { ⌜ at ≤ 4096 ⌝ }
+    requires { ⌜ at ≤ mostBytes ⌝ }
     ensures { λ r. ⌜ Wrote (now (text .entry)) 0 (pointedLines (now (typed .entry)) at number) (now (text .exit)) r ⌝ }
 {
-    let blank = [b' '; 4096];
+    let blank = [b' '; rules::TYPED];
     let a = put(text, 0, typed);
     let b = put(text, a, b"\n");
     let c = put(text, b, &blank[..at]);

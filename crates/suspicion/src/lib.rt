@@ -10,6 +10,9 @@ ghost use Rattle.formula.specs.Kinds.{nodes};
 ghost use Rattle.suspicion.specs.Suspicion.{TypedLinesOf};
 ghost use Rattle.suspicion.specs.Inner.{Checked, JudgedBy};
 
+// So many bytes hold every answer.
+pub const LONGEST: usize = 8248;
+
 // The line of what the check says of the formula whose root is the node at a place of these.
 fn checked(
     r: usize,

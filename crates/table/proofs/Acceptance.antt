@@ -1,12 +1,10 @@
 -- Acceptance: the program's test of a session is the walk's, and so it is of all of them.
 -- Assumes nothing.
-use mathlib.Core.Path.{_≡_, refl, sym, ap, ap₂, _∙_}
+use mathlib.Core.Path.{_≡_, refl, sym, ap, ap₂}
 use mathlib.Core.Bool.{Bool, true, false, _&&_, not, Bool·beq}
-use mathlib.Core.List.{List}
 use Prim.Native.Nat.{ℕ, zero, suc, _+_, _-_, _≤_, _<_}
 use native.Mathlib.Omega.{arith}
 use native.Mathlib.Numerals.{add-one}
-use lib.ListN.{length, take}
 use lib.Seq.{getD-take}
 use lib.Dec.{eqb}
 use lib.Bits.{bitAnd}
@@ -15,9 +13,9 @@ use Rattle.words.specs.Word.{bit}
 use Rattle.words.proofs.At.{at-first}
 use Rattle.rules.specs.Lists.{count}
 use Rattle.walk.specs.Rows.{acceptsRow}
-use Rattle.walk.specs.Input.{Input, every, separating}
+use Rattle.walk.specs.Input.{every, separating}
 use Rattle.session.specs.Recording.{markOf}
-use Rattle.table.specs.Compare.{agreesAt, agreeing}
+use Rattle.table.specs.Acceptance.{agreeing}
 use Rattle.table.specs.Promises.{AgreesSeparating}
 
 -- ---- one session

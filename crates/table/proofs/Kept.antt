@@ -16,11 +16,11 @@ use Rattle.walk.specs.Input.{Input, row}
 use Rattle.walk.specs.Kept.{Table}
 use Rattle.table.specs.Slices.{Cols, tableOver}
 use Rattle.table.specs.Keep.{KeepAsk, keptAt}
-use Rattle.rows.specs.Formulas.{nothing, matrixAt, Fine}
+use Rattle.rows.specs.Formulas.{noCandidate, matrixAt, Fine}
 use Rattle.table.specs.Formulas.{HoldsKept, RoomAt}
 use Rattle.table.specs.Promises.{HeldIsStored, KeepGrows}
 use Rattle.rows.proofs.Matrices.{length-map}
-use Rattle.rows.proofs.Products.{place-end}
+use Rattle.leaves.proofs.Products.{place-end}
 
 -- ---- contents at the front
 
@@ -95,10 +95,10 @@ length-snoc k x = length-append k (x ∷ [])
 
 fine-snoc : (i : Input) (k : Table) (x : Candidate (List ℕ)) → AllFine i k → Fine i (x .matrix) → AllFine i (k ++ (x ∷ []))
 fine-snoc i k x f w p l = elim (decLe (suc p) (length k)) [
-  | yes h ↦ subst (λ (c : Candidate (List ℕ)). Fine i (c .matrix)) (sym (List·getD-append k (x ∷ []) nothing p h)) (f p h)
+  | yes h ↦ subst (λ (c : Candidate (List ℕ)). Fine i (c .matrix)) (sym (List·getD-append k (x ∷ []) noCandidate p h)) (f p h)
   | no h ↦ (
       let e : p ≡ length k = omega (arith, length-snoc k x) in
-      subst (λ (c : Candidate (List ℕ)). Fine i (c .matrix)) (sym (ap (λ (n : ℕ). getD (k ++ (x ∷ [])) n nothing) e ∙ getD-append-seam k x [] nothing)) w)
+      subst (λ (c : Candidate (List ℕ)). Fine i (c .matrix)) (sym (ap (λ (n : ℕ). getD (k ++ (x ∷ [])) n noCandidate) e ∙ getD-append-seam k x [] noCandidate)) w)
 ]
 
 module _ (k : Table) (f : Candidate (List ℕ) → ℕ) (old : List ℕ) (m : length k < length old) where

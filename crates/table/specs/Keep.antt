@@ -8,7 +8,7 @@ use lib.ListN.{length, set}
 use lib.Seq.{paste}
 use Rattle.rules.specs.Limits.{mostSessions}
 use Rattle.formula.specs.Nodes.{Node}
-use Rattle.rows.specs.Rows.{Told}
+use Rattle.loops.specs.Loops.{Told}
 use Rattle.table.specs.Slices.{Cols, cols}
 
 -- there are r rows, and the place is one of each slice

@@ -1,22 +1,17 @@
 -- What the table's contracts come to in the walk's terms, for an input that passes the checks. Each is proved under its name in proofs/:
--- agrees-separating (Acceptance), known-is-known and known-by (Duplicates), held-is-stored and keep-grows (Kept).
+-- agrees-separating (Acceptance), held-is-stored and keep-grows (Kept).
 -- Assumes nothing.
 use mathlib.Core.Path.{_≡_}
-use mathlib.Core.Bool.{Bool, true, false}
+use mathlib.Core.Bool.{Bool, true}
 use mathlib.Core.List.{List, [], _∷_, _++_}
 use Prim.Native.Nat.{ℕ, _≤_}
 use lib.ListN.{length, take}
-use Rattle.rules.specs.declared.kinds.Place.{Place}
-use Rattle.walk.specs.Walk.{Candidate, Ending, Tally, ended}
-use Rattle.walk.specs.Walk as walk
-use Rattle.walk.specs.Input.{Input, Passes, separating, offer, search}
+use Rattle.walk.specs.Walk.{Candidate}
+use Rattle.walk.specs.Input.{Input, Passes, separating}
 use Rattle.walk.specs.Kept.{Table}
-use Rattle.walk.specs.Promises.{Drops, SuperfluousBy}
 use Rattle.rows.specs.Formulas.{Fine, Stored}
-use Rattle.table.specs.declared.Known.{Known}
-use Rattle.table.specs.declared.Known.the-variants.{At, New}
 use Rattle.table.specs.Slices.{Cols}
-use Rattle.table.specs.Compare.{agreeing, KnownAnswer}
+use Rattle.table.specs.Acceptance.{agreeing}
 use Rattle.table.specs.Keep.{KeepAnswer}
 use Rattle.table.specs.Formulas.{HoldsKept, RoomAt}
 
@@ -24,23 +19,6 @@ use Rattle.table.specs.Formulas.{HoldsKept, RoomAt}
 abbrev pub AgreesSeparating : Type 0
 AgreesSeparating = (i : Input) → Passes i → (rows : List ℕ) → i .recording .sessions ≤ length rows
     → agreeing (i .recording .sessions) (i .recording .marks) rows ≡ separating i (take (i .recording .sessions) rows)
-
--- a place is answered where the walk knows the matrix
-abbrev pub isAt : Known → Bool
-isAt (At p) = true
-isAt New = false
-
-abbrev pub KnownIsKnown : Type 0
-KnownIsKnown = (i : Input) → Passes i → (k : Table) (matrices rows : List ℕ) → Stored i k matrices → length k ≤ i .room → i .recording .sessions ≤ length rows
-    → (a : Known) → KnownAnswer (i .recording .sessions) matrices rows (length k) a → walk.known (offer i) (take (i .recording .sessions) rows) k ≡ isAt a
-
--- request E6's "Say which formula made a candidate superfluous": where the walk drops c, the comparison of its matrix with those kept so far answers
--- the place of the one formula that makes it superfluous (walk: dropped-by)
-abbrev pub KnownBy : Type 0
-KnownBy = (i : Input) → Passes i → (e : Ending) (k : Table) (n : Tally) → search i ≡ ended e k n → (before : Table) (c : Candidate (List ℕ)) (d : Drops i before c)
-    → (matrices rows : List ℕ) → Stored i (d .so-far) matrices → i .recording .sessions ≤ length rows → take (i .recording .sessions) rows ≡ c .matrix
-    → (a : Known) → KnownAnswer (i .recording .sessions) matrices rows (length (d .so-far)) a
-    → (p : Place) × (a ≡ At p) × SuperfluousBy k before c (p .0)
 
 -- the slices that hold a table are those that store its matrices
 abbrev pub HeldIsStored : Type 0

@@ -4,7 +4,9 @@ ghost use mathlib.Core.Path.{_≡_};
 ghost use Prim.Native.Nat.{_+_, _≤_};
 ghost use lib.ListN.{length};
 ghost use lib.Seq.{paste};
-ghost use Rattle.table.specs.Inner.{Long, Decides, FitsAt};
+ghost use Rattle.table.specs.Inner.{FitsAt};
+ghost use Rattle.rules.specs.Limits.{WordForEach};
+ghost use Rattle.rules.specs.Answers.{Tested};
 
 // Whether there are r rows, and slices of those lengths have the place.
 pub(crate) fn fits(
@@ -17,7 +19,7 @@ pub(crate) fn fits(
     sizes: usize,
     matrices: usize,
 ) -> bool
-    ensures { λ b. ⌜ Decides (FitsAt r (place .0) rows codes lefts rights sizes matrices) b ⌝ }
+    ensures { λ b. ⌜ Tested (FitsAt r (place .0) rows codes lefts rights sizes matrices) b ⌝ }
 {
     if rules::SESSIONS < r {
         return false;
@@ -46,7 +48,7 @@ pub(crate) fn fits(
 
 // Writes the rows from `from` on.
 pub(crate) fn put(r: usize, matrices: &mut [u64], rows: &[u64], from: usize)
-    requires { ⌜ Long r (now rows) × (from + r ≤ length (now matrices)) ⌝ }
+    requires { ⌜ WordForEach r (now rows) × (from + r ≤ length (now matrices)) ⌝ }
     ensures { λ u. ⌜ now (matrices .exit) ≡ paste (now (matrices .entry)) from (now (rows .entry)) r ⌝ }
 {
     let mut j: usize = 0;

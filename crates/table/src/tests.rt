@@ -5,8 +5,8 @@ ghost use lib.Dec.{eqb};
 ghost use Rattle.rules.specs.Lists.{count};
 ghost use Rattle.walk.specs.Rows.{acceptsRow};
 ghost use Rattle.walk.specs.Input.{every};
-ghost use Rattle.table.specs.Compare.{agreesAt};
-ghost use Rattle.table.specs.Inner.{Long};
+ghost use Rattle.table.specs.Acceptance.{agreesAt};
+ghost use Rattle.rules.specs.Limits.{WordForEach};
 
 // A session accepts what has bit 0 of its row set.
 fn agrees_at(x: u64, mark: u8) -> bool
@@ -17,7 +17,7 @@ fn agrees_at(x: u64, mark: u8) -> bool
 
 // Whether each session agrees with its mark.
 pub(crate) fn all_agree(r: usize, marks: &[u8], rows: &[u64]) -> bool
-    requires { ⌜ Long r (now marks) × Long r (now rows) ⌝ }
+    requires { ⌜ WordForEach r (now marks) × WordForEach r (now rows) ⌝ }
     ensures { λ b. ⌜ b ≡ every (count 0 r) (agreesAt (now (marks .entry)) (now (rows .entry))) ⌝ }
 {
     let mut j: usize = 0;

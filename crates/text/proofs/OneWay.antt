@@ -18,11 +18,13 @@ use Rattle.rules.specs.Lists.{Each}
 use Rattle.formula.specs.Formula.{leaf, unary, binary, Leaf, proposition, constant, Formula}
 use Rattle.reading.proofs.Lists.{true-false}
 use Rattle.reading.proofs.Ends.{each-at, end-sound}
-use Rattle.names.specs.Names.{propositions, isNameByte, isLetter, fitsName, GoodName, namesUpTo, namesIn, GoodNames}
+use Rattle.names.specs.Names.{isNameByte, isLetter, fitsName, GoodName, namesUpTo, namesIn}
+use Rattle.rules.specs.Limits.{mostPropositions}
 use Rattle.names.proofs.NameLaws.{names-sound}
 use Rattle.text.specs.Text.{text, leafText}
 use Rattle.text.specs.Tokens.{Named}
 use Rattle.text.proofs.Tokens.{constant-reserved}
+use Rattle.text.specs.Promises.{ReadOneWay}
 
 -- ---- runs without a space or a bracket
 
@@ -193,8 +195,7 @@ module _ (names : List (List ℕ)) (good : Each GoodName [] names) where
       let o : op ≡ ob = sym (binary-back op) ∙ ap (λ (g : List ℕ). binaryOf (key g)) (y .0) ∙ binary-back ob in
       (ap (λ (g : Binary). binary g t u) o ∙ ap (λ (g : Formula). binary ob g u) (x .0) ∙ ap (binary ob v) (z .0), tail-eq-of-cons-eq (z .1))
 
--- over the names of any section that print accepts
-pub read-one-way : (file : List ℕ) → GoodNames file → (t u : Formula) → Named (length (namesIn file)) t → Named (length (namesIn file)) u → text (namesIn file) t ≡ text (namesIn file) u → t ≡ u
+pub read-one-way : ReadOneWay
 read-one-way file g t u h k e =
-    let good = names-sound file propositions 0 (end-sound file (namesUpTo propositions file 0) (g .1) .0) .fits in
+    let good = names-sound file mostPropositions 0 (end-sound file (namesUpTo mostPropositions file 0) (g .1) .0) .fits in
     same (namesIn file) good t u h k [] [] (ap (λ (x : List ℕ). x ++ (41 ∷ [])) e) .0

@@ -1,52 +1,44 @@
--- Printing a node over its children: its length, the room it needs, and its bytes.
+-- Printing a node over its children: the room it needs, and its bytes.
 -- Assumes nothing.
 use mathlib.Core.Path.{_≡_, refl, sym, ap, _∙_, subst}
+use mathlib.Core.Logic.{_⊎_}
 use mathlib.Core.Bool.{true, false}
 use mathlib.Core.List.{List, [], _∷_, _++_, append-assoc}
-use Prim.Native.Nat.{ℕ, _+_, _≤_, _<_}
+use Prim.Native.Nat.{ℕ, _≤_, _<_}
 use native.Mathlib.Omega.{arith}
 use lib.ListN.{length, getD}
-use Rattle.operators.specs.declared.Operator.{Operator}
-use Rattle.sequence.specs.Operators.{Unary, Binary, unaryToken, binaryToken}
-use Rattle.operators.specs.Table.{Listed}
-use Rattle.sequence.proofs.Unique.{unary-one, binary-one}
+use Rattle.sequence.specs.Operators.{unaryToken}
 use Rattle.formula.specs.Formula.{leaf, unary, binary, proposition, constant, Formula}
 use Rattle.formula.specs.Nodes.{Node, nodeAt, Spells, codes}
 use Rattle.formula.proofs.Trees.{spells-size}
 use Rattle.formula.specs.Rule.{IsUnary, IsBinary, propositionCode}
-use Rattle.text.specs.Text.{text, leafText, mostText}
-use Rattle.formula.specs.Faultless.{Fits}
+use Rattle.text.specs.Text.{space, bracketed, text, leafText, mostText}
 use Rattle.names.specs.Names.{namesIn}
 use Rattle.writing.specs.Writing.{Wrote}
-use Rattle.text.specs.Inner.{Printable, Long, Written, beforeLast}
-use Rattle.formula.proofs.Faults.{not-both, not-unary-leaf, not-binary-leaf, fits-small}
+use Rattle.text.specs.Inner.{Printable, TextWritten, WrittenAt, spaced, TokenWritten, BetweenWritten}
+use Rattle.formula.proofs.Faults.{not-both, not-unary-leaf, not-binary-leaf, fits-small, left-fits, right-fits}
 use Rattle.formula.proofs.Spelled.{spelled}
 use Rattle.names.proofs.Starts.{short-names}
 use Rattle.writing.proofs.Writing.{wrote-both}
-use Rattle.text.proofs.Texts.{Token, unary-token, binary-token, length-unary, length-binary, text-fits}
+use Rattle.text.proofs.Texts.{unary-token, binary-token, text-fits}
 
 module _ (file : List ℕ) (k : List Node) where
-  -- a child is printed over the places below its own
-  pub printable-at : {b : ℕ} {nd : Node} → Printable file k b nd → (p : ℕ) → p < b → {child : Node} → child ≡ nodeAt k p → Printable file k p child
-  printable-at r p h e =
-      let w = r .within in
-      record {
-        good = r .good;
-        all = r .all;
-        within = omega arith;
-        fits = subst (Fits (length (namesIn file)) k p) (sym e) (r .all p (omega arith));
-      }
+  -- what is asked of a node over the list is asked of its children, which are smaller
+  pub printable-left : {nd : Node} → Printable file k nd → IsUnary (nd .code) ⊎ IsBinary (nd .code)
+      → Printable file k (nodeAt k (nd .left)) × (nodeAt k (nd .left) .size < nd .size)
+  printable-left {nd} r u = let f = left-fits (length (namesIn file)) k (r .all) nd (r .fits) u in (record { good = r .good; all = r .all; fits = f .0 }, f .1)
 
-  -- the formula of a node
-  pub formula-of : {b : ℕ} {nd : Node} → Printable file k b nd → (t : Formula) × Spells codes k nd t
-  formula-of {b} {nd} r = spelled (length (namesIn file)) k (r .all) b (r .within) nd (r .fits)
+  pub printable-right : {nd : Node} → Printable file k nd → IsBinary (nd .code) → Printable file k (nodeAt k (nd .right)) × (nodeAt k (nd .right) .size < nd .size)
+  printable-right {nd} r u = let f = right-fits (length (namesIn file)) k (r .all) nd (r .fits) u in (record { good = r .good; all = r .all; fits = f .0 }, f .1)
 
-  pub long-bound : {b : ℕ} {nd : Node} {x : ℕ} → Printable file k b nd → Long file k nd x → x ≤ mostText
-  long-bound {b} {nd} {x} r l =
-      let t = formula-of r in
-      let e = l (t .0) (t .1) in
-      let s = spells-size codes k nd (t .0) (t .1) in
-      omega (arith, text-fits (namesIn file) (short-names file (r .good)) (t .0) (omega (arith, fits-small (length (namesIn file)) k b nd (r .fits))))
+  -- the formula of a node, and the room that its text needs
+  pub formula-of : {nd : Node} → Printable file k nd → (t : Formula) × Spells codes k nd t
+  formula-of {nd} r = spelled (length (namesIn file)) k (r .all) (length k) (omega arith) nd (r .fits)
+
+  pub text-bound : {nd : Node} → Printable file k nd → (t : Formula) → Spells codes k nd t → length (text (namesIn file) t) ≤ mostText
+  text-bound {nd} r t s =
+      let z = spells-size codes k nd t s in
+      text-fits (namesIn file) (short-names file (r .good)) t (omega (arith, fits-small (length (namesIn file)) k (length k) nd (r .fits)))
 
   module _ (nd : Node) where
     -- ---- leaves
@@ -73,70 +65,39 @@ module _ (file : List ℕ) (k : List Node) where
     true-text e (unary op t) s = absurd (not-unary-leaf (nd .code) (op, sym (s .0)) (constant true, sym e))
     true-text e (binary op l t) s = absurd (not-binary-leaf (nd .code) (op, sym (s .0)) (constant true, sym e))
 
-    -- a formula's text that is known: its length, its bytes
-    module _ {bytes : List ℕ} (is : (t : Formula) → Spells codes k nd t → text (namesIn file) t ≡ bytes) where
-      pub known-long : {x : ℕ} → x ≡ length bytes → Long file k nd x
-      known-long q t s = q ∙ ap length (sym (is t s))
+    -- where its text is known, its bytes are
+    pub known-written : {bytes : List ℕ} → ((t : Formula) → Spells codes k nd t → text (namesIn file) t ≡ bytes)
+        → {old new : List ℕ} {at r : ℕ} → Wrote old at bytes new r → TextWritten file k nd old at new r
+    known-written is {old} {new} {at} {r} w t s = subst (λ (u : List ℕ). Wrote old at u new r) (sym (is t s)) w
 
-      pub known-written : {old new : List ℕ} {at r : ℕ} → Wrote old at bytes new r → Written file k nd old at new r
-      known-written {old} {new} {at} {r} w t s = subst (λ (u : List ℕ). Wrote old at u new r) (sym (is t s)) w
+    -- ---- operators
 
-    -- ---- a unary operator over its child
+    -- what is written before the child, and the child
+    pub unary-written : IsUnary (nd .code) → {l m n : List ℕ} {at a r : ℕ} → TokenWritten (nd .code) l at m a
+        → WrittenAt file k (nd .left) m a n r → TextWritten file k nd l at n r
+    unary-written u w v (leaf c) s = absurd (not-unary-leaf (nd .code) u (c, sym (s .0)))
+    unary-written u w v (binary op x y) s = absurd (not-both (nd .code) u (op, sym (s .0)))
+    unary-written u {l} {m} {n} {at} {a} {r} (o, ls, w) v (unary op t) s =
+        let b = bracketed (text (namesIn file) t) in
+        let same : spaced o ++ b ≡ text (namesIn file) (unary op t) =
+        ap (λ (y : List ℕ). (y ++ (space ∷ [])) ++ b) (unary-token o ls (op, sym (s .0)) .is) ∙ append-assoc (unaryToken op) (space ∷ []) b in
+        subst (λ (y : List ℕ). Wrote l at y n r) same (wrote-both (spaced o) b w (v t (s .4)))
 
-    module _ {b : ℕ} (pr : Printable file k b nd) (o : Operator) (ls : Listed (nd .code) o) (u : IsUnary (nd .code)) {child : Node} (e : child ≡ nodeAt k (nd .left)) where
-      -- each formula of the node is made of one of the child
-      made-unary : (P : Formula → Type 0) → ((t : Formula) → Spells codes k child t → P (unary (u .0) t)) → (t : Formula) → Spells codes k nd t → P t
-      made-unary P f (leaf c) s = absurd (not-unary-leaf (nd .code) u (c, sym (s .0)))
-      made-unary P f (binary op l t) s = absurd (not-both (nd .code) u (op, sym (s .0)))
-      made-unary P f (unary op t) s =
-          subst (λ (x : Unary). P (unary x t)) (unary-one (u .0) op (u .1 ∙ s .0)) (f t (subst (λ (c : Node). Spells codes k c t) (sym e) (s .4)))
+    -- the left child, what stands between, and the right child
+    pub binary-written : IsBinary (nd .code) → {l0 l1 l2 l3 : List ℕ} {at a1 a2 r : ℕ}
+        → WrittenAt file k (nd .left) l0 at l1 a1 → BetweenWritten (nd .code) l1 a1 l2 a2 → WrittenAt file k (nd .right) l2 a2 l3 r → TextWritten file k nd l0 at l3 r
+    binary-written u v w z (leaf c) s = absurd (not-binary-leaf (nd .code) u (c, sym (s .0)))
+    binary-written u v w z (unary op t) s = absurd (not-both (nd .code) (op, sym (s .0)) u)
+    binary-written u {l0} {l1} {l2} {l3} {at} {a1} {a2} {r} v (o, ls, w) z (binary op x y) s =
+        let p = bracketed (text (namesIn file) x) in
+        let q = bracketed (text (namesIn file) y) in
+        let same : (p ++ (space ∷ spaced o)) ++ q ≡ text (namesIn file) (binary op x y) =
+        ap (λ (b : List ℕ). (p ++ (space ∷ (b ++ (space ∷ [])))) ++ q) (binary-token o ls (op, sym (s .0)) .is) ∙ simp append-assoc in
+        subst (λ (b : List ℕ). Wrote l0 at b l3 r) same (wrote-both (p ++ (space ∷ spaced o)) q (wrote-both p (space ∷ spaced o) (v x (s .3)) w) (z y (s .5)))
 
-      token : Token o (unaryToken (u .0))
-      token = unary-token o ls u
-
-      pub long-unary : {x : ℕ} → Long file k child x → Long file k nd (o .bytes + 3 + x)
-      long-unary {x} l = made-unary (λ t. o .bytes + 3 + x ≡ length (text (namesIn file) t)) (λ t s. omega (arith, l t s, token .long, length-unary (namesIn file) (u .0) t))
-
-      -- what is written before the child, the child, and a bracket
-      pub unary-written : {l m n q : List ℕ} {at a c r : ℕ} → Wrote l at (beforeLast o) m a → Written file k child m a n c → Wrote n c (41 ∷ []) q r → Written file k nd l at q r
-      unary-written {l} {m} {n} {q} {at} {a} {c} {r} w v z =
-          made-unary (λ t. Wrote l at (text (namesIn file) t) q r) (λ t s.
-          let x = text (namesIn file) t in
-          let all = wrote-both (beforeLast o ++ x) (41 ∷ []) (wrote-both (beforeLast o) x w (v t s)) z in
-          let same : (beforeLast o ++ x) ++ (41 ∷ []) ≡ text (namesIn file) (unary (u .0) t) =
-          ap (λ (y : List ℕ). ((y ++ (32 ∷ 40 ∷ [])) ++ x) ++ (41 ∷ [])) (token .is) ∙ simp append-assoc in
-          subst (λ (y : List ℕ). Wrote l at y q r) same all)
-
-    -- ---- a binary operator over its children
-
-    module _ {b : ℕ} (pr : Printable file k b nd) (o : Operator) (ls : Listed (nd .code) o) (u : IsBinary (nd .code)) {one other : Node}
-        (e : one ≡ nodeAt k (nd .left)) (d : other ≡ nodeAt k (nd .right)) where
-      made-binary : (P : Formula → Type 0) → ((l r : Formula) → Spells codes k one l → Spells codes k other r → P (binary (u .0) l r)) → (t : Formula) → Spells codes k nd t → P t
-      made-binary P f (leaf c) s = absurd (not-binary-leaf (nd .code) u (c, sym (s .0)))
-      made-binary P f (unary op t) s = absurd (not-both (nd .code) (op, sym (s .0)) u)
-      made-binary P f (binary op l r) s =
-          subst (λ (x : Binary). P (binary x l r)) (binary-one (u .0) op (u .1 ∙ s .0))
-          (f l r (subst (λ (c : Node). Spells codes k c l) (sym e) (s .3)) (subst (λ (c : Node). Spells codes k c r) (sym d) (s .5)))
-
-      token-b : Token o (binaryToken (u .0))
-      token-b = binary-token o ls u
-
-      pub long-binary : {x y : ℕ} → Long file k one x → Long file k other y → Long file k nd (o .bytes + 6 + x + y)
-      long-binary {x} {y} g h =
-          made-binary (λ t. o .bytes + 6 + x + y ≡ length (text (namesIn file) t))
-          (λ l r s v. omega (arith, g l s, h r v, token-b .long, length-binary (namesIn file) (u .0) l r))
-
-      -- a bracket, the left child, what stands between, the right child, a bracket
-      pub binary-written : {l0 l1 l2 l3 l4 l5 : List ℕ} {at a1 a2 a3 a4 r : ℕ} → Wrote l0 at (40 ∷ []) l1 a1 → Written file k one l1 a1 l2 a2
-          → Wrote l2 a2 (41 ∷ 32 ∷ beforeLast o) l3 a3 → Written file k other l3 a3 l4 a4 → Wrote l4 a4 (41 ∷ []) l5 r → Written file k nd l0 at l5 r
-      binary-written {l0} {l1} {l2} {l3} {l4} {l5} {at} {a1} {a2} {a3} {a4} {r} w1 v1 w2 v2 w3 =
-          made-binary (λ t. Wrote l0 at (text (namesIn file) t) l5 r) (λ x y s v.
-          let p = text (namesIn file) x in
-          let q = text (namesIn file) y in
-          let first = wrote-both (40 ∷ []) p w1 (v1 x s) in
-          let second = wrote-both ((40 ∷ []) ++ p) (41 ∷ 32 ∷ beforeLast o) first w2 in
-          let third = wrote-both (((40 ∷ []) ++ p) ++ (41 ∷ 32 ∷ beforeLast o)) q second (v2 y v) in
-          let all = wrote-both ((((40 ∷ []) ++ p) ++ (41 ∷ 32 ∷ beforeLast o)) ++ q) (41 ∷ []) third w3 in
-          let same : ((((40 ∷ []) ++ p) ++ (41 ∷ 32 ∷ beforeLast o)) ++ q) ++ (41 ∷ []) ≡ text (namesIn file) (binary (u .0) x y) =
-          ap (λ (z : List ℕ). ((((40 ∷ []) ++ p) ++ (41 ∷ 32 ∷ (z ++ (32 ∷ 40 ∷ [])))) ++ q) ++ (41 ∷ [])) (token-b .is) ∙ simp append-assoc in
-          subst (λ (z : List ℕ). Wrote l0 at z l5 r) same all)
+  -- a child in its brackets
+  pub child-written : (p : ℕ) {nd : Node} → nd ≡ nodeAt k p → {l0 l1 l2 l3 : List ℕ} {at a b r : ℕ}
+      → Wrote l0 at (40 ∷ []) l1 a → TextWritten file k nd l1 a l2 b → Wrote l2 b (41 ∷ []) l3 r → WrittenAt file k p l0 at l3 r
+  child-written p e w v z t s =
+      let x = text (namesIn file) t in
+      wrote-both ((40 ∷ []) ++ x) (41 ∷ []) (wrote-both (40 ∷ []) x w (v t (subst (λ (c : Node). Spells codes k c t) (sym e) s))) z

@@ -17,7 +17,7 @@ use Rattle.formula.specs.Nodes.{Node, Spells, codes}
 use Rattle.formula.specs.Rule.{Broken}
 use Rattle.formula.proofs.Spelled.{list-spells}
 use Rattle.text.specs.Text.{text, mostText}
-use Rattle.text.specs.Print.{printRows, PrintsBy, Prints}
+use Rattle.text.specs.Print.{printRows, PrintsBy}
 use Rattle.text.specs.Promises.{PrintIn391}
 use Rattle.text.proofs.Texts.{text-fits}
 

@@ -19,10 +19,12 @@ use Rattle.formula.specs.Formula.{leaf, unary, binary, proposition, constant, F
 use Rattle.reading.proofs.Lists.{true-false}
 use Rattle.reading.proofs.Ends.{each-at, end-sound}
 use Rattle.names.specs.Reserved.{reserved}
-use Rattle.names.specs.Names.{propositions, GoodName, namesUpTo, namesIn, GoodNames}
+use Rattle.names.specs.Names.{GoodName, namesUpTo, namesIn}
+use Rattle.rules.specs.Limits.{mostPropositions}
 use Rattle.names.proofs.NameLaws.{names-sound}
 use Rattle.text.specs.Text.{leafText}
-use Rattle.text.specs.Tokens.{IsToken, IsWord, namesOf, NoNameIsAToken}
+use Rattle.text.specs.Tokens.{IsToken, IsWord, namesOf}
+use Rattle.text.specs.Promises.{NoNameIsAToken}
 
 -- ---- the reserved words
 
@@ -127,7 +129,7 @@ module _ (names : List (List ℕ)) (good : Each GoodName [] names) where
             omega (arith, n, ap length e)
       ]
 
-  no-name-is-token : (t : Formula) → NoNameIsAToken names t
+  no-name-is-token : (t : Formula) (w : List ℕ) → List·Memᴰ w (namesOf names t) → IsToken w → ⊥
   no-name-is-token (leaf (proposition p)) w m s = alone (List·Memᴰ·cases-cons m)
     where
       alone : (w ≡ getD names p []) ⊎ List·Memᴰ w [] → ⊥
@@ -141,8 +143,7 @@ module _ (names : List (List ℕ)) (good : Each GoodName [] names) where
       either f g (inl n) = f n
       either f g (inr n) = g n
 
--- over the names of any section that print accepts, no formula's text has a name that is a token
-pub no-name-is-a-token : (file : List ℕ) → GoodNames file → (t : Formula) → NoNameIsAToken (namesIn file) t
-no-name-is-a-token file g t =
-    let w = names-sound file propositions 0 (end-sound file (namesUpTo propositions file 0) (g .1) .0) in
-    no-name-is-token (namesIn file) (w .fits) t
+pub no-name-is-a-token : NoNameIsAToken
+no-name-is-a-token file g t w =
+    let good = names-sound file mostPropositions 0 (end-sound file (namesUpTo mostPropositions file 0) (g .1) .0) in
+    no-name-is-token (namesIn file) (good .fits) t w

@@ -23,12 +23,12 @@ saidPrinted (Refused k) = record { number = k; values = [] }
 
 module _ (names : List (List ℕ)) (k : List Node) (root : Node) (old : List ℕ) where
   -- "3: .. text room shorter than the text"
-  abbrev pub shortRoom : Row
-  shortRoom = record { number = 3; given = (t : Formula) × Spells codes k root t × (length old < length (text names t)) }
+  abbrev pub shortTextRoom : Row
+  shortTextRoom = record { number = 3; given = (t : Formula) × Spells codes k root t × (length old < length (text names t)) }
 
   -- "Print tests 8, 9, then 3"; "a proposition not below .. (print: .. the count of names)"
   abbrev pub printRows : List Row
-  printRows = brokenList (length names) k root ∷ (shortRoom ∷ [])
+  printRows = brokenList (length names) k root ∷ (shortTextRoom ∷ [])
 
   -- the first row that is given decides the number; "A refusal carries only its number .. writes nothing"; else the text of the formula that
   -- the root spells stands at the start of the room, and the rest of it stays

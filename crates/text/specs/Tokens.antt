@@ -27,10 +27,6 @@ namesOf names (leaf (constant b)) = []
 namesOf names (unary op t) = namesOf names t
 namesOf names (binary op l r) = namesOf names l ++ namesOf names r
 
--- "A site named a proposition `U`; nobody could read its formula": no name in a formula's text is a token
-abbrev pub NoNameIsAToken : List (List ℕ) → Formula → Type 0
-NoNameIsAToken names t = (w : List ℕ) → List·Memᴰ w (namesOf names t) → IsToken w → ⊥
-
 -- every proposition of the formula has a name
 abbrev pub Named : ℕ → Formula → Type 0
 Named m (leaf (proposition p)) = p < m

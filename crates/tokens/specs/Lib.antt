@@ -1,2 +1,2 @@
--- What comes next in a text. The grammar itself is the crate `grammar`'s.
+-- The infix operator that comes next in a text. The grammar itself is the crate `grammar`'s.
 pub mod Next

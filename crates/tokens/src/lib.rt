@@ -1,4 +1,3 @@
-// The tokens of a typed formula, one at a time: what stands where an operand is awaited, and the infix operator that comes next.
+// The bytes of a typed formula, and the infix operator that comes next.
 pub mod bytes;
-pub mod front;
 pub mod operator;

@@ -13,8 +13,8 @@ use Rattle.reading.proofs.Lists.{true-false}
 use Rattle.names.specs.Names.{isNameByte, sameBytes}
 use Rattle.names.specs.Reserved.{reserved}
 use Rattle.names.specs.Lookup.{findFrom}
-use Rattle.names.specs.declared.lookup.Found.{Found}
-use Rattle.names.specs.declared.lookup.Found.the-variants.{At as FoundAt, Nothing as Absent}
+use Rattle.names.specs.declared.lookup.FoundName.{FoundName}
+use Rattle.names.specs.declared.lookup.FoundName.the-variants.{At as FoundAt, Nothing as Absent}
 use Rattle.names.proofs.Finding.{FoundIs, found-is, is-in, not-is-in}
 use Rattle.typed.specs.declared.unknown.Passed.{Passed}
 use Rattle.typed.specs.declared.unknown.Passed.the-variants.{Unknown, To}
@@ -27,10 +27,10 @@ module _ (names : List (List ℕ)) (w : List ℕ) where
   pub known-reserved : {b : Bool} → b ≡ true → b ≡ isIn sameBytes w reserved → KnownIs names w true
   known-reserved e q = inl (is-in w reserved (sym q ∙ e))
 
-  pub known-found : {f : Found} {k : ℕ} → f ≡ FoundAt k → f ≡ findFrom 0 w names → KnownIs names w true
+  pub known-found : {f : FoundName} {k : ℕ} → f ≡ FoundAt k → f ≡ findFrom 0 w names → KnownIs names w true
   known-found {k = k} e q = let h : FoundIs w names 0 (FoundAt k) = subst (FoundIs w names 0) (sym q ∙ e) (found-is w names 0) in inr (h .3)
 
-  pub known-not : {b : Bool} {f : Found} → b ≡ false → b ≡ isIn sameBytes w reserved → f ≡ Absent → f ≡ findFrom 0 w names → KnownIs names w false
+  pub known-not : {b : Bool} {f : FoundName} → b ≡ false → b ≡ isIn sameBytes w reserved → f ≡ Absent → f ≡ findFrom 0 w names → KnownIs names w false
   known-not e q d p =
       let h : FoundIs w names 0 Absent = subst (FoundIs w names 0) (sym p ∙ d) (found-is w names 0) in
       (not-is-in w reserved (sym q ∙ e), h)

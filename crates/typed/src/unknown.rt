@@ -1,5 +1,5 @@
 // The first unknown name of a text.
-use names::lookup::Found;
+use names::lookup::FoundName;
 use names::lookup::find;
 use spelling::letter::is_name_byte;
 use spelling::reserved::is_reserved;
@@ -58,8 +58,8 @@ fn known(names: &[u8], word: &[u8]) -> bool
     }
     let f = find(names, word);
     match f {
-        Found::At(_) => true,
-        Found::Nothing => false,
+        FoundName::At(_) => true,
+        FoundName::Nothing => false,
     }
 }
 

@@ -14,8 +14,8 @@ use Rattle.words.specs.Ltlf.{AcceptsAt}
 use Rattle.words.specs.Word.{width, Wf}
 use Rattle.words.proofs.At.{not-at}
 use Rattle.sequence.specs.declared.CharSeq.{CharSeq}
-use Rattle.sequence.specs.Sequence.{Accepts, Denotes}
-use Rattle.rules.specs.Refusals.{Row, Decided, firstOf}
+use Rattle.sequence.specs.Sequence.{SeqAccepts, Denotes}
+use Rattle.rules.specs.Refusals.{Decided, firstOf}
 use Rattle.rules.proofs.Refusals.{Numbered, decided-none, decided-both}
 use Rattle.session.specs.Data.{dataRows}
 use Rattle.rules.specs.Limits.{mostSessions, mostPropositions}
@@ -25,9 +25,8 @@ use Rattle.rules.specs.Lists.{count}
 use Rattle.session.specs.Recording.{Recording, markOf, lengthOf, wordOf}
 use Rattle.formula.specs.Recorded.{markedTrace, markedTraces}
 use Rattle.formula.specs.Rule.{Broken, brokenList}
-use Rattle.verdict.specs.Check.{saidVerdict, checkRows, Agrees, Judged, CheckAnswer}
+use Rattle.verdict.specs.Check.{saidVerdict, checkRows, Agrees, VerdictSays, CheckAnswer}
 use Rattle.verdict.specs.declared.Verdict.{Verdict}
-use Rattle.formula.specs.Faultless.{Fits}
 use Rattle.verdict.specs.Inner.{traceAt, Ready, Evaluated, AgreesSeq, Checkable, FirstApart, VerdictOn}
 use Rattle.formula.proofs.Faults.{whole-fits}
 use Rattle.formula.proofs.Spelled.{spelled}
@@ -51,7 +50,7 @@ module _ (i : Recording) (k : List Node) (root : Node) where
   agrees-seq j from w b e ev a t s =
       let d : Denotes (lengthOf i j) (Holds (markedTrace i j .trace) t) w =
       subst (λ (f : ℕ). Denotes (lengthOf i j) (Holds (traceAt (lengthOf i j) (i .words) f) t) w) e (ev t s) in
-      let same : Accepts w ↔ AcceptsAt (Holds (markedTrace i j .trace) t) = d .means .holds 0 (omega arith) in
+      let same : SeqAccepts w ↔ AcceptsAt (Holds (markedTrace i j .trace) t) = d .means .holds 0 (omega arith) in
       Iff·trans a (λ q. (λ n. same .0 (q .0 n), λ p. q .1 (same .1 p)), λ q. (λ n. same .1 (q .0 n), λ p. q .1 (same .0 p)))
 
   pub words-room : Checkable i k root → (j from : ℕ) → j < i .sessions → from ≡ j * i .propositions → from + i .propositions ≤ length (i .words)
@@ -60,9 +59,8 @@ module _ (i : Recording) (k : List Node) (root : Node) where
       let w = c .words-there in
       omega (arith, suc-mul j (i .propositions), mul-comm (i .sessions) (i .propositions))
 
-  pub ready-for : Checkable i k root → (j from : ℕ) → j < i .sessions → from ≡ j * i .propositions → (below : ℕ) → below ≡ length k
-      → Ready (lengthOf i j) (i .words) from k below root
-  ready-for c j from h e below l =
+  pub ready-for : Checkable i k root → (j from : ℕ) → j < i .sessions → from ≡ j * i .propositions → Ready (lengthOf i j) (i .words) from k root
+  ready-for c j from h e =
       record {
         short = c .short j h;
         propositions = i .propositions;
@@ -70,8 +68,7 @@ module _ (i : Recording) (k : List Node) (root : Node) where
         there = words-room c j from h e;
         clear = λ p q. subst (λ (f : ℕ). Wf (lengthOf i j) (getD (i .words) (f + p) 0)) (sym e) (c .clear j p h q);
         all = c .all;
-        within = omega arith;
-        fits = subst (λ (b : ℕ). Fits (i .propositions) k b root) (sym l) (c .fits);
+        fits = c .fits;
       }
 
   -- ---- the sessions one after the other
@@ -85,7 +82,7 @@ module _ (i : Recording) (k : List Node) (root : Node) where
 
   -- ---- what the tests give
 
-  pub passed : Decided (dataRows (i .sessions) (i .propositions) (i .marks) (i .lengths) (i .words)) 0 → (Broken (i .propositions) k root → ⊥)
+  pub passed : Decided (dataRows i) 0 → (Broken (i .propositions) k root → ⊥)
       → Checkable i k root × (i .sessions ≤ mostSessions)
   passed d u =
       let a = decided-none _ _ (lit< tt, (lit< tt, (lit< tt, (lit< tt, (lit< tt, tt))))) d in
@@ -113,20 +110,20 @@ pub next-from : {from : ℕ} (j m : ℕ) → from ≡ j * m → from + m ≡ (j 
 next-from {from} j m e = subst (λ (x : ℕ). from + m ≡ x * m) (sym (add-one j)) (omega (arith, suc-mul j m))
 
 module _ (i : Recording) (k : List Node) (root : Node) where
-  pub data-numbered : Numbered (dataRows (i .sessions) (i .propositions) (i .marks) (i .lengths) (i .words))
+  pub data-numbered : Numbered (dataRows i)
   data-numbered = (lit< tt, (lit< tt, (lit< tt, (lit< tt, (lit< tt, tt)))))
 
-  pub decided-list : (a b : ℕ) → Decided (dataRows (i .sessions) (i .propositions) (i .marks) (i .lengths) (i .words)) a → a ≡ 0
+  pub decided-list : (a b : ℕ) → Decided (dataRows i) a → a ≡ 0
       → Decided (brokenList (i .propositions) k root ∷ []) b → Decided (checkRows i k root) b
   decided-list a b p e q =
       subst (λ (x : ℕ). Decided (checkRows i k root) (firstOf x b)) e
-      (decided-both (dataRows (i .sessions) (i .propositions) (i .marks) (i .lengths) (i .words)) (brokenList (i .propositions) k root ∷ []) a b data-numbered p q)
+      (decided-both (dataRows i) (brokenList (i .propositions) k root ∷ []) a b data-numbered p q)
 
   -- both tests passed
-  pub checkable : (a b : ℕ) → Decided (dataRows (i .sessions) (i .propositions) (i .marks) (i .lengths) (i .words)) a → a ≡ 0
+  pub checkable : (a b : ℕ) → Decided (dataRows i) a → a ≡ 0
       → Decided (brokenList (i .propositions) k root ∷ []) b → b ≡ 0 → Checkable i k root × (i .sessions ≤ mostSessions)
   checkable a b p e q f =
-      passed i k root (subst (Decided (dataRows (i .sessions) (i .propositions) (i .marks) (i .lengths) (i .words))) e p)
+      passed i k root (subst (Decided (dataRows i)) e p)
       (decided-none (brokenList (i .propositions) k root) [] (lit< tt, tt) (subst (Decided (brokenList (i .propositions) k root ∷ [])) f q) .0)
 
 -- ---- separation, session by session
@@ -155,12 +152,12 @@ module _ (i : Recording) (k : List Node) (root : Node) (c : Checkable i k root) 
   formula : (t : Formula) × Spells codes k root t
   formula = spelled (i .propositions) k (c .all) (length k) (omega arith) root (c .fits)
 
-  names-session : j < i .sessions → (t : Formula) × Spells codes k root t × Judged i t (0 ∷ j ∷ [])
+  names-session : j < i .sessions → (t : Formula) × Spells codes k root t × VerdictSays i t (0 ∷ j ∷ [])
   names-session h =
       let t = formula in
       (t .0, t .1, inr (j, record { there = h; disagrees = f .here (t .0) (t .1) h; before = f .before (t .0) (t .1) }, refl))
 
-  accepts-formula : i .sessions ≤ j → (t : Formula) × Spells codes k root t × Judged i t (1 ∷ [])
+  accepts-formula : i .sessions ≤ j → (t : Formula) × Spells codes k root t × VerdictSays i t (1 ∷ [])
   accepts-formula h = let t = formula in (t .0, t .1, inl (all-agree i (t .0) (λ g l. f .before (t .0) (t .1) g (omega arith)), refl))
 
   -- whatever the verdict, where no row is given

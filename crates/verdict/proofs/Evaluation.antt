@@ -2,12 +2,13 @@
 -- Assumes nothing.
 use mathlib.Core.Path.{_≡_, refl, sym, _∙_, subst}
 use mathlib.Core.Bool.{true, false, true≢false}
+use mathlib.Core.Logic.{_⊎_}
 use mathlib.Core.List.{List}
 use Prim.Native.Nat.{ℕ, _+_, _≤_, _<_}
 use native.Mathlib.Omega.{arith}
-use lib.ListN.{getD}
+use lib.ListN.{length, getD}
 use Rattle.words.specs.Ltlf.{Reading}
-use Rattle.words.specs.Masked.{Placed}
+use Rattle.words.specs.Masked.{PlacesOn}
 use Rattle.words.specs.Word.{width, At, WfComputed, Means}
 use Rattle.words.proofs.At.{means, recorded-computed}
 use Rattle.words.proofs.Bits.{bit-zero}
@@ -23,25 +24,29 @@ use Rattle.sequence.proofs.Unique.{unary-one, binary-one}
 use Rattle.sequence.proofs.Groups.{unary-below, binary-between}
 use Rattle.formula.specs.Formula.{proposition, constant, Holds}
 use Rattle.formula.specs.Formula.Tree.{leaf, unary, binary}
-use Rattle.formula.specs.Nodes.{Node, nodeAt, Spells, codes}
+use Rattle.formula.specs.Nodes.{Node, nodeAt}
 use Rattle.sequence.proofs.Agreeing.{means-agree, unary-agree, binary-agree}
 use Rattle.formula.specs.Rule.{IsUnary, IsBinary, propositionCode}
 use Rattle.formula.specs.Faultless.{Fits}
 use Rattle.verdict.specs.Inner.{traceAt, Ready, Evaluated}
-use Rattle.formula.proofs.Faults.{not-both, not-unary-leaf, not-binary-leaf, proposition-under}
+use Rattle.formula.proofs.Faults.{not-both, not-unary-leaf, not-binary-leaf, proposition-under, left-fits, right-fits}
+
+-- another node that fits is as ready
+ready-of : {n : ℕ} {words : List ℕ} {from : ℕ} {k : List Node} {nd c : Node} (r : Ready n words from k nd) → Fits (r .propositions) k (length k) c → Ready n words from k c
+ready-of r f = record { short = r .short; propositions = r .propositions; few = r .few; there = r .there; clear = r .clear; all = r .all; fits = f }
 
 module _ (n : ℕ) (words : List ℕ) (from : ℕ) (k : List Node) (nd : Node) where
   -- ---- leaves
 
-  pub word-of-proposition : (b : ℕ) → Ready n words from k b nd → nd .code ≡ propositionCode → Evaluated n words from k nd (seq n (getD words (from + nd .left) 0))
-  word-of-proposition b r e (leaf (proposition p)) s =
+  pub word-of-proposition : (l : List Node) → Ready n words from l nd → nd .code ≡ propositionCode → Evaluated n words from k nd (seq n (getD words (from + nd .left) 0))
+  word-of-proposition l r e (leaf (proposition p)) s =
       let here = getD words (from + nd .left) 0 in
-      let w : Means n here (At here) = record { wf = recorded-computed (r .clear (nd .left) (proposition-under (r .propositions) k b nd (r .fits) e)); holds = λ i h. (λ z. z, λ z. z) } in
+      let w : Means n here (At here) = record { wf = recorded-computed (r .clear (nd .left) (proposition-under (r .propositions) l (length l) nd (r .fits) e)); holds = λ i h. (λ z. z, λ z. z) } in
       record { length = refl; means = subst (λ (q : ℕ). Means n here (At (getD words (from + q) 0))) (s .1) w }
-  word-of-proposition b r e (leaf (constant false)) s = absurd (omega (arith, s .0))
-  word-of-proposition b r e (leaf (constant true)) s = absurd (omega (arith, s .0))
-  word-of-proposition b r e (unary op t) s = absurd (omega (arith, unary-below op, s .0))
-  word-of-proposition b r e (binary op l t) s = let x = binary-between op in absurd (omega (arith, s .0))
+  word-of-proposition l r e (leaf (constant false)) s = absurd (omega (arith, s .0))
+  word-of-proposition l r e (leaf (constant true)) s = absurd (omega (arith, s .0))
+  word-of-proposition l r e (unary op t) s = absurd (omega (arith, unary-below op, s .0))
+  word-of-proposition l r e (binary op a t) s = let x = binary-between op in absurd (omega (arith, s .0))
 
   pub word-of-false : n ≤ width → nd .code ≡ 17 → Evaluated n words from k nd (seq n 0)
   word-of-false h e (leaf (proposition p)) s = absurd (omega (arith, s .0))
@@ -51,27 +56,19 @@ module _ (n : ℕ) (words : List ℕ) (from : ℕ) (k : List Node) (nd : Node) w
   word-of-false h e (unary op t) s = absurd (omega (arith, unary-below op, s .0))
   word-of-false h e (binary op l t) s = let x = binary-between op in absurd (omega (arith, s .0))
 
-  pub word-of-true : (m : ℕ) {r : ℕ} → n ≤ width → nd .code ≡ 18 → Mask n m → Means width r (Placed (At m)) → Evaluated n words from k nd (seq n r)
+  pub word-of-true : (m : ℕ) {r : ℕ} → n ≤ width → nd .code ≡ 18 → Mask n m → Means width r (PlacesOn (At m)) → Evaluated n words from k nd (seq n r)
   word-of-true m h e q a (leaf (proposition p)) s = absurd (omega (arith, s .0))
   word-of-true m h e q a (leaf (constant false)) s = absurd (omega (arith, s .0))
   word-of-true m h e q a (leaf (constant true)) s = record { length = refl; means = places-cut h q a (λ i. refl) }
   word-of-true m h e q a (unary op t) s = absurd (omega (arith, unary-below op, s .0))
   word-of-true m h e q a (binary op l t) s = let x = binary-between op in absurd (omega (arith, s .0))
 
-  -- a child is evaluated over the places below its own
-  pub ready-at : {b : ℕ} → Ready n words from k b nd → (p : ℕ) → p < b → {child : Node} → child ≡ nodeAt k p → Ready n words from k p child
-  ready-at {b} r p h e =
-      let w = r .within in
-      record {
-        short = r .short;
-        propositions = r .propositions;
-        few = r .few;
-        there = r .there;
-        clear = r .clear;
-        all = r .all;
-        within = omega arith;
-        fits = subst (λ (c : Node). Fits (r .propositions) k p c) (sym e) (r .all p (omega arith));
-      }
+  -- what is asked of a node over the list is asked of its children, which are smaller
+  pub ready-left : (r : Ready n words from k nd) → IsUnary (nd .code) ⊎ IsBinary (nd .code) → Ready n words from k (nodeAt k (nd .left)) × (nodeAt k (nd .left) .size < nd .size)
+  ready-left r u = let f = left-fits (r .propositions) k (r .all) nd (r .fits) u in (ready-of r (f .0), f .1)
+
+  pub ready-right : (r : Ready n words from k nd) → IsBinary (nd .code) → Ready n words from k (nodeAt k (nd .right)) × (nodeAt k (nd .right) .size < nd .size)
+  ready-right r u = let f = right-fits (r .propositions) k (r .all) nd (r .fits) u in (ready-of r (f .0), f .1)
 
   -- ---- operators
 
@@ -79,27 +76,27 @@ module _ (n : ℕ) (words : List ℕ) (from : ℕ) (k : List Node) (nd : Node) w
   child : {f : Reading} (x : CharSeq) → Denotes n f x → WellFormed x
   child x d = subst (λ (l : ℕ). WfComputed l (x .values)) (sym (d .length)) (d .means .wf)
 
-  pub word-of-unary : {x r : CharSeq} → IsUnary (nd .code) → {a : Node} → a ≡ nodeAt k (nd .left) → Evaluated n words from k a x
+  pub word-of-unary : {x r : CharSeq} → IsUnary (nd .code) → Evaluated n words from k (nodeAt k (nd .left)) x
       → UnaryBy (nd .code) x r → Evaluated n words from k nd r
-  word-of-unary u q ev w (leaf c) s = absurd (not-unary-leaf (nd .code) u (c, sym (s .0)))
-  word-of-unary u q ev w (binary op l t) s = absurd (not-both (nd .code) u (op, sym (s .0)))
-  word-of-unary u q ev (no-unary g e) (unary op t) s = absurd (g op (sym (s .0)))
-  word-of-unary {x} {r} u q ev (by-unary op′ e p) (unary op t) s =
-      let y = ev t (subst (λ (c : Node). Spells codes k c t) (sym q) (s .4)) in
+  word-of-unary u ev w (leaf c) s = absurd (not-unary-leaf (nd .code) u (c, sym (s .0)))
+  word-of-unary u ev w (binary op l t) s = absurd (not-both (nd .code) u (op, sym (s .0)))
+  word-of-unary u ev (no-unary g e) (unary op t) s = absurd (g op (sym (s .0)))
+  word-of-unary {x} {r} u ev (by-unary op′ e p) (unary op t) s =
+      let y = ev t (s .4) in
       let d : Denotes n (unaryReading op′ n (At (x .values))) r =
       subst (λ (l : ℕ). Denotes l (unaryReading op′ l (At (x .values))) r) (y .length) (unary-reads op′ x r (child x y) p) in
       let τ = traceAt n words from in
       subst (λ (o : Unary). Denotes n (unaryReading o n (Holds τ t)) r) (unary-one op′ op (e ∙ s .0))
       (record { length = d .length; means = means-agree (d .means) (unary-agree op′ n (At (x .values)) (Holds τ t) (y .means .holds)) })
 
-  pub word-of-binary : {x y r : CharSeq} → IsBinary (nd .code) → {a : Node} → a ≡ nodeAt k (nd .left) → Evaluated n words from k a x
-      → {b : Node} → b ≡ nodeAt k (nd .right) → Evaluated n words from k b y → BinaryBy (nd .code) x y r → Evaluated n words from k nd r
-  word-of-binary u q ev z ew w (leaf c) s = absurd (not-binary-leaf (nd .code) u (c, sym (s .0)))
-  word-of-binary u q ev z ew w (unary op t) s = absurd (not-both (nd .code) (op, sym (s .0)) u)
-  word-of-binary u q ev z ew (no-binary g e) (binary op l t) s = absurd (g op (sym (s .0)))
-  word-of-binary {x} {y} {r} u q ev z ew (by-binary op′ e p) (binary op l t) s =
-      let a = ev l (subst (λ (c : Node). Spells codes k c l) (sym q) (s .3)) in
-      let b = ew t (subst (λ (c : Node). Spells codes k c t) (sym z) (s .5)) in
+  pub word-of-binary : {x y r : CharSeq} → IsBinary (nd .code) → Evaluated n words from k (nodeAt k (nd .left)) x
+      → Evaluated n words from k (nodeAt k (nd .right)) y → BinaryBy (nd .code) x y r → Evaluated n words from k nd r
+  word-of-binary u ev ew w (leaf c) s = absurd (not-binary-leaf (nd .code) u (c, sym (s .0)))
+  word-of-binary u ev ew w (unary op t) s = absurd (not-both (nd .code) (op, sym (s .0)) u)
+  word-of-binary u ev ew (no-binary g e) (binary op l t) s = absurd (g op (sym (s .0)))
+  word-of-binary {x} {y} {r} u ev ew (by-binary op′ e p) (binary op l t) s =
+      let a = ev l (s .3) in
+      let b = ew t (s .5) in
       let right : WfComputed (x .length) (y .values) = subst (λ (i : ℕ). WfComputed i (y .values)) (sym (a .length)) (b .means .wf) in
       let d : Denotes n (binaryReading op′ n (At (x .values)) (At (y .values))) r =
       subst (λ (i : ℕ). Denotes i (binaryReading op′ i (At (x .values)) (At (y .values))) r) (a .length) (binary-reads op′ x y r (child x a) right p) in

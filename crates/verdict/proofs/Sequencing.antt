@@ -72,7 +72,7 @@ listed-whole m k root p h u =
 module _ (i : Recording) (k : List Node) (root : Node) where
   -- the numbers are inside, no length is above 64, the list is whole, and with another root that it is whole with every row stays ungiven
   passes : Decided (checkRows i k root) 0 → (outsideNumbers (i .sessions) (i .propositions) .given → ⊥)
-      × (tooLong (i .sessions) (i .propositions) (i .marks) (i .lengths) (i .words) .given → ⊥) × (Broken (i .propositions) k root → ⊥)
+      × (tooLong i .given → ⊥) × (Broken (i .propositions) k root → ⊥)
       × ((q : Node) → (Broken (i .propositions) k q → ⊥) → Decided (checkRows i k q) 0)
   unfolding Decided
   passes (inl p) = absurd (omega (arith, p .1))

@@ -27,10 +27,10 @@ abbrev pub checkRowsWith : List Row → Recording → List Node → Node → Lis
 checkRowsWith own i k root =
     outsideNumbers (i .sessions) (i .propositions)
     ∷ (own
-    ++ (tooShort (i .sessions) (i .propositions) (i .marks) (i .lengths) (i .words)
-    ∷ tooLong (i .sessions) (i .propositions) (i .marks) (i .lengths) (i .words)
-    ∷ bitAbove (i .sessions) (i .propositions) (i .marks) (i .lengths) (i .words)
-    ∷ markWrong (i .sessions) (i .propositions) (i .marks) (i .lengths) (i .words)
+    ++ (tooShort i
+    ∷ tooLong i
+    ∷ bitAbove i
+    ∷ markWrong i
     ∷ brokenList (i .propositions) k root
     ∷ []))
 
@@ -48,11 +48,11 @@ pub record FirstDisagrees (i : Recording) (t : Formula) (j : ℕ) : Type 0 where
   pub before : (h : ℕ) → h < j → Agrees (markedTrace i h) t
 
 -- "It accepts only a separating formula, and every one; otherwise it names the first session that disagrees."
-abbrev pub Judged : Recording → Formula → List ℕ → Type 0
-Judged i t values = (Separates (markedTraces i) t × (values ≡ 1 ∷ [])) ⊎ ((j : ℕ) × FirstDisagrees i t j × (values ≡ 0 ∷ j ∷ []))
+abbrev pub VerdictSays : Recording → Formula → List ℕ → Type 0
+VerdictSays i t values = (Separates (markedTraces i) t × (values ≡ 1 ∷ [])) ⊎ ((j : ℕ) × FirstDisagrees i t j × (values ≡ 0 ∷ j ∷ []))
 
 -- the first row that is given decides the number; "A refusal carries only its number"; else the formula that the root spells decides
 pub record CheckAnswer (i : Recording) (k : List Node) (root : Node) (s : Said) : Type 0 where
   pub number : Decided (checkRows i k root) (s .number)
   pub refused : (s .number ≡ 0 → ⊥) → s .values ≡ []
-  pub passed : s .number ≡ 0 → (t : Formula) × Spells codes k root t × Judged i t (s .values)
+  pub passed : s .number ≡ 0 → (t : Formula) × Spells codes k root t × VerdictSays i t (s .values)

@@ -21,18 +21,18 @@ pub record SequenceOn (i : Recording) (k : List Node) (root : Node) (j : ℕ) (s
   pub denotes : Denotes (lengthOf i j) (Holds (markedTrace i j .trace) formula) s
 
 -- document 01's number of each case; 0 where nothing is refused
-abbrev pub numberOf : Sequenced → ℕ
-numberOf (Sequence s) = 0
-numberOf NoSession = 0
-numberOf (Refused n) = n
+abbrev pub sequencedNumber : Sequenced → ℕ
+sequencedNumber (Sequence s) = 0
+sequencedNumber NoSession = 0
+sequencedNumber (Refused n) = n
 
 -- and what the case carries
-abbrev pub Carries : Recording → List Node → Node → ℕ → Sequenced → Type 0
-Carries i k root j (Sequence s) = SequenceOn i k root j s
-Carries i k root j NoSession = i .sessions ≤ j
-Carries i k root j (Refused n) = 0 < n
+abbrev pub SequencedCarries : Recording → List Node → Node → ℕ → Sequenced → Type 0
+SequencedCarries i k root j (Sequence s) = SequenceOn i k root j s
+SequencedCarries i k root j NoSession = i .sessions ≤ j
+SequencedCarries i k root j (Refused n) = 0 < n
 
 -- the check's rows decide; where none is given, the sequence, if there is such a session
 pub record SequenceAnswer (i : Recording) (k : List Node) (root : Node) (j : ℕ) (a : Sequenced) : Type 0 where
-  pub number : Decided (checkRows i k root) (numberOf a)
-  pub carries : Carries i k root j a
+  pub number : Decided (checkRows i k root) (sequencedNumber a)
+  pub carries : SequencedCarries i k root j a

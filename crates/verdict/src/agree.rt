@@ -1,13 +1,11 @@
 // Whether each session's mark is what the session says of the formula.
 use crate::evaluate::eval;
 use formula::kinds::Node;
-use formula::nodes::count;
 use sequence::CharSeq;
 ghost use mathlib.Core.Path.{_≡_};
 ghost use mathlib.Core.Logic.{_↔_};
 ghost use mathlib.Core.Bool.{true};
 ghost use Prim.Native.Nat.{_≤_, _<_};
-ghost use Rattle.words.specs.Word.{At};
 ghost use Rattle.formula.specs.Kinds.{nodeOf, nodes};
 ghost use Rattle.session.specs.Recording.{recording};
 ghost use Rattle.verdict.specs.Inner.{Checkable, FirstApart, AgreesSeq};
@@ -43,22 +41,11 @@ pub(crate) fn first_disagreeing(
     ensures { λ j. ⌜ FirstApart (recording r m (now (marks .entry)) (now (lengths .entry)) (now (words .entry)))
         (nodes (now (codes .entry)) (now (lefts .entry)) (now (rights .entry)) (now (sizes .entry))) (nodeOf root) j ⌝ }
 {
-    let below = count(codes, lefts, rights, sizes);
     let mut j: usize = 0;
     let mut from: usize = 0;
     while j < r {
         let length = lengths[j] as usize;
-        let seq = eval(
-            length,
-            words,
-            from,
-            codes,
-            lefts,
-            rights,
-            sizes,
-            below,
-            root,
-        );
+        let seq = eval(length, words, from, codes, lefts, rights, sizes, root);
         if agrees(marks[j], seq) {
             from += m;
             j += 1;

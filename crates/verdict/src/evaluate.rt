@@ -4,28 +4,16 @@ use formula::kinds::Node;
 use formula::kinds::PROPOSITION;
 use formula::nodes::node_at;
 use operators::Group;
+use rules::kinds::Place;
 use rules::kinds::Proposition;
 use sequence::CharSeq;
-ghost use Prim.Native.Nat.{_≤_, _<_};
-ghost use Rattle.sequence.specs.Operators.{unaryCode};
 ghost use Rattle.formula.specs.Kinds.{nodeOf, nodes};
-ghost use Rattle.formula.specs.Rule.{IsUnary, IsBinary};
-ghost use Rattle.verdict.specs.Inner.{Ready, Evaluated};
+ghost use Rattle.verdict.specs.Inner.{Ready, Evaluated, ReadyAt, EvaluatedAt, LeafReady, LeafEvaluated};
 
 // A leaf's sequence: a proposition's as it was recorded, no place for false, and every place for true.
-fn leaf(
-    length: usize,
-    words: &[u64],
-    from: usize,
-    codes: &[u8],
-    lefts: &[u16],
-    rights: &[u16],
-    sizes: &[u8],
-    below: usize,
-    node: Node,
-) -> CharSeq
-    requires { ⌜ Ready length (now words) from (nodes (now codes) (now lefts) (now rights) (now sizes)) below (nodeOf node) × (IsUnary (node .code) → ⊥) × (IsBinary (node .code) → ⊥) ⌝ }
-    ensures { λ r. ⌜ Evaluated length (now (words .entry)) from (nodes (now (codes .entry)) (now (lefts .entry)) (now (rights .entry)) (now (sizes .entry))) (nodeOf node) r ⌝ }
+fn leaf(length: usize, words: &[u64], from: usize, node: Node) -> CharSeq
+    requires { ⌜ LeafReady length (now words) from (nodeOf node) ⌝ }
+    ensures { λ r. ⌜ LeafEvaluated length (now (words .entry)) from (nodeOf node) r ⌝ }
 {
     if node.code == PROPOSITION {
         let p = Proposition::from_left(node.left).0 as usize;
@@ -44,7 +32,25 @@ fn leaf(
     }
 }
 
-// The sequence of a node: it calls itself on the children, whose places are smaller.
+// The sequence of a child, by its place.
+fn eval_child(
+    length: usize,
+    words: &[u64],
+    from: usize,
+    codes: &[u8],
+    lefts: &[u16],
+    rights: &[u16],
+    sizes: &[u8],
+    at: Place,
+) -> CharSeq
+    requires { ⌜ ReadyAt length (now words) from (nodes (now codes) (now lefts) (now rights) (now sizes)) (at .0) ⌝ }
+    ensures { λ r. ⌜ EvaluatedAt length (now (words .entry)) from (nodes (now (codes .entry)) (now (lefts .entry)) (now (rights .entry)) (now (sizes .entry))) (at .0) r ⌝ }
+{
+    let node = node_at(codes, lefts, rights, sizes, at.0 as usize);
+    eval(length, words, from, codes, lefts, rights, sizes, node)
+}
+
+// The sequence of a node, by those of its children, which are smaller.
 pub(crate) fn eval(
     length: usize,
     words: &[u64],
@@ -53,59 +59,22 @@ pub(crate) fn eval(
     lefts: &[u16],
     rights: &[u16],
     sizes: &[u8],
-    below: usize,
     node: Node,
 ) -> CharSeq
-    requires { ⌜ Ready length (now words) from (nodes (now codes) (now lefts) (now rights) (now sizes)) below (nodeOf node) ⌝ }
+    requires { ⌜ Ready length (now words) from (nodes (now codes) (now lefts) (now rights) (now sizes)) (nodeOf node) ⌝ }
     ensures { λ r. ⌜ Evaluated length (now (words .entry)) from (nodes (now (codes .entry)) (now (lefts .entry)) (now (rights .entry)) (now (sizes .entry))) (nodeOf node) r ⌝ }
 {
     let group = operators::operator_of(node.code).group;
     match group {
         Group::Unary => {
-            let left = node.left.0 as usize;
-            let child = node_at(codes, lefts, rights, sizes, left);
-            let x = eval(
-                length,
-                words,
-                from,
-                codes,
-                lefts,
-                rights,
-                sizes,
-                left,
-                child,
-            );
+            let x = eval_child(length, words, from, codes, lefts, rights, sizes, node.left);
             x.unary(node.code)
         }
         Group::Binary => {
-            let left = node.left.0 as usize;
-            let one = node_at(codes, lefts, rights, sizes, left);
-            let x = eval(length, words, from, codes, lefts, rights, sizes, left, one);
-            let right = node.right.0 as usize;
-            let other = node_at(codes, lefts, rights, sizes, right);
-            let y = eval(
-                length,
-                words,
-                from,
-                codes,
-                lefts,
-                rights,
-                sizes,
-                right,
-                other,
-            );
+            let x = eval_child(length, words, from, codes, lefts, rights, sizes, node.left);
+            let y = eval_child(length, words, from, codes, lefts, rights, sizes, node.right);
             x.binary(node.code, y)
         }
-        Group::Neither => leaf(
-            length,
-            words,
-            from,
-            codes,
-            lefts,
-            rights,
-            sizes,
-            below,
-            node,
-        ),
+        Group::Neither => leaf(length, words, from, node),
     }
 }

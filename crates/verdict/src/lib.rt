@@ -109,17 +109,6 @@ pub fn sequence_of(
         return Sequenced::NoSession;
     }
     let length = lengths[j] as usize;
-    let below = nodes::count(codes, lefts, rights, sizes);
-    let seq = evaluate::eval(
-        length,
-        words,
-        j * m,
-        codes,
-        lefts,
-        rights,
-        sizes,
-        below,
-        root,
-    );
+    let seq = evaluate::eval(length, words, j * m, codes, lefts, rights, sizes, root);
     Sequenced::Sequence(seq)
 }

@@ -11,7 +11,7 @@ use native.Mathlib.Decide.{decLt}
 use lib.ListN.{length, getD, take, length-append, List·getD-append}
 use lib.Dec.{leb}
 use Rattle.rules.specs.Lists.{_∈_}
-use Rattle.walk.specs.Walk.{Offer, Candidate, Ending, found, full, none, Tally, tally, oneTried, oneDropped, State, going, ended, kept, dropped, known, judge, layer}
+use Rattle.walk.specs.Walk.{Offer, Candidate, Ending, Tally, tally, oneTried, oneDropped, WalkState, going, ended, kept, dropped, known, judge, layer}
 use Rattle.walk.specs.Walk.{consider, after, finish, walk, trail}
 use Rattle.walk.specs.Input.{Input, offer, search}
 use Rattle.walk.specs.Cut.{Cut, more, over}
@@ -27,7 +27,7 @@ use Rattle.walk.proofs.Reading.{lawful}
 -- ---- the sum
 
 module _ {L U B Mat : Type 0} (O : Offer L U B Mat) (C : ℕ) where
-  abbrev Sum : State Mat → Type 0
+  abbrev Sum : WalkState Mat → Type 0
   Sum (going k n) = AddsUp (length k) n 0
   Sum (ended e k n) = AddsUp (length k) n (deciding e)
 
@@ -38,16 +38,16 @@ module _ {L U B Mat : Type 0} (O : Offer L U B Mat) (C : ℕ) where
   sum-judge false false true c k n h = omega arith
   sum-judge false false false c k n h = omega (arith, length-append k (c ∷ []))
 
-  sum-consider : (st : State Mat) (c : Candidate Mat) → Sum st → Sum (consider O C st c)
+  sum-consider : (st : WalkState Mat) (c : Candidate Mat) → Sum st → Sum (consider O C st c)
   unfolding consider
   sum-consider (going k n) c h = sum-judge (O .agrees (c .matrix)) (known O (c .matrix) k) (leb C (length k)) c k n h
   sum-consider (ended e k n) c h = h
 
-  sum-all : (cs : List (Candidate Mat)) (st : State Mat) → Sum st → Sum (foldl (consider O C) st cs)
+  sum-all : (cs : List (Candidate Mat)) (st : WalkState Mat) → Sum st → Sum (foldl (consider O C) st cs)
   sum-all [] st h = h
   sum-all (c ∷ cs) st h = sum-all cs (consider O C st c) (sum-consider st c h)
 
-  sum-finish : (st : State Mat) → Sum st → Sum (finish st)
+  sum-finish : (st : WalkState Mat) → Sum st → Sum (finish st)
   unfolding finish
   sum-finish (going k n) h = h
   sum-finish (ended e k n) h = h
@@ -177,7 +177,7 @@ module _ {L U B Mat : Type 0} (O : Offer L U B Mat) (C : ℕ) (Z : Lawful O) whe
         kept-finish (after O C b)
         ∙ ap kept (after-trail O C b ∙ ap (foldl (consider O C) (going [] (tally 0 0))) turn
         ∙ foldl-append (consider O C) (going [] (tally 0 0)) before (c ∷ behind)
-        ∙ ap (λ (st : State Mat). foldl (consider O C) st (c ∷ behind)) goes)
+        ∙ ap (λ (st : WalkState Mat). foldl (consider O C) st (c ∷ behind)) goes)
 
     front : (new : List (Candidate Mat)) × (kept (walk O C b) ≡ k ++ new)
     front = let g = grown O C Z (c ∷ behind) (going k n) in (g .new, whole ∙ g .longer)

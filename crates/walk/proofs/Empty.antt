@@ -9,8 +9,7 @@ use Rattle.formula.specs.Formula.{Formula, leaf, unary, binary, proposition, co
 use Rattle.formula.specs.Empty.{Empty}
 use Rattle.formula.specs.Recorded.{markedTrace}
 use Rattle.formula.proofs.Empty.{empty-trace}
-use Rattle.session.specs.Recording.{lengthOf}
-use Rattle.walk.specs.Input.{Input, Passes, language}
+use Rattle.walk.specs.Input.{language}
 use Rattle.walk.specs.Promises.{EmptySession}
 
 -- a trace with no proposition but the first m

@@ -10,11 +10,11 @@ use Rattle.words.specs.Word.{width, bit, Wf}
 use Rattle.words.proofs.At.{lt-wf}
 use Rattle.sequence.specs.Operators.{Unary, Binary, decode}
 use Rattle.formula.specs.Nodes.{Node}
-use Rattle.walk.specs.Walk.{Candidate, State, found, full, none, tally, going, ended, ofSize, leftSizes, finish, orders, unaryCandidates, pairs, layer, known, judge}
+use Rattle.walk.specs.Walk.{Candidate, WalkState, found, full, none, tally, going, ended, ofSize, leftSizes, finish, orders, unaryCandidates, pairs, layer, known, judge}
 use Rattle.walk.specs.Walk.{consider, through, after, walk}
 use Rattle.rules.specs.Lists.{each, count}
 use Rattle.rules.specs.Limits.{mostSize, mostRoom}
-use Rattle.walk.specs.Rows.{word, someOf, allOf, unaryRow, binaryRow, constantRow}
+use Rattle.walk.specs.Rows.{wordWhere, someOf, allOf, unaryRow, binaryRow, constantRow}
 use Rattle.walk.specs.Input.{Input, Passes, sameRows, every, separating, search, inputOf}
 use Rattle.session.specs.Recording.{markOf, lengthOf, wordOf}
 use Rattle.walk.specs.Kept.{begun, goOn}
@@ -30,7 +30,7 @@ abbrev at : ℕ → ℕ → ℕ → ℕ → List ℕ → Candidate (List ℕ)
 at c l r s x = record { node = node c l r s; matrix = x }
 
 -- the ending's numbers (1 found and the root node; 2 none; 3 full and its size), then how many were tried, kept and dropped
-abbrev brief : State (List ℕ) → List ℕ
+abbrev brief : WalkState (List ℕ) → List ℕ
 brief (going k n) = []
 brief (ended (found r) k n) = 1 ∷ r .code ∷ r .left ∷ r .right ∷ r .size ∷ n .tried ∷ length k ∷ n .dropped ∷ []
 brief (ended none k n) = 2 ∷ n .tried ∷ length k ∷ n .dropped ∷ []
@@ -43,19 +43,19 @@ s2 bound room = inputOf 2 1 bound room 0 (1 ∷ 0 ∷ []) (1 ∷ 1 ∷ []) (1 �
 
 -- "B = 2 gives none, tried 2, kept 2"
 s2-none : search (s2 2 4096) ≡ ended none (at 16 0 0 1 (1 ∷ 1 ∷ []) ∷ at 0 0 0 2 (0 ∷ 0 ∷ []) ∷ []) (tally 2 0)
-unfolding each count ofSize leftSizes finish orders unaryCandidates pairs layer known judge consider through after walk word someOf allOf unaryRow
+unfolding each count ofSize leftSizes finish orders unaryCandidates pairs layer known judge consider through after walk wordWhere someOf allOf unaryRow
     binaryRow constantRow sameRows every separating bit decode
 s2-none = refl
 
 -- "with C = 1 full at size 2, tried 2, kept 1"
 s2-full : search (s2 2 1) ≡ ended (full 2) (at 16 0 0 1 (1 ∷ 1 ∷ []) ∷ []) (tally 2 0)
-unfolding each count ofSize leftSizes finish orders unaryCandidates pairs layer known judge consider through after walk word someOf allOf unaryRow
+unfolding each count ofSize leftSizes finish orders unaryCandidates pairs layer known judge consider through after walk wordWhere someOf allOf unaryRow
     binaryRow constantRow sameRows every separating bit decode
 s2-full = refl
 
 -- "B = 3 and C = 2 gives none, tried 3 (a duplicate needs no place)"
 s2-duplicate : search (s2 3 2) ≡ ended none (at 16 0 0 1 (1 ∷ 1 ∷ []) ∷ at 0 0 0 2 (0 ∷ 0 ∷ []) ∷ []) (tally 3 1)
-unfolding each count ofSize leftSizes finish orders unaryCandidates pairs layer known judge consider through after walk word someOf allOf unaryRow
+unfolding each count ofSize leftSizes finish orders unaryCandidates pairs layer known judge consider through after walk wordWhere someOf allOf unaryRow
     binaryRow constantRow sameRows every separating bit decode
 s2-duplicate = refl
 
@@ -97,12 +97,12 @@ s2-two = full-needs-room (s2 2 1) (s2-passes 2 1 (omega arith, omega arith) (ome
 
 -- cut after its first candidate the walk stands at size 2, before the first of its candidates; one candidate more, and none is left
 s2-cut : goOn (s2 2 4096) 1 (begun (s2 2 4096)) ≡ more 2 0 (at 16 0 0 1 (1 ∷ 1 ∷ []) ∷ []) (tally 1 0)
-unfolding each count ofSize leftSizes finish orders unaryCandidates pairs layer known judge consider through after walk word someOf allOf unaryRow
+unfolding each count ofSize leftSizes finish orders unaryCandidates pairs layer known judge consider through after walk wordWhere someOf allOf unaryRow
     binaryRow constantRow sameRows every separating bit settle start step turn decode
 s2-cut = refl
 
 s2-over : goOn (s2 2 4096) 1 (more 2 0 (at 16 0 0 1 (1 ∷ 1 ∷ []) ∷ []) (tally 1 0)) ≡ over none (at 16 0 0 1 (1 ∷ 1 ∷ []) ∷ at 0 0 0 2 (0 ∷ 0 ∷ []) ∷ []) (tally 2 0)
-unfolding each count ofSize leftSizes finish orders unaryCandidates pairs layer known judge consider through after walk word someOf allOf unaryRow
+unfolding each count ofSize leftSizes finish orders unaryCandidates pairs layer known judge consider through after walk wordWhere someOf allOf unaryRow
     binaryRow constantRow sameRows every separating bit settle start step turn decode
 s2-over = refl
 
@@ -112,7 +112,7 @@ abbrev s3 : Input
 s3 = inputOf 2 2 3 4096 0 (1 ∷ 0 ∷ []) (3 ∷ 3 ∷ []) (3 ∷ 4 ∷ 1 ∷ 4 ∷ []) [] (7 ∷ [])
 
 s3-found : search s3 ≡ ended (found (node 7 0 1 3)) (at 16 0 0 1 (3 ∷ 1 ∷ []) ∷ at 16 1 0 1 (4 ∷ 4 ∷ []) ∷ []) (tally 5 2)
-unfolding each count ofSize leftSizes finish orders unaryCandidates pairs layer known judge consider through after walk word someOf allOf unaryRow
+unfolding each count ofSize leftSizes finish orders unaryCandidates pairs layer known judge consider through after walk wordWhere someOf allOf unaryRow
     binaryRow constantRow sameRows every separating bit decode
 s3-found = refl
 
@@ -149,18 +149,18 @@ s4 mark bound = inputOf 1 1 bound 4096 0 (mark ∷ []) (0 ∷ []) (0 ∷ []) (0 
 
 -- "S4 with mark 1 becomes found `! (p)`, tried 2, kept 1", whatever the bound from 2 on
 s4-found : search (s4 1 2) ≡ ended (found (node 0 0 0 2)) (at 16 0 0 1 (0 ∷ []) ∷ []) (tally 2 0)
-unfolding each count ofSize leftSizes finish orders unaryCandidates pairs layer known judge consider through after walk word someOf allOf unaryRow
+unfolding each count ofSize leftSizes finish orders unaryCandidates pairs layer known judge consider through after walk wordWhere someOf allOf unaryRow
     binaryRow constantRow sameRows every separating bit decode
 s4-found = refl
 
 s4-larger : search (s4 1 3) ≡ ended (found (node 0 0 0 2)) (at 16 0 0 1 (0 ∷ []) ∷ []) (tally 2 0)
-unfolding each count ofSize leftSizes finish orders unaryCandidates pairs layer known judge consider through after walk word someOf allOf unaryRow
+unfolding each count ofSize leftSizes finish orders unaryCandidates pairs layer known judge consider through after walk wordWhere someOf allOf unaryRow
     binaryRow constantRow sameRows every separating bit decode
 s4-larger = refl
 
 -- "Mark 0: found p, tried 1, kept 0."
 s4-bad : search (s4 0 3) ≡ ended (found (node 16 0 0 1)) [] (tally 1 0)
-unfolding each count ofSize leftSizes finish orders unaryCandidates pairs layer known judge consider through after walk word someOf allOf unaryRow
+unfolding each count ofSize leftSizes finish orders unaryCandidates pairs layer known judge consider through after walk wordWhere someOf allOf unaryRow
     binaryRow constantRow sameRows every separating bit decode
 s4-bad = refl
 
@@ -169,7 +169,7 @@ abbrev beside : Input
 beside = inputOf 2 1 2 4096 0 (1 ∷ 0 ∷ []) (0 ∷ 1 ∷ []) (0 ∷ 1 ∷ []) (2 ∷ 3 ∷ 1 ∷ 0 ∷ []) []
 
 beside-found : search beside ≡ ended (found (node 0 0 0 2)) (at 16 0 0 1 (0 ∷ 1 ∷ []) ∷ at 2 0 0 2 (0 ∷ 0 ∷ []) ∷ at 1 0 0 2 (1 ∷ 1 ∷ []) ∷ []) (tally 5 1)
-unfolding each count ofSize leftSizes finish orders unaryCandidates pairs layer known judge consider through after walk word someOf allOf unaryRow
+unfolding each count ofSize leftSizes finish orders unaryCandidates pairs layer known judge consider through after walk wordWhere someOf allOf unaryRow
     binaryRow constantRow sameRows every separating bit decode
 beside-found = refl
 
@@ -178,7 +178,7 @@ abbrev apart : Input
 apart = inputOf 2 1 2 4096 1 (0 ∷ 1 ∷ []) (0 ∷ 1 ∷ []) (0 ∷ 0 ∷ []) (4 ∷ []) []
 
 apart-none : search apart ≡ ended none (at 16 0 0 1 (0 ∷ 0 ∷ []) ∷ at 18 0 0 1 (1 ∷ 1 ∷ []) ∷ at 4 0 0 2 (1 ∷ 0 ∷ []) ∷ []) (tally 5 2)
-unfolding each count ofSize leftSizes finish orders unaryCandidates pairs layer known judge consider through after walk word someOf allOf unaryRow
+unfolding each count ofSize leftSizes finish orders unaryCandidates pairs layer known judge consider through after walk wordWhere someOf allOf unaryRow
     binaryRow constantRow sameRows every separating bit decode
 apart-none = refl
 
@@ -189,7 +189,7 @@ asked = inputOf 2 1 2 4096 1 (1 ∷ 0 ∷ []) (2 ∷ 2 ∷ []) (1 ∷ 1 ∷ []) 
 
 asked-none : search asked ≡ ended none
     (at 16 0 0 1 (1 ∷ 1 ∷ []) ∷ at 17 0 0 1 (0 ∷ 0 ∷ []) ∷ at 18 0 0 1 (3 ∷ 3 ∷ []) ∷ at 1 0 0 2 (2 ∷ 2 ∷ []) ∷ []) (tally 9 5)
-unfolding each count ofSize leftSizes finish orders unaryCandidates pairs layer known judge consider through after walk word someOf allOf unaryRow
+unfolding each count ofSize leftSizes finish orders unaryCandidates pairs layer known judge consider through after walk wordWhere someOf allOf unaryRow
     binaryRow constantRow sameRows every separating bit decode
 asked-none = refl
 
@@ -200,7 +200,7 @@ nested = inputOf 2 2 4 10 0 (1 ∷ 0 ∷ []) (2 ∷ 2 ∷ []) (2 ∷ 0 ∷ 3 ∷
 
 nested-found : search nested ≡ ended (found (node 9 0 4 4))
     (at 16 0 0 1 (2 ∷ 3 ∷ []) ∷ at 16 1 0 1 (0 ∷ 1 ∷ []) ∷ at 2 0 0 2 (1 ∷ 1 ∷ []) ∷ at 1 0 0 2 (3 ∷ 3 ∷ []) ∷ at 2 1 0 2 (0 ∷ 0 ∷ []) ∷ at 1 1 0 2 (2 ∷ 2 ∷ []) ∷ []) (tally 34 27)
-unfolding each count ofSize leftSizes finish orders unaryCandidates pairs layer known judge consider through after walk word someOf allOf unaryRow
+unfolding each count ofSize leftSizes finish orders unaryCandidates pairs layer known judge consider through after walk wordWhere someOf allOf unaryRow
     binaryRow constantRow sameRows every separating bit decode
 nested-found = refl
 
@@ -211,7 +211,7 @@ abbrev rising : Input
 rising = inputOf 3 1 5 40 0 (0 ∷ 0 ∷ 1 ∷ []) (3 ∷ 3 ∷ 3 ∷ []) (4 ∷ 3 ∷ 0 ∷ []) (3 ∷ 4 ∷ []) (10 ∷ [])
 
 rising-found : brief (search rising) ≡ 1 ∷ 10 ∷ 0 ∷ 3 ∷ 5 ∷ 19 ∷ 7 ∷ 11 ∷ []
-unfolding each count ofSize leftSizes finish orders unaryCandidates pairs layer known judge consider through after walk word someOf allOf unaryRow
+unfolding each count ofSize leftSizes finish orders unaryCandidates pairs layer known judge consider through after walk wordWhere someOf allOf unaryRow
     binaryRow constantRow sameRows every separating bit decode
 rising-found = refl
 
@@ -221,6 +221,6 @@ abbrev narrow : Input
 narrow = inputOf 1 2 1 1 0 (1 ∷ []) (1 ∷ []) (0 ∷ 1 ∷ []) [] []
 
 narrow-found : search narrow ≡ ended (found (node 16 1 0 1)) (at 16 0 0 1 (0 ∷ []) ∷ []) (tally 2 0)
-unfolding each count ofSize leftSizes finish orders unaryCandidates pairs layer known judge consider through after walk word someOf allOf unaryRow
+unfolding each count ofSize leftSizes finish orders unaryCandidates pairs layer known judge consider through after walk wordWhere someOf allOf unaryRow
     binaryRow constantRow sameRows every separating bit decode
 narrow-found = refl

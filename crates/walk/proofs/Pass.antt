@@ -13,11 +13,11 @@ use lib.Dec.{leb}
 use borrow.Author.Tests.{leb-true, leb-false}
 use Rattle.rules.specs.Lists.{_∈_}
 use Rattle.formula.specs.Nodes.{Node}
-use Rattle.walk.specs.Walk.{Offer, Candidate, Ending, found, full, none, Tally, oneTried, State, going, ended, kept, counted, finish, known, judge, consider}
+use Rattle.walk.specs.Walk.{Offer, Candidate, Ending, found, full, none, Tally, oneTried, WalkState, going, ended, kept, walkTally, finish, known, judge, consider}
 use Rattle.walk.proofs.Trees.{Lawful}
 
 -- the end keeps what was kept
-pub kept-finish : {Mat : Type 0} (st : State Mat) → kept (finish st) ≡ kept st
+pub kept-finish : {Mat : Type 0} (st : WalkState Mat) → kept (finish st) ≡ kept st
 unfolding finish
 kept-finish (going k n) = refl
 kept-finish (ended e k n) = refl
@@ -102,7 +102,7 @@ module _ {L U B Mat : Type 0} (O : Offer L U B Mat) where
     Ends (full s) cs k = Stuck C s cs k
     Ends none cs k = ⊥
 
-    abbrev pub Pass : List (Candidate Mat) → List (Candidate Mat) → State Mat → Type 0
+    abbrev pub Pass : List (Candidate Mat) → List (Candidate Mat) → WalkState Mat → Type 0
     Pass k cs (going k′ n) = Grows k cs k′ × Covers cs k′
     Pass k cs (ended e k′ n) = Grows k cs k′ × Ends e cs k′
 
@@ -135,7 +135,7 @@ module _ {L U B Mat : Type 0} (O : Offer L U B Mat) where
     ends-on c cs k none z = z
 
     pass-on : (c : Candidate Mat) (cs k k₁ : List (Candidate Mat)) → Grows k (c ∷ []) k₁ → ((u : Candidate Mat) × (u ∈ k₁) × (u .matrix ≡ c .matrix))
-        → (st : State Mat) → Pass k₁ cs st → Pass k (c ∷ cs) st
+        → (st : WalkState Mat) → Pass k₁ cs st → Pass k (c ∷ cs) st
     pass-on c cs k k₁ g w (going k′ n) p = (
       grows-on c cs k k₁ k′ g (p .0),
       λ d m. ⊎-elim
@@ -164,7 +164,7 @@ module _ {L U B Mat : Type 0} (O : Offer L U B Mat) where
           rw stays (grows-same k (c ∷ cs), record { hit = c; among = List·Memᴰ·head refl; named = refl; agreed = ea })
       pass-step c cs k n go false ea true eb r er =
           pass-on c cs k k (grows-same k (c ∷ [])) (known-true Z (c .matrix) k eb)
-          (foldl (consider O C) (judge O false true r c k n) cs) (go k (counted (judge O false true r c k n)))
+          (foldl (consider O C) (judge O false true r c k n) cs) (go k (walkTally (judge O false true r c k n)))
       pass-step c cs k n go false ea false eb true er =
           rw stays (
             grows-same k (c ∷ cs),
@@ -179,7 +179,7 @@ module _ {L U B Mat : Type 0} (O : Offer L U B Mat) where
           )
       pass-step c cs k n go false ea false eb false er =
           pass-on c cs k (k ++ (c ∷ [])) (grows-one c k ea) (c, Memᴰ·append-right k (List·Memᴰ·head refl), refl)
-          (foldl (consider O C) (judge O false false false c k n) cs) (go (k ++ (c ∷ [])) (counted (judge O false false false c k n)))
+          (foldl (consider O C) (judge O false false false c k n) cs) (go (k ++ (c ∷ [])) (walkTally (judge O false false false c k n)))
 
       pub pass : (cs k : List (Candidate Mat)) (n : Tally) → Pass k cs (foldl (consider O C) (going k n) cs)
       unfolding consider
@@ -188,14 +188,14 @@ module _ {L U B Mat : Type 0} (O : Offer L U B Mat) where
           pass-step c cs k (oneTried n) (λ k₁ m. pass cs k₁ m) _ refl _ refl _ refl
 
       -- from any state
-      pub grown : (cs : List (Candidate Mat)) (st : State Mat) → Grows (kept st) cs (kept (foldl (consider O C) st cs))
+      pub grown : (cs : List (Candidate Mat)) (st : WalkState Mat) → Grows (kept st) cs (kept (foldl (consider O C) st cs))
       grown cs (going k n) = go (foldl (consider O C) (going k n) cs) (pass cs k n)
         where
-          go : (st : State Mat) → Pass k cs st → Grows k cs (kept st)
+          go : (st : WalkState Mat) → Pass k cs st → Grows k cs (kept st)
           go (going k′ n′) p = p .0
           go (ended e k′ n′) p = p .0
       grown cs (ended e k n) =
-          subst (λ (st : State Mat). Grows k cs (kept st)) (sym (stays e k n cs))
+          subst (λ (st : WalkState Mat). Grows k cs (kept st)) (sym (stays e k n cs))
           (grows-same k cs)
 
     -- ---- what each candidate preserves: there is room for those kept, and no two have one matrix
@@ -215,11 +215,11 @@ module _ {L U B Mat : Type 0} (O : Offer L U B Mat) where
           let lt = leb-false C (length k) er in
           (simp length-append (omega arith), distinct-one k c (i .1) (known-false Z (c .matrix) k eb))
 
-      tidy-consider : (st : State Mat) (c : Candidate Mat) → Tidy (kept st) → Tidy (kept (consider O C st c))
+      tidy-consider : (st : WalkState Mat) (c : Candidate Mat) → Tidy (kept st) → Tidy (kept (consider O C st c))
       unfolding consider
       tidy-consider (going k n) c i = tidy-judge c k (oneTried n) i (O .agrees (c .matrix)) (known O (c .matrix) k) refl (leb C (length k)) refl
       tidy-consider (ended e k n) c i = i
 
-      pub tidy : (cs : List (Candidate Mat)) (st : State Mat) → Tidy (kept st) → Tidy (kept (foldl (consider O C) st cs))
+      pub tidy : (cs : List (Candidate Mat)) (st : WalkState Mat) → Tidy (kept st) → Tidy (kept (foldl (consider O C) st cs))
       tidy [] st i = i
       tidy (c ∷ cs) st i = tidy cs (consider O C st c) (tidy-consider st c i)

@@ -46,10 +46,6 @@ module _ {Mat : Type 0} (d : Candidate Mat) where
       old : (p : ℕ) → p < length k → sizeAt (k ++ (c ∷ [])) p ≡ sizeAt k p
       old p w = ap (λ (x : Candidate Mat). x .node .size) (List·getD-append k (c ∷ []) d p w)
 
-  -- a new size begins
-  pub split-end : (k : List (Candidate Mat)) (s : ℕ) → ((p : ℕ) → p < length k → sizeAt k p < s) → Split k s (length k)
-  split-end k s h = record { inside = omega arith; below = h; above = λ p q r. absurd (omega arith) }
-
   -- ---- those of size s, by places
 
   -- as `ofSize` counts them: from place p on

@@ -9,7 +9,7 @@ use native.Mathlib.Omega.{arith}
 use lib.ListN.{length}
 use lib.Dec.{leb}
 use Rattle.rules.specs.Lists.{_∈_}
-use Rattle.walk.specs.Walk.{Offer, Candidate, Ending, found, full, none, Tally, tally, oneTried, State, going, ended, kept, counted, known, judge, layer, consider, through}
+use Rattle.walk.specs.Walk.{Offer, Candidate, Ending, found, full, none, Tally, tally, oneTried, WalkState, going, ended, kept, walkTally, known, judge, layer, consider, through}
 use Rattle.walk.specs.Walk.{after, finish, walk, trail}
 use Rattle.walk.specs.Input.{offer}
 use Rattle.walk.specs.Promises.{Nth, Has, DecidedAt, TriedIsPosition}
@@ -19,7 +19,7 @@ use Rattle.walk.proofs.Reading.{lawful}
 
 module _ {L U B Mat : Type 0} (O : Offer L U B Mat) (C : ℕ) where
   -- from m tried on: all of cs were tried, or the deciding one is among them
-  abbrev pub Counts : ℕ → List (Candidate Mat) → State Mat → Type 0
+  abbrev pub Counts : ℕ → List (Candidate Mat) → WalkState Mat → Type 0
   Counts m cs (going k n) = (n .tried ≡ m + length cs) × ((d : Candidate Mat) → d ∈ cs → Rejected O d)
   Counts m cs (ended e k n) = (p : ℕ) × (n .tried ≡ m + p) × DecidedAt (O .agrees) cs e k p × (e ≡ none → ⊥)
 
@@ -47,7 +47,7 @@ module _ {L U B Mat : Type 0} (O : Offer L U B Mat) (C : ℕ) where
   )
   decided-on c cs none k p r h z = ap suc z
 
-  counts-on : (c : Candidate Mat) (cs : List (Candidate Mat)) (m : ℕ) (st : State Mat) → Rejected O c → Has (kept st) (c .matrix)
+  counts-on : (c : Candidate Mat) (cs : List (Candidate Mat)) (m : ℕ) (st : WalkState Mat) → Rejected O c → Has (kept st) (c .matrix)
       → Counts (suc m) cs st → Counts m (c ∷ cs) st
   counts-on c cs m (going k n) r h w = (
     omega (arith, w .0),
@@ -72,7 +72,7 @@ module _ {L U B Mat : Type 0} (O : Offer L U B Mat) (C : ℕ) where
     counts-step c cs k n go true ea b eb r =
         rw stays (1, omega arith, (c, at-once c cs, refl, ea), λ q. let v : _≡_ {A = ℕ} 0 1 = cc in omega arith)
     counts-step c cs k n go false ea true eb r =
-        let m = counted (judge O false true r c k (oneTried n)) in
+        let m = walkTally (judge O false true r c k (oneTried n)) in
         counts-on c cs (n .tried) (foldl (consider O C) (going k m) cs) ea (has-on cs k m (c .matrix) (known-true O Z (c .matrix) k eb)) (go k m)
     counts-step c cs k n go false ea false eb true =
         rw stays (
@@ -82,7 +82,7 @@ module _ {L U B Mat : Type 0} (O : Offer L U B Mat) (C : ℕ) where
           λ q. let v : _≡_ {A = ℕ} 0 1 = cc in omega arith,
         )
     counts-step c cs k n go false ea false eb false =
-        let m = counted (judge O false false false c k (oneTried n)) in
+        let m = walkTally (judge O false false false c k (oneTried n)) in
         counts-on c cs (n .tried) (foldl (consider O C) (going (k ++ (c ∷ [])) m) cs) ea
         (has-on cs (k ++ (c ∷ [])) m (c .matrix) (c, Memᴰ·append-right k (List·Memᴰ·head refl), refl)) (go (k ++ (c ∷ [])) m)
 
@@ -97,14 +97,14 @@ module _ {L U B Mat : Type 0} (O : Offer L U B Mat) (C : ℕ) where
   unfolding after through trail
   after-trail zero = refl
   after-trail (suc b) =
-      ap (λ (st : State Mat). foldl (consider O C) st (layer O (suc b) (kept (after O C b)))) (after-trail b)
+      ap (λ (st : WalkState Mat). foldl (consider O C) st (layer O (suc b) (kept (after O C b)))) (after-trail b)
       ∙ sym (foldl-append (consider O C) (going [] (tally 0 0)) (trail O C b) (layer O (suc b) (kept (after O C b))))
 
-  abbrev Ended : List (Candidate Mat) → State Mat → Type 0
+  abbrev Ended : List (Candidate Mat) → WalkState Mat → Type 0
   Ended cs (going k n) = ⊥
   Ended cs (ended e k n) = DecidedAt (O .agrees) cs e k (n .tried)
 
-  ended-at : (cs : List (Candidate Mat)) (st : State Mat) → Counts 0 cs st → Ended cs (finish st)
+  ended-at : (cs : List (Candidate Mat)) (st : WalkState Mat) → Counts 0 cs st → Ended cs (finish st)
   unfolding finish
   ended-at cs (going k n) w = omega (arith, w .0)
   ended-at cs (ended e k n) w = subst (DecidedAt (O .agrees) cs e k) (let z : w .0 ≡ n .tried = omega (arith, w .1) in z) (w .2)

@@ -14,9 +14,9 @@ use Rattle.formula.specs.Recorded.{markedTrace, markedTraces}
 use Rattle.session.specs.Recording.{lengthOf}
 use Rattle.formula.proofs.Trees.{spells-size}
 use Rattle.formula.specs.Nodes.{Node, codes}
-use Rattle.walk.specs.Walk.{Candidate, Ending, found, full, none, Tally, State, going, ended, finish, after, walk}
+use Rattle.walk.specs.Walk.{Candidate, Ending, found, full, none, Tally, WalkState, going, ended, finish, after, walk}
 use Rattle.walk.specs.Input.{Input, Passes, language, row, separating, offer, search}
-use Rattle.walk.specs.Kept.{Table, nodes}
+use Rattle.walk.specs.Kept.{Table, tableNodes}
 use Rattle.walk.specs.Promises.{NoneBelow, Alike, Apart, FoundAs, KeepsNext, Full, Keeps, KeepsAll, Kept, FoundSmallest, NoneMeansNone, FullNeedsRoom, KeptDistinct, WalkEnds}
 use Rattle.walk.proofs.Trees.{Is, is-size, Ordered}
 use Rattle.walk.proofs.Pass.{Rejected, Distinct, Tidy}
@@ -39,7 +39,7 @@ module _ (i : Input) (ok : Passes i) where
         formula = w .formula;
         spelled = w .spelled;
         offered = o;
-        sized = spells-size codes (nodes k) root (w .formula) (w .spelled);
+        sized = spells-size codes (tableNodes k) root (w .formula) (w .spelled);
         within = w .within;
         separates = agrees-separates i ok (w .formula) o .0 (w .agreed);
         smallest = needs-below (size (w .formula)) (w .least);
@@ -154,6 +154,6 @@ pub walk-ends : WalkEnds
 unfolding walk finish
 walk-ends i = go (after (offer i) (i .room) (i .bound))
   where
-    go : (st : State (List ℕ)) → (e : Ending) × (k : Table) × (n : Tally) × (finish st ≡ ended e k n)
+    go : (st : WalkState (List ℕ)) → (e : Ending) × (k : Table) × (n : Tally) × (finish st ≡ ended e k n)
     go (going k n) = (none, k, n, refl)
     go (ended e k n) = (e, k, n, refl)

@@ -12,7 +12,7 @@ use lib.ListN.{length, take, drop, length-append, length-take, length-drop, take
 use lib.Seq.{take-all, take-add, take-append-seam}
 use lib.Dec.{eqb, ltb}
 use borrow.Author.Tests.{eqb-true, ltb-true, ltb-false}
-use Rattle.walk.specs.Walk.{Offer, Candidate, Placed, Ending, found, full, none, Tally, tally, State, going, ended, kept, tried, ofSize, keepIf, leftSizes, orders, unaryOn}
+use Rattle.walk.specs.Walk.{Offer, Candidate, Placed, Ending, found, full, none, Tally, tally, WalkState, going, ended, kept, tried, ofSize, keepIf, leftSizes, orders, unaryOn}
 use Rattle.walk.specs.Walk.{unaryCandidates, pairs, layer, consider, through, after, finish, walk, trail}
 use Rattle.rules.specs.Lists.{each, _∈_}
 use Rattle.walk.specs.Input.{offer}
@@ -62,7 +62,7 @@ module _ {L U B Mat : Type 0} (O : Offer L U B Mat) where
 
   module _ (C : ℕ) (Z : Lawful O) where
     -- the state after the sizes up to a and j candidates of the next
-    abbrev within : ℕ → ℕ → State Mat
+    abbrev within : ℕ → ℕ → WalkState Mat
     within a j = foldl (consider O C) (after O C a) (take j (layer O (suc a) (kept (after O C a))))
 
     in-take : (j : ℕ) (cs : List (Candidate Mat)) {c : Candidate Mat} → c ∈ take j cs → c ∈ cs
@@ -102,7 +102,7 @@ module _ {L U B Mat : Type 0} (O : Offer L U B Mat) where
     unfolding done
     through-done a j =
         foldl-append (consider O C) (going [] (tally 0 0)) (trail O C a) (take j (layer O (suc a) (kept (after O C a))))
-        ∙ ap (λ (st : State Mat). foldl (consider O C) st (take j (layer O (suc a) (kept (after O C a))))) (sym (after-trail O C a))
+        ∙ ap (λ (st : WalkState Mat). foldl (consider O C) st (take j (layer O (suc a) (kept (after O C a))))) (sym (after-trail O C a))
 
     -- ---- no more are tried than there were
 
@@ -114,7 +114,7 @@ module _ {L U B Mat : Type 0} (O : Offer L U B Mat) where
     decided-le cs (full s) k p z = nth-le cs p (z .0) (z .1)
     decided-le cs none k p z = omega arith
 
-    counts-le : (m : ℕ) (cs : List (Candidate Mat)) (st : State Mat) → Counts O C m cs st → tried st ≤ m + length cs
+    counts-le : (m : ℕ) (cs : List (Candidate Mat)) (st : WalkState Mat) → Counts O C m cs st → tried st ≤ m + length cs
     counts-le m cs (going k n) w = omega (arith, w .0)
     counts-le m cs (ended e k n) w = omega (arith, w .1, decided-le cs e k (w .0) (w .2))
 
@@ -155,7 +155,7 @@ module _ {L U B Mat : Type 0} (O : Offer L U B Mat) where
       unfolding settle
       begins zero a e n h = go (after O C a) refl
         where
-          go : (st : State Mat) → after O C a ≡ st → Here n (settle O C b zero (suc a) 0 st)
+          go : (st : WalkState Mat) → after O C a ≡ st → Here n (settle O C b zero (suc a) 0 st)
           go (going k m) q = (none-here a (omega arith) k m q, omega (arith, after-le a, ap tried q))
           go (ended e′ k m) q = (over-here a (omega arith) e′ k m q, omega (arith, after-le a, ap tried q))
       begins (suc d) a e n h = go (after O C a) refl (λ g. begins d (suc a) (omega arith) n g)
@@ -163,19 +163,19 @@ module _ {L U B Mat : Type 0} (O : Offer L U B Mat) where
           empty : length (layer O (suc a) (kept (after O C a))) ≤ 0 → after O C (suc a) ≡ after O C a
           empty l = sym (within-all a 0 l)
 
-          go : (st : State Mat) → after O C a ≡ st
+          go : (st : WalkState Mat) → after O C a ≡ st
               → (n ≡ length (trail O C (suc a)) → Here n (settle O C b d (suc (suc a)) 0 (after O C (suc a)))) → Here n (settle O C b (suc d) (suc a) 0 st)
           go (ended e′ k m) q r = (over-here a (omega arith) e′ k m q, omega (arith, after-le a, ap tried q))
           go (going k m) q r = pick (ltb 0 (length (layer O (suc a) k))) refl
             where
               same : length (layer O (suc a) k) ≡ length (layer O (suc a) (kept (after O C a)))
-              same = ap (λ (st : State Mat). length (layer O (suc a) (kept st))) (sym q)
+              same = ap (λ (st : WalkState Mat). length (layer O (suc a) (kept st))) (sym q)
 
               pick : (t : Bool) → ltb 0 (length (layer O (suc a) k)) ≡ t → Here n (cond t (more (suc a) 0 k m) (settle O C b d (suc (suc a)) 0 (going k m)))
               pick true w = (a, refl, omega arith, q, omega (arith, same, ltb-true 0 (length (layer O (suc a) k)) w), omega arith)
               pick false w =
                   let l : length (layer O (suc a) (kept (after O C a))) ≤ 0 = omega (arith, same, ltb-false 0 (length (layer O (suc a) k)) w) in
-                  subst (λ (st : State Mat). Here n (settle O C b d (suc (suc a)) 0 st)) (empty l ∙ q) (r (omega (arith, trail-on a)))
+                  subst (λ (st : WalkState Mat). Here n (settle O C b d (suc (suc a)) 0 st)) (empty l ∙ q) (r (omega (arith, trail-on a)))
 
       -- within a size, after j of its candidates
       goes : (d a : ℕ) → a + suc d ≡ b → (j n : ℕ) → j ≤ length (layer O (suc a) (kept (after O C a))) → n ≡ length (trail O C a) + j
@@ -183,24 +183,24 @@ module _ {L U B Mat : Type 0} (O : Offer L U B Mat) where
       unfolding settle
       goes d a e j n le h = go (within a j) refl
         where
-          go : (st : State Mat) → within a j ≡ st → Here n (settle O C b (suc d) (suc a) j st)
+          go : (st : WalkState Mat) → within a j ≡ st → Here n (settle O C b (suc d) (suc a) j st)
           go (ended e′ k m) q = (
             over-here (suc a) (omega arith) e′ k m
                 (sym (within-rest a j)
-                ∙ ap (λ (st : State Mat). foldl (consider O C) st (drop j (layer O (suc a) (kept (after O C a))))) q
+                ∙ ap (λ (st : WalkState Mat). foldl (consider O C) st (drop j (layer O (suc a) (kept (after O C a))))) q
                 ∙ stays O C e′ k m (drop j (layer O (suc a) (kept (after O C a))))),
             omega (arith, within-le a j, ap tried q),
           )
           go (going k m) q = pick (ltb j (length (layer O (suc a) k))) refl
             where
               same : length (layer O (suc a) k) ≡ length (layer O (suc a) (kept (after O C a)))
-              same = ap (λ (st : State Mat). length (layer O (suc a) (kept st))) (sym q) ∙ ap length (layer-within a j)
+              same = ap (λ (st : WalkState Mat). length (layer O (suc a) (kept st))) (sym q) ∙ ap length (layer-within a j)
 
               pick : (t : Bool) → ltb j (length (layer O (suc a) k)) ≡ t → Here n (cond t (more (suc a) j k m) (settle O C b d (suc (suc a)) 0 (going k m)))
               pick true w = (a, refl, omega arith, q, omega (arith, same, ltb-true j (length (layer O (suc a) k)) w), h)
               pick false w =
                   let l : length (layer O (suc a) (kept (after O C a))) ≤ j = omega (arith, same, ltb-false j (length (layer O (suc a) k)) w) in
-                  subst (λ (st : State Mat). Here n (settle O C b d (suc (suc a)) 0 st)) (sym (within-all a j l) ∙ q)
+                  subst (λ (st : WalkState Mat). Here n (settle O C b d (suc (suc a)) 0 st)) (sym (within-all a j l) ∙ q)
                   (begins d (suc a) (omega arith) n (omega (arith, trail-on a)))
 
       starts : Here 0 (start O C b)
@@ -213,16 +213,16 @@ module _ {L U B Mat : Type 0} (O : Offer L U B Mat) where
       steps n (more s j k m) (a, es, la, q, lj, en) =
           subst (λ (s : ℕ). Here (suc n) (settle O C b (suc b - s) s (suc j) (foldl (consider O C) (going k m) (take 1 (drop j (layer O s k))))))
           (sym es)
-          (subst (λ (st : State Mat). Here (suc n) (settle O C b (suc b - suc a) (suc a) (suc j) st)) (sym next)
+          (subst (λ (st : WalkState Mat). Here (suc n) (settle O C b (suc b - suc a) (suc a) (suc j) st)) (sym next)
           (subst (λ (d : ℕ). Here (suc n) (settle O C b d (suc a) (suc j) (within a (suc j)))) (let e : suc (b - suc a) ≡ suc b - suc a = omega arith in e)
           (goes (b - suc a) a (omega arith) (suc j) (suc n) lj (omega arith))))
         where
           same : layer O (suc a) k ≡ layer O (suc a) (kept (after O C a))
-          same = ap (λ (st : State Mat). layer O (suc a) (kept st)) (sym q) ∙ layer-within a j
+          same = ap (λ (st : WalkState Mat). layer O (suc a) (kept st)) (sym q) ∙ layer-within a j
 
           next : foldl (consider O C) (going k m) (take 1 (drop j (layer O (suc a) k))) ≡ within a (suc j)
           next =
-              ap₂ (λ (st : State Mat) (cs : List (Candidate Mat)). foldl (consider O C) st (take 1 (drop j cs))) (sym q) same
+              ap₂ (λ (st : WalkState Mat) (cs : List (Candidate Mat)). foldl (consider O C) st (take 1 (drop j cs))) (sym q) same
               ∙ within-next a j
 
       turns : (t n : ℕ) (c : Cut Mat) → Here n c → Here (n + t) (turn O C b t c)
@@ -265,7 +265,7 @@ module _ {L U B Mat : Type 0} (O : Offer L U B Mat) where
       unfolding done
       length-done a j h = simp (length-append, length-take) (omega arith)
 
-      tried-finish : (st : State Mat) → tried (finish st) ≡ tried st
+      tried-finish : (st : WalkState Mat) → tried (finish st) ≡ tried st
       unfolding finish
       tried-finish (going k n) = refl
       tried-finish (ended e k n) = refl
@@ -279,7 +279,7 @@ module _ {L U B Mat : Type 0} (O : Offer L U B Mat) where
           some (full s) k′ p z w = omega (arith, z .1 .position)
           some none k′ p z w = absurd (w refl)
 
-          go : (st : State Mat) → Counts O C (m .tried) cs st → m .tried < tried st
+          go : (st : WalkState Mat) → Counts O C (m .tried) cs st → m .tried < tried st
           go (going k′ n) w = omega (arith, w .0)
           go (ended e k′ n) w = omega (arith, w .1, some e k′ (w .0) (w .2) (w .3))
 
@@ -301,7 +301,7 @@ module _ {L U B Mat : Type 0} (O : Offer L U B Mat) where
           let c = subst (Counts O C 0 (done a j)) at (counts O C Z (done a j) [] (tally 0 0)) in
           let mn : m .tried ≡ n = omega (arith, c .0) in
           let whole = after-trail O C b ∙ ap (foldl (consider O C) (going [] (tally 0 0))) w ∙ foldl-append (consider O C) (going [] (tally 0 0)) (done a j) left
-          ∙ ap (λ (st : State Mat). foldl (consider O C) st left) at in
+          ∙ ap (λ (st : WalkState Mat). foldl (consider O C) st left) at in
           let some : 0 < length left = omega (arith, length-append (drop j cs) rest, length-drop j cs) in (
             mn,
             omega (arith, tries-more left k m some, tried-finish (after O C b), ap tried whole),

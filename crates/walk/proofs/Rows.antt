@@ -15,7 +15,7 @@ use Rattle.words.proofs.Bits.{bit-first, bit-rest, bit-high}
 use Rattle.words.proofs.At.{lt-wf, means-unique}
 use Rattle.sequence.specs.Operators.{Unary, Binary, unaryReading, binaryReading, commutes}
 use Rattle.sequence.proofs.Agreeing.{Agree, means-agree, unary-agree, binary-agree}
-use Rattle.walk.specs.Rows.{word, isOn, someOf, allOf, atSome, atAll, unaryTest, binaryTest, unaryRow, binaryRow, constantRow}
+use Rattle.walk.specs.Rows.{wordWhere, isOn, someOf, allOf, atSome, atAll, unaryTest, binaryTest, unaryRow, binaryRow, constantRow}
 use Rattle.walk.specs.Promises.{UnaryRowOnly, BinaryRowOnly}
 
 -- ---- the bits of the word that a test sets
@@ -33,36 +33,36 @@ add-top (suc n) a h =
     let e : (a + 2 ^ suc n) / 2 ≡ a / 2 + 2 ^ n = omega arith in
     bit-rest (a + 2 ^ suc n) n ∙ ap (λ (x : ℕ). bit x n) e ∙ add-top n (a / 2) (omega arith)
 
-word-lt : (n : ℕ) (f : ℕ → Bool) → word n f < 2 ^ n
-unfolding word
+word-lt : (n : ℕ) (f : ℕ → Bool) → wordWhere n f < 2 ^ n
+unfolding wordWhere
 word-lt zero f = omega arith
 word-lt (suc n) f = go (f n) (word-lt n f)
   where
-    go : (b : Bool) → word n f < 2 ^ n → word n f + cond b (2 ^ n) 0 < 2 ^ suc n
+    go : (b : Bool) → wordWhere n f < 2 ^ n → wordWhere n f + cond b (2 ^ n) 0 < 2 ^ suc n
     go true h = omega arith
     go false h = omega arith
 
-bit-word : (n : ℕ) (f : ℕ → Bool) (i : ℕ) → i < n → bit (word n f) i ≡ cond (f i) 1 0
-unfolding word
+bit-word : (n : ℕ) (f : ℕ → Bool) (i : ℕ) → i < n → bit (wordWhere n f) i ≡ cond (f i) 1 0
+unfolding wordWhere
 bit-word zero f i h = absurd (omega arith)
 bit-word (suc n) f i h = go (f n) refl (eq-or-lt-of-le {n = i} {m = n} (omega arith)) (λ l. bit-word n f i l)
   where
-    none : word n f + 0 ≡ word n f
+    none : wordWhere n f + 0 ≡ wordWhere n f
     none = omega arith
 
-    go : (b : Bool) → f n ≡ b → (i ≡ n) ⊎ (i < n) → (i < n → bit (word n f) i ≡ cond (f i) 1 0) → bit (word n f + cond b (2 ^ n) 0) i ≡ cond (f i) 1 0
-    go true e (inl q) r = rw (q, e) (add-top n (word n f) (word-lt n f))
-    go false e (inl q) r = rw (q, e, none) (bit-high n (word n f) n (word-lt n f) (omega arith))
-    go true e (inr l) r = add-low n (word n f) i l ∙ r l
+    go : (b : Bool) → f n ≡ b → (i ≡ n) ⊎ (i < n) → (i < n → bit (wordWhere n f) i ≡ cond (f i) 1 0) → bit (wordWhere n f + cond b (2 ^ n) 0) i ≡ cond (f i) 1 0
+    go true e (inl q) r = rw (q, e) (add-top n (wordWhere n f) (word-lt n f))
+    go false e (inl q) r = rw (q, e, none) (bit-high n (wordWhere n f) n (word-lt n f) (omega arith))
+    go true e (inr l) r = add-low n (wordWhere n f) i l ∙ r l
     go false e (inr l) r = ap (λ (x : ℕ). bit x i) none ∙ r l
 
-pub word-means : {n : ℕ} (f : ℕ → Bool) → n ≤ width → Means n (word (places n) f) (λ i. f i ≡ true)
+pub word-means : {n : ℕ} (f : ℕ → Bool) → n ≤ width → Means n (wordWhere (places n) f) (λ i. f i ≡ true)
 word-means {n} f h = record { wf = lt-wf {n = places n} (omega arith) (word-lt (places n) f); holds = λ i l. go i (f i) refl (bit-word (places n) f i l) }
   where
-    go : (i : ℕ) (b : Bool) → f i ≡ b → bit (word (places n) f) i ≡ cond (f i) 1 0 → At (word (places n) f) i ↔ (f i ≡ true)
+    go : (i : ℕ) (b : Bool) → f i ≡ b → bit (wordWhere (places n) f) i ≡ cond (f i) 1 0 → At (wordWhere (places n) f) i ↔ (f i ≡ true)
     go i true e w = (λ p. e, λ p. w ∙ ap (λ (b : Bool). cond b 1 0) e)
     go i false e w = (
-      λ p. (let z : bit (word (places n) f) i ≡ 0 = w ∙ ap (λ (b : Bool). cond b 1 0) e in absurd (omega arith)),
+      λ p. (let z : bit (wordWhere (places n) f) i ≡ 0 = w ∙ ap (λ (b : Bool). cond b 1 0) e in absurd (omega arith)),
       λ p. absurd (true≢false (sym p ∙ e)),
     )
 
@@ -211,9 +211,9 @@ beq-comm false false = refl
 
 pub binary-row-comm : (op : Binary) → commutes op ≡ true → (n x y : ℕ) → binaryRow op n x y ≡ binaryRow op n y x
 unfolding binaryRow
-binary-row-comm Binary.or e n x y = ap (word (places n)) (fun-ext λ i. or-comm (isOn x i) (isOn y i))
-binary-row-comm Binary.and e n x y = ap (word (places n)) (fun-ext λ i. and-comm (isOn x i) (isOn y i))
+binary-row-comm Binary.or e n x y = ap (wordWhere (places n)) (fun-ext λ i. or-comm (isOn x i) (isOn y i))
+binary-row-comm Binary.and e n x y = ap (wordWhere (places n)) (fun-ext λ i. and-comm (isOn x i) (isOn y i))
 binary-row-comm Binary.until e n x y = absurd (true≢false (sym e))
 binary-row-comm Binary.release e n x y = absurd (true≢false (sym e))
 binary-row-comm Binary.implies e n x y = absurd (true≢false (sym e))
-binary-row-comm Binary.equiv e n x y = ap (word (places n)) (fun-ext λ i. beq-comm (isOn x i) (isOn y i))
+binary-row-comm Binary.equiv e n x y = ap (wordWhere (places n)) (fun-ext λ i. beq-comm (isOn x i) (isOn y i))

@@ -11,7 +11,7 @@ use lib.ListN.{length, getD}
 use lib.Dec.{eqb, leb}
 use Rattle.sequence.specs.Operators.{Unary, Binary}
 use Rattle.formula.specs.Formula.{Leaf, proposition, constant}
-use Rattle.walk.specs.Walk.{Offer, Candidate, Placed, Tally, oneTried, State, going, ended, kept, seed, orders, unaryCandidates, pairs, layer, known, judge, consider}
+use Rattle.walk.specs.Walk.{Offer, Candidate, Placed, Tally, oneTried, WalkState, going, ended, kept, seed, orders, unaryCandidates, pairs, layer, known, judge, consider}
 use Rattle.walk.specs.Walk.{through, after, finish, walk}
 use Rattle.rules.specs.Lists.{count, _∈_}
 use Rattle.walk.specs.Rows.{unaryRow, binaryRow, constantRow, acceptsRow}
@@ -55,7 +55,7 @@ module _ {L U B Mat : Type 0} (O : Offer L U B Mat) where
     judge-given false false true c k n = refl
     judge-given false false false c k n = refl
 
-    consider-given : (st : State Mat) (c : Candidate Mat) → consider (given f) C st c ≡ consider (given g) C st c
+    consider-given : (st : WalkState Mat) (c : Candidate Mat) → consider (given f) C st c ≡ consider (given g) C st c
     unfolding consider
     consider-given (going k n) c =
         ap (λ (b : Bool). judge (given f) (O .agrees (c .matrix)) b (leb C (length k)) c k (oneTried n)) (known-given (c .matrix) k)
@@ -83,8 +83,8 @@ module _ {L U B Mat : Type 0} (O : Offer L U B Mat) where
     unfolding after through
     after-given zero = refl
     after-given (suc b) =
-        ap (λ (st : State Mat). foldl (consider (given f) C) st (layer (given f) (suc b) (kept st))) (after-given b)
-        ∙ ap₂ (λ (j : State Mat → Candidate Mat → State Mat) (cs : List (Candidate Mat)). foldl j (after (given g) C b) cs)
+        ap (λ (st : WalkState Mat). foldl (consider (given f) C) st (layer (given f) (suc b) (kept st))) (after-given b)
+        ∙ ap₂ (λ (j : WalkState Mat → Candidate Mat → WalkState Mat) (cs : List (Candidate Mat)). foldl j (after (given g) C b) cs)
         (fun-ext λ st. fun-ext λ c. consider-given st c) (layer-given (suc b) (kept (after (given g) C b)))
 
     walk-given : (b : ℕ) → walk (given f) C b ≡ walk (given g) C b
@@ -109,7 +109,7 @@ module _ (r m b room constants : ℕ) (us bs : List ℕ) where
   abbrev input : List ℕ → List ℕ → List ℕ → Input
   input M N W = inputOf r m b room constants M N W us bs
 
-  searchOf : List ℕ → List ℕ → List ℕ → State (List ℕ)
+  searchOf : List ℕ → List ℕ → List ℕ → WalkState (List ℕ)
   searchOf M N W = search (input M N W)
 
   module _ (M M′ N N′ W W′ : List ℕ) (eM : (p : ℕ) → p < r → getD M p 0 ≡ getD M′ p 0) (eN : (p : ℕ) → p < r → getD N p 0 ≡ getD N′ p 0)

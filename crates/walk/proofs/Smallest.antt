@@ -14,7 +14,7 @@ use Rattle.formula.specs.Formula.{Tree, size}
 use Rattle.rules.specs.Lists.{_∈_}
 use Rattle.formula.proofs.Trees.{size-pos}
 use Rattle.formula.specs.Nodes.{Node, Spells}
-use Rattle.walk.specs.Walk.{Offer, Candidate, Ending, found, full, none, State, going, ended, kept, layer, consider, through, after, finish, walk, matrix}
+use Rattle.walk.specs.Walk.{Offer, Candidate, Ending, found, full, none, WalkState, going, ended, kept, layer, consider, through, after, finish, walk, matrix}
 use Rattle.walk.proofs.Trees.{From, Lawful, Is, is-size, is-longer, Sound, Ordered, ordered-sound, ordered-append}
 use Rattle.walk.proofs.Layers.{Complete, layer-fits, layer-has}
 use Rattle.walk.proofs.Pass.{Rejected, Grows, grows-keeps, grows-from, Covers, Pass, pass, stays, Tidy, tidy}
@@ -81,7 +81,7 @@ module _ {L U B Mat : Type 0} (O : Offer L U B Mat) where
     EndsWell b (full s) k = Spills C b s k
     EndsWell b none k = Needs (suc b)
 
-    abbrev After : ℕ → State Mat → Type 0
+    abbrev After : ℕ → WalkState Mat → Type 0
     After b (going k n) = Inv b k
     After b (ended e k n) = EndsWell b e k × (e ≡ none → ⊥)
 
@@ -100,7 +100,7 @@ module _ {L U B Mat : Type 0} (O : Offer L U B Mat) where
           (eq-or-lt-of-le h)
 
       -- one layer, from a state that goes on
-      after-layer : (b : ℕ) (k : List (Candidate Mat)) → Tidy O C k → Ours k → Inv b k → (st : State Mat) → Tidy O C (kept st)
+      after-layer : (b : ℕ) (k : List (Candidate Mat)) → Tidy O C k → Ours k → Inv b k → (st : WalkState Mat) → Tidy O C (kept st)
           → Pass O C k (layer O (suc b) k) st → Ours (kept st) × After (suc b) st
       after-layer b k y o i (going k′ n) d p = (
         ours-more b k k′ o (p .0),
@@ -173,10 +173,10 @@ module _ {L U B Mat : Type 0} (O : Offer L U B Mat) where
       }
       ends-later b none k h w = absurd (h refl)
 
-      abbrev Whole : ℕ → State Mat → Type 0
+      abbrev Whole : ℕ → WalkState Mat → Type 0
       Whole b st = Tidy O C (kept st) × Ours (kept st) × After b st
 
-      through-one : (b : ℕ) (st : State Mat) → Whole b st → Whole (suc b) (through O C (suc b) st)
+      through-one : (b : ℕ) (st : WalkState Mat) → Whole b st → Whole (suc b) (through O C (suc b) st)
       unfolding through
       through-one b (going k n) (d, o, i) =
           let y = tidy O C Z (layer O (suc b) k) (going k n) d in
@@ -193,11 +193,11 @@ module _ {L U B Mat : Type 0} (O : Offer L U B Mat) where
       )
       after-whole (suc b) = through-one b (after O C b) (after-whole b)
 
-      abbrev pub Says : ℕ → State Mat → Type 0
+      abbrev pub Says : ℕ → WalkState Mat → Type 0
       Says b (going k n) = ⊥
       Says b (ended e k n) = Tidy O C k × Ours k × EndsWell b e k
 
-      says : (b : ℕ) (st : State Mat) → Whole b st → Says b (finish st)
+      says : (b : ℕ) (st : WalkState Mat) → Whole b st → Says b (finish st)
       unfolding finish
       says b (going k n) (d, o, i) = (d, o, inv-needs b k o i)
       says b (ended e k n) (d, o, i) = (d, o, i .0)

@@ -12,7 +12,7 @@ use lib.ListN.{length}
 use lib.Dec.{leb}
 use borrow.Author.Tests.{leb-true, leb-false}
 use Rattle.formula.specs.Nodes.{Node}
-use Rattle.walk.specs.Walk.{Offer, Candidate, Ending, found, full, Tally, oneTried, State, going, ended, kept, known, judge, layer, consider, through, after, finish, walk}
+use Rattle.walk.specs.Walk.{Offer, Candidate, Ending, found, full, Tally, oneTried, WalkState, going, ended, kept, known, judge, layer, consider, through, after, finish, walk}
 use Rattle.walk.specs.Input.{Input, separating, offer, search}
 use Rattle.walk.specs.Kept.{Table}
 use Rattle.walk.specs.Promises.{again, KeepsNext, LargerBoundSame, LargerRoomSame, FoundStays}
@@ -36,7 +36,7 @@ module _ {L U B Mat : Type 0} (O : Offer L U B Mat) where
         ⊎-elim (λ z. ap (after O C) (sym z) ∙ q) (λ l. ap (through O C (suc d)) (after-later b d (omega arith) e k n q) ∙ through-ended (suc d) e k n)
         (eq-or-lt-of-le h)
 
-    unfinish : (root : Node) (k : List (Candidate Mat)) (n : Tally) (st : State Mat) → finish st ≡ ended (found root) k n → st ≡ ended (found root) k n
+    unfinish : (root : Node) (k : List (Candidate Mat)) (n : Tally) (st : WalkState Mat) → finish st ≡ ended (found root) k n → st ≡ ended (found root) k n
     unfolding finish
     unfinish root k n (going k′ n′) e = let z : _≡_ {A = ℕ} 0 1 = cc in absurd (omega arith)
     unfinish root k n (ended e′ k′ n′) e = e
@@ -49,16 +49,16 @@ module _ {L U B Mat : Type 0} (O : Offer L U B Mat) where
   -- ---- more room
 
   -- all of k is kept and, at the place after them, one of size s
-  abbrev pub Next : ℕ → List (Candidate Mat) → State Mat → Type 0
+  abbrev pub Next : ℕ → List (Candidate Mat) → WalkState Mat → Type 0
   Next s k y = (d : Candidate Mat) × (more : List (Candidate Mat)) × (d .node .size ≡ s) × (kept y ≡ k ++ (d ∷ more))
 
   module _ (Z : Lawful O) (C D : ℕ) (le : C ≤ D) where
     -- the first walk was full; then the second, where it has more room, kept the one for which there was no place
-    abbrev Parts : State Mat → State Mat → Type 0
+    abbrev Parts : WalkState Mat → WalkState Mat → Type 0
     Parts x y = (s : ℕ) × (k : List (Candidate Mat)) × (n : Tally) × (x ≡ ended (full s) k n) × (C < D → Next s k y)
 
     -- the same, unless the first was full
-    abbrev SameUnlessFull : State Mat → State Mat → Type 0
+    abbrev SameUnlessFull : WalkState Mat → WalkState Mat → Type 0
     SameUnlessFull x y = (y ≡ x) ⊎ Parts x y
 
     same-judge : (a b : Bool) (c : Candidate Mat) (k : List (Candidate Mat)) (n : Tally) → length k ≤ C
@@ -71,30 +71,30 @@ module _ {L U B Mat : Type 0} (O : Offer L U B Mat) where
     same-judge false false c k n l false true e f = absurd (omega (arith, leb-false C (length k) e, leb-true D (length k) f))
     same-judge false false c k n l false false e f = inl refl
 
-    same-consider : (st : State Mat) (c : Candidate Mat) → length (kept st) ≤ C → SameUnlessFull (consider O C st c) (consider O D st c)
+    same-consider : (st : WalkState Mat) (c : Candidate Mat) → length (kept st) ≤ C → SameUnlessFull (consider O C st c) (consider O D st c)
     unfolding consider
     same-consider (going k n) c l = same-judge (O .agrees (c .matrix)) (known O (c .matrix) k) c k (oneTried n) l (leb C (length k)) (leb D (length k)) refl refl
     same-consider (ended e k n) c l = inl refl
 
     -- whatever comes, what was kept stays
-    still-full : (cs ds : List (Candidate Mat)) (x y : State Mat) → Parts x y → Parts (foldl (consider O C) x cs) (foldl (consider O D) y ds)
+    still-full : (cs ds : List (Candidate Mat)) (x y : WalkState Mat) → Parts x y → Parts (foldl (consider O C) x cs) (foldl (consider O D) y ds)
     still-full cs ds x y (s, k, n, e, w) = (
       s,
       k,
       n,
-      ap (λ (z : State Mat). foldl (consider O C) z cs) e ∙ stays O C (full s) k n cs,
+      ap (λ (z : WalkState Mat). foldl (consider O C) z cs) e ∙ stays O C (full s) k n cs,
       λ h. let (d, more, size, keeps) = w h in
           let g = grown O D Z ds y in
           (d, more ++ g .new, size, g .longer ∙ ap (λ (z : List (Candidate Mat)). z ++ g .new) keeps ∙ append-assoc k (d ∷ more) (g .new)),
     )
 
-    same-fold : (cs : List (Candidate Mat)) (st : State Mat) → Tidy O C (kept st) → SameUnlessFull (foldl (consider O C) st cs) (foldl (consider O D) st cs)
+    same-fold : (cs : List (Candidate Mat)) (st : WalkState Mat) → Tidy O C (kept st) → SameUnlessFull (foldl (consider O C) st cs) (foldl (consider O D) st cs)
     same-fold [] st t = inl refl
     same-fold (c ∷ cs) st t =
         ⊎-elim
         (λ e. ⊎-elim
-        (λ f. inl (ap (λ (s : State Mat). foldl (consider O D) s cs) e ∙ f))
-        (λ h. inr (subst (λ (s : State Mat). Parts (foldl (consider O C) (consider O C st c) cs) (foldl (consider O D) s cs)) (sym e) h))
+        (λ f. inl (ap (λ (s : WalkState Mat). foldl (consider O D) s cs) e ∙ f))
+        (λ h. inr (subst (λ (s : WalkState Mat). Parts (foldl (consider O C) (consider O C st c) cs) (foldl (consider O D) s cs)) (sym e) h))
         (same-fold cs (consider O C st c) (tidy O C Z (c ∷ []) st t)))
         (λ h. inr (still-full cs cs (consider O C st c) (consider O D st c) h)) (same-consider st c (t .0))
 
@@ -110,7 +110,7 @@ module _ {L U B Mat : Type 0} (O : Offer L U B Mat) where
         ⊎-elim
         (λ e. ⊎-elim
         (λ f. inl (ap (through O D (suc b)) e ∙ f))
-        (λ h. inr (subst (λ (s : State Mat). Parts (through O C (suc b) (after O C b)) (through O D (suc b) s)) (sym e) h))
+        (λ h. inr (subst (λ (s : WalkState Mat). Parts (through O C (suc b) (after O C b)) (through O D (suc b) s)) (sym e) h))
         (same-fold (layer O (suc b) (kept (after O C b))) (after O C b) (tidy-after b)))
         (λ h. inr (still-full (layer O (suc b) (kept (after O C b))) (layer O (suc b) (kept (after O D b))) (after O C b) (after O D b) h)) (same-after b)
 

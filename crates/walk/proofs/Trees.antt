@@ -9,8 +9,8 @@ use native.Mathlib.Omega.{arith}
 use lib.ListN.{length, length-append, List·getD-append}
 use Rattle.formula.specs.Formula.{Tree, leaf, unary, binary, size}
 use Rattle.rules.specs.Lists.{_∈_}
-use Rattle.formula.specs.Nodes.{Node, Codes, nodeAt, Spells}
-use Rattle.formula.proofs.Trees.{size-pos, spells-size, spells-longer}
+use Rattle.formula.specs.Nodes.{Spells}
+use Rattle.formula.proofs.Trees.{spells-size, spells-longer}
 use Rattle.walk.specs.Walk.{Offer, Candidate, matrix}
 
 module _ {L U B Mat : Type 0} (O : Offer L U B Mat) where

@@ -5,7 +5,7 @@ use mathlib.Core.List.{List, [], foldl}
 use Prim.Native.Nat.{ℕ, zero, suc, _-_}
 use lib.ListN.{length, take, drop}
 use lib.Dec.{ltb}
-use Rattle.walk.specs.Walk.{Offer, Candidate, Ending, none, Tally, tally, State, going, ended, layer, consider}
+use Rattle.walk.specs.Walk.{Offer, Candidate, Ending, none, Tally, tally, WalkState, going, ended, layer, consider}
 
 -- a cut walk: more to try, at size s after j of its candidates, with what is kept and the tally; or at its end
 pub data Cut (Mat : Type 0) : Type 0 where
@@ -16,7 +16,7 @@ module _ {L U B Mat : Type 0} (O : Offer L U B Mat) (C b : ℕ) where
   -- the cut walk at size s after j of its candidates, where d sizes are left, s among them. An ended walk is at its end. One that goes on
   -- stands before the next candidate of size s; if there is none, before the first candidate of the next size that has any; and if no size
   -- has any, request E7's "a walk with no candidate left has ended"
-  unfoldable pub settle : ℕ → ℕ → ℕ → State Mat → Cut Mat
+  unfoldable pub settle : ℕ → ℕ → ℕ → WalkState Mat → Cut Mat
   settle d s j (ended e k n) = over e k n
   settle zero s j (going k n) = over none k n
   settle (suc d) s j (going k n) =

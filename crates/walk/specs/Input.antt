@@ -14,7 +14,7 @@ use Rattle.session.specs.Recording.{Recording, recording, markOf, lengthOf, wor
 use Rattle.formula.specs.Formula.{Leaf, proposition, constant, Language}
 use Rattle.formula.specs.Nodes.{codes}
 use Rattle.rules.specs.Lists.{count, _∈_}
-use Rattle.walk.specs.Walk.{Offer, State, walk}
+use Rattle.walk.specs.Walk.{Offer, WalkState, walk}
 use Rattle.walk.specs.Rows.{unaryRow, binaryRow, constantRow, acceptsRow}
 
 -- what a search is handed
@@ -114,5 +114,5 @@ module _ (i : Input) where
   }
 
   -- THE SEARCH's answer
-  abbrev pub search : State (List ℕ)
+  abbrev pub search : WalkState (List ℕ)
   search = walk offer (i .room) (i .bound)

@@ -11,8 +11,8 @@ use Rattle.walk.specs.Cut.{Cut, start, turn}
 abbrev pub Table : Type 0
 Table = List (Candidate (List ℕ))
 
-abbrev pub nodes : Table → List Node
-nodes k = map (λ c. c .node) k
+abbrev pub tableNodes : Table → List Node
+tableNodes k = map (λ c. c .node) k
 
 -- the walk of an input before its first candidate, and so many candidates later
 abbrev pub begun : Input → Cut (List ℕ)

@@ -20,7 +20,7 @@ use Rattle.walk.specs.Walk.{Candidate, Ending, found, full, none, Tally,
 use Rattle.walk.specs.Rows.{unaryRow, binaryRow}
 use Rattle.walk.specs.Input.{Input, Passes, language, row, separating, offer, search}
 use Rattle.walk.specs.Cut.{Cut, more, over}
-use Rattle.walk.specs.Kept.{Table, nodes, begun, goOn}
+use Rattle.walk.specs.Kept.{Table, tableNodes, begun, goOn}
 
 -- the same input but for bound and room
 abbrev pub again : Input → ℕ → ℕ → Input
@@ -48,7 +48,7 @@ module _ (i : Input) where
   -- it separates, and no smaller one does
   pub record FoundAs (root : Node) (k : Table) : Type 0 where
     pub formula : Formula
-    pub spelled : Spells codes (nodes k) root formula
+    pub spelled : Spells codes (tableNodes k) root formula
     pub offered : Offered (language i) formula
     pub sized : root .size ≡ size formula
     pub within : size formula ≤ i .bound
@@ -78,7 +78,7 @@ module _ (i : Input) where
   -- a kept formula: its node, over those kept before it, and its matrix of r words, of which row j has bit p set exactly where the formula
   -- holds at p of session j
   pub record Keeps (before : Table) (c : Candidate (List ℕ)) (t : Formula) : Type 0 where
-    pub spelled : Spells codes (nodes before) (c .node) t
+    pub spelled : Spells codes (tableNodes before) (c .node) t
     pub offered : Offered (language i) t
     pub long : length (c .matrix) ≡ i .recording .sessions
     pub means : (j : ℕ) → j < i .recording .sessions → Means (lengthOf (i .recording) j) (row (c .matrix) j) (Holds (markedTrace (i .recording) j .trace) t)
@@ -255,7 +255,7 @@ pub record SuperfluousBy {Mat : Type 0} (k before : List (Candidate Mat)) (c : C
   pub no-larger : getD k place c .node .size ≤ c .node .size
   pub earlier : getD k place c ∈ before
 
--- it was kept by then, so the comparison with what is kept so far answers that place (crate table, known-by)
+-- it was kept by then, so the comparison with what is kept so far answers that place (crate comparison, known-by)
 abbrev pub DroppedBy : Type 0
 DroppedBy = (i : Input) (e : Ending) (k : Table) (n : Tally) → search i ≡ ended e k n → (before : Table) (c : Candidate (List ℕ)) (d : Drops i before c)
     → (place : ℕ) × (place < length (d .so-far)) × SuperfluousBy k before c place

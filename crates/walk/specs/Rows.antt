@@ -7,9 +7,9 @@ use Rattle.words.specs.Word.{bit, places}
 use Rattle.sequence.specs.Operators.{Unary, Binary}
 
 -- the word of n bits whose bit i is set where f holds
-unfoldable pub word : ℕ → (ℕ → Bool) → ℕ
-word zero f = 0
-word (suc n) f = word n f + cond (f n) (2 ^ n) 0
+unfoldable pub wordWhere : ℕ → (ℕ → Bool) → ℕ
+wordWhere zero f = 0
+wordWhere (suc n) f = wordWhere n f + cond (f n) (2 ^ n) 0
 
 -- "bit i is snapshot i"
 abbrev pub isOn : ℕ → ℕ → Bool
@@ -49,14 +49,14 @@ binaryTest Binary.equiv n f g i = Bool·beq (f i) (g i)
 
 -- the word of an operator over words of n snapshots: a bit for each place of a formula's word
 unfoldable pub unaryRow : Unary → ℕ → ℕ → ℕ
-unaryRow op n x = word (places n) (unaryTest op n (isOn x))
+unaryRow op n x = wordWhere (places n) (unaryTest op n (isOn x))
 
 unfoldable pub binaryRow : Binary → ℕ → ℕ → ℕ → ℕ
-binaryRow op n x y = word (places n) (binaryTest op n (isOn x) (isOn y))
+binaryRow op n x y = wordWhere (places n) (binaryTest op n (isOn x) (isOn y))
 
 -- true holds at every position, false at none
 unfoldable pub constantRow : Bool → ℕ → ℕ
-constantRow b n = word (places n) λ i. b
+constantRow b n = wordWhere (places n) λ i. b
 
 -- `AcceptsAt` as a test
 abbrev pub acceptsRow : ℕ → Bool

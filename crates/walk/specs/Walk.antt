@@ -54,23 +54,23 @@ abbrev pub oneDropped : Tally → Tally
 oneDropped n = tally (n .tried) (suc (n .dropped))
 
 -- where a walk stands: what is kept, in kept order, and its tally
-pub data State (Mat : Type 0) : Type 0 where
-  going : List (Candidate Mat) → Tally → State Mat
-  ended : Ending → List (Candidate Mat) → Tally → State Mat
+pub data WalkState (Mat : Type 0) : Type 0 where
+  going : List (Candidate Mat) → Tally → WalkState Mat
+  ended : Ending → List (Candidate Mat) → Tally → WalkState Mat
 
-abbrev pub kept : {Mat : Type 0} → State Mat → List (Candidate Mat)
+abbrev pub kept : {Mat : Type 0} → WalkState Mat → List (Candidate Mat)
 kept (going k n) = k
 kept (ended e k n) = k
 
-abbrev pub counted : {Mat : Type 0} → State Mat → Tally
-counted (going k n) = n
-counted (ended e k n) = n
+abbrev pub walkTally : {Mat : Type 0} → WalkState Mat → Tally
+walkTally (going k n) = n
+walkTally (ended e k n) = n
 
-abbrev pub tried : {Mat : Type 0} → State Mat → ℕ
-tried st = counted st .tried
+abbrev pub tried : {Mat : Type 0} → WalkState Mat → ℕ
+tried st = walkTally st .tried
 
-abbrev pub dropped : {Mat : Type 0} → State Mat → ℕ
-dropped st = counted st .dropped
+abbrev pub dropped : {Mat : Type 0} → WalkState Mat → ℕ
+dropped st = walkTally st .dropped
 
 abbrev pub keepIf : {A : Type 0} → Bool → A → List A → List A
 keepIf true x xs = x ∷ xs
@@ -86,7 +86,7 @@ unfoldable pub leftSizes : ℕ → List ℕ
 leftSizes s = count 1 ((s + 1) / 2 - 1)
 
 -- "After the last, NONE."
-unfoldable pub finish : {Mat : Type 0} → State Mat → State Mat
+unfoldable pub finish : {Mat : Type 0} → WalkState Mat → WalkState Mat
 finish (going k n) = ended none k n
 finish (ended e k n) = ended e k n
 
@@ -151,7 +151,7 @@ module _ {L U B Mat : Type 0} (O : Offer L U B Mat) where
   -- "if its acceptance equals the marks, FOUND; else if its matrix equals a kept one in every row, dropped; else if C are kept, FULL at
   -- size s; else kept at the next place", and request E6's "Search answers gain the number dropped": the three tests' answers, the candidate, what
   -- is kept, the tally with the candidate in it
-  unfoldable pub judge : Bool → Bool → Bool → Candidate Mat → List (Candidate Mat) → Tally → State Mat
+  unfoldable pub judge : Bool → Bool → Bool → Candidate Mat → List (Candidate Mat) → Tally → WalkState Mat
   judge true d r c k n = ended (found (c .node)) k n
   judge false true r c k n = going k (oneDropped n)
   judge false false true c k n = ended (full (c .node .size)) k n
@@ -159,21 +159,21 @@ module _ {L U B Mat : Type 0} (O : Offer L U B Mat) where
 
   module _ (C : ℕ) where
     -- "Each candidate is counted, then: .."; after the end nothing changes
-    unfoldable pub consider : State Mat → Candidate Mat → State Mat
+    unfoldable pub consider : WalkState Mat → Candidate Mat → WalkState Mat
     consider (going k n) c = judge (O .agrees (c .matrix)) (known (c .matrix) k) (leb C (length k)) c k (oneTried n)
     consider (ended e k n) c = ended e k n
 
     -- the candidates of size s, one after another
-    unfoldable pub through : ℕ → State Mat → State Mat
+    unfoldable pub through : ℕ → WalkState Mat → WalkState Mat
     through s st = foldl consider st (layer s (kept st))
 
     -- the sizes from 1 to b
-    unfoldable pub after : ℕ → State Mat
+    unfoldable pub after : ℕ → WalkState Mat
     after zero = going [] (tally 0 0)
     after (suc b) = through (suc b) (after b)
 
     -- THE WALK, with bound b and room C
-    unfoldable pub walk : ℕ → State Mat
+    unfoldable pub walk : ℕ → WalkState Mat
     walk b = finish (after b)
 
     -- the candidates in the order in which the walk comes to them, up to size b; those behind the one that ends it are not tried

@@ -6,8 +6,8 @@ use Prim.Native.Nat.{ℕ, _+_, _≤_, _<_}
 use native.Mathlib.Nat.{eq-or-lt-of-le}
 use native.Mathlib.Decide.{decLt}
 use native.Mathlib.Omega.{arith}
-use Rattle.words.specs.Ltlf.{Reading, Or, And, Implies, StrongNext, WeakNext, Finally, Globally, Until, Release}
-use Rattle.words.specs.Masked.{Placed, WeakNextOn, FinallyOn, GloballyOn, UntilOn, ReleaseOn}
+use Rattle.words.specs.Ltlf.{Reading, Or, And, StrongNext, WeakNext, Finally, Globally, Until, Release}
+use Rattle.words.specs.Masked.{PlacesOn, WeakNextOn, FinallyOn, GloballyOn, UntilOn, ReleaseOn}
 use Rattle.words.specs.Word.{width, At, WfComputed, places, Means}
 use Rattle.words.specs.Promises.{NextBelow}
 use Rattle.words.proofs.At.{at-below, means}
@@ -27,17 +27,17 @@ module _ {n m : ℕ} (s : n ≤ width) (k : Mask n m) where
   off i h = k .holds i (at-below (k .wf) i h) .0 h
 
   -- the places over the mask are those of a formula's word
-  pub placed : (i : ℕ) → i < places n → Placed (At m) i
+  pub placed : (i : ℕ) → i < places n → PlacesOn (At m) i
   placed i h = elim (decLt i n) [ yes l ↦ inl (on i l) | no l ↦ inr (omega arith) ]
 
-  pub place : (i : ℕ) → Placed (At m) i → i < places n
+  pub place : (i : ℕ) → PlacesOn (At m) i → i < places n
   place i p = ⊎-elim (λ q. let l = off i q in omega arith) (λ e. omega arith) p
 
   -- true, `!`, `->`, `<->`: place by place
-  pub places-cut : {r : ℕ} {g : Reading} → Means width r (Placed (At m)) → ((i : ℕ) → g i) → Means n r g
+  pub places-cut : {r : ℕ} {g : Reading} → Means width r (PlacesOn (At m)) → ((i : ℕ) → g i) → Means n r g
   places-cut p all = cut s p (λ i t. (place i t, all i)) (λ i h q. placed i h)
 
-  pub masked-cut : {r : ℕ} (g : Reading) → Means width r (And (Placed (At m)) g) → Means n r g
+  pub masked-cut : {r : ℕ} (g : Reading) → Means width r (And (PlacesOn (At m)) g) → Means n r g
   masked-cut g p = cut s p (λ i t. (place i (t .0), t .1)) (λ i h q. (placed i h, q))
 
   pub weak-next-cut : (x : ℕ) {r : ℕ} → Means width r (WeakNextOn (At m) (At x)) → Means n r (WeakNext n (At x))

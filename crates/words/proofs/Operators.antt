@@ -6,8 +6,8 @@ use mathlib.Core.Logic.{_↔_, _⊎_, inl, inr, ⊎-elim}
 use Prim.Native.Nat.{ℕ, _+_, _-_, _/_, _^_, _≤_, _<_}
 use native.Mathlib.Omega.{arith}
 use lib.Bits.{bitAnd, bitOr, bitXor, xor-lt}
-use Rattle.words.specs.Ltlf.{Reading, Not, Or, And, Implies, Equiv, StrongNext, Finally, Globally, Until, Release}
-use Rattle.words.specs.Masked.{Placed, NotOn, FinallyOn, GloballyOn, UntilOn, ReleaseOn}
+use Rattle.words.specs.Ltlf.{Reading, Not, Or, And, Implies, Equiv, StrongNext, Finally, Until}
+use Rattle.words.specs.Masked.{PlacesOn, NotOn, FinallyOn, GloballyOn, UntilOn, ReleaseOn}
 use Rattle.words.specs.Word.{width, bit, At, Wf, Means}
 use Rattle.words.proofs.Bits.{bit-lt, bit-first, bit-shr, bit-xor}
 use Rattle.words.proofs.At.{at-or-not, find, at-or, or-left, or-right, at-and, and-at, at-not, at-below, wf-lt, lt-wf, means}
@@ -27,10 +27,10 @@ pub and-means : {x y : ℕ} → Wf width x → Wf width y → Means width (bitAn
 and-means {x} {y} w u = means (w .short) (λ i h. let p = at-and x y i h in (at-below w i (p .0), p)) (λ i h p. and-at x y i (p .0) (p .1))
 
 -- the places over a mask: `m | 1`
-pub places-means : {m : ℕ} → Wf width m → Means width (bitOr m 1) (Placed (At m))
+pub places-means : {m : ℕ} → Wf width m → Means width (bitOr m 1) (PlacesOn (At m))
 places-means {m} w = means (w .short) (λ i h. to i (at-or m 1 i h)) (λ i h p. ⊎-elim (or-left m 1 i) (λ e. or-right m 1 i (subst (At 1) (sym e) (bit-first 1))) p)
   where
-    to : (i : ℕ) → At m i ⊎ At 1 i → (i < width) × Placed (At m) i
+    to : (i : ℕ) → At m i ⊎ At 1 i → (i < width) × PlacesOn (At m) i
     to i (inl p) = (at-below w i p, inl p)
     to i (inr p) = let l = at-below (lt-wf {n = 1} {x = 1} (omega arith) (omega arith)) i p in (omega arith, inr (omega arith))
 
@@ -193,7 +193,7 @@ until-means {x} {y} {m} w u v =
 
 module _ (x m : ℕ) {a : ℕ} (inv : Means width a (NotOn (At m) (At x))) where
   -- a place that the negation leaves out is one where x holds
-  left-out : (i : ℕ) → i < width → (At a i → ⊥) → Placed (At m) i → At x i
+  left-out : (i : ℕ) → i < width → (At a i → ⊥) → PlacesOn (At m) i → At x i
   left-out i h p q = ⊎-elim (λ t. t) (λ t. absurd (p (inv .holds i h .1 (q, t)))) (at-or-not x i)
 
   pub globally-means : {b r : ℕ} → Means width b (FinallyOn (At m) (At a)) → Means width r (NotOn (At m) (At b))
@@ -217,7 +217,7 @@ release-means x y m {a} {b} {u} {r} na nb f g = record { wf = g .wf; holds = λ 
         let p = g .holds i h .0 t in
         (p .0, λ j l k. ⊎-elim (λ e. ⊎-elim (λ q. inr (held (p .1) j l k q e)) (λ q. inl (λ n. absurd (q n))) (at-or-not m j)) (λ e. inl (λ q. left-out y m nb j k e (inl q))) (at-or-not b j))
       where
-        held : (At u i → ⊥) → (j : ℕ) → i ≤ j → j < width → At m j → At b j → (k : ℕ) × (i ≤ k) × (k < j) × Implies (Placed (At m)) (At x) k
+        held : (At u i → ⊥) → (j : ℕ) → i ≤ j → j < width → At m j → At b j → (k : ℕ) × (i ≤ k) × (k < j) × Implies (PlacesOn (At m)) (At x) k
         held e j l k o q = ⊎-elim (λ s. (s .0, s .1, omega arith, left-out x m na (s .0) (omega arith) (s .3)))
             (λ s. absurd (e (f .holds i h .1 (j, l, k, (o, q), λ n c d. ⊎-elim (λ p. p) (λ p. absurd (s n c (omega arith) p)) (at-or-not a n)))))
             (find (Not (At a)) (λ n. ⊎-elim (λ p. inr (λ e. e p)) (λ p. inl p) (at-or-not a n)) (j - i) i)

@@ -2,7 +2,7 @@
 // session ends are handed the mask of its snapshots. Each contract is a reading at all 64 positions, for any words and any mask. A formula's word has
 // the first place whatever the mask, so that `!`, `->`, `<->`, `X`, `G` and `R` reach it on an empty one; `F` and `U` look at snapshots alone.
 ghost use Rattle.words.specs.Ltlf.{Or, And, StrongNext};
-ghost use Rattle.words.specs.Masked.{Placed, NotOn, ImpliesOn, EquivOn, WeakNextOn, FinallyOn, GloballyOn, UntilOn, ReleaseOn};
+ghost use Rattle.words.specs.Masked.{PlacesOn, NotOn, ImpliesOn, EquivOn, WeakNextOn, FinallyOn, GloballyOn, UntilOn, ReleaseOn};
 ghost use Rattle.words.specs.Word.{width, At, Means};
 
 pub fn or(x: u64, y: u64) -> u64
@@ -19,7 +19,7 @@ pub fn and(x: u64, y: u64) -> u64
 
 // The places of a formula's word over the snapshots of a mask.
 pub fn places(mask: u64) -> u64
-    ensures { λ r. ⌜ Means width r (Placed (At mask)) ⌝ }
+    ensures { λ r. ⌜ Means width r (PlacesOn (At mask)) ⌝ }
 {
     mask | 1
 }

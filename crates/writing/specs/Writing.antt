@@ -30,3 +30,7 @@ mostDigits = 20
 
 abbrev pub decimal : ℕ → List ℕ
 decimal n = digits mostDigits n
+
+-- a line's end: byte 10
+abbrev pub newline : List ℕ
+newline = 10 ∷ []

@@ -1,9 +1,9 @@
--- `judge` meets its contract: the table's tests are the walk's.
+-- `judge` meets its contract: what its callees answered, in their order.
 -- Assumes nothing.
 use mathlib.Core.Path.{refl, sym, _∙_}
 use native.Mathlib.Omega.{arith}
 use borrow.Author.Needs.{needs}
-use Rattle.candidate.proofs.Judging.{repeats, fresh, out-of-room, in-room, does-found, does-dropped, does-full, does-kept}
+use Rattle.candidate.proofs.Judging.{repeats, fresh, out-of-room, in-room}
 use Rattle.candidate.proofs.judge.Statement.{statement}
 use Rattle.candidate.proofs.judge.Tie as tie
 
@@ -11,11 +11,7 @@ returns : tie.Need-returns
 returns c =
     let c₁ = c .before in
     let c₅ = c₁ .before .before .before .before in
-    record {
-      placed = refl;
-      runs = λ bound constants lengths unary binary t₀ k x o.
-          does-found o (record { filled = c₅ .rows-of .result; answer = c₅ .rows-of .ensures }) (sym (c .if1 .taken) ∙ c₁ .agrees .ensures);
-    }
+    record { filled = c₅ .rows-of .result; made = c₅ .rows-of .ensures; tests = (sym (c₁ .agrees .ensures) ∙ c .if1 .taken, refl) }
 
 returns-2 : tie.Need-returns-2
 returns-2 c =
@@ -25,10 +21,9 @@ returns-2 c =
     let c₆ = c₅ .before in
     let c₁₀ = c₆ .before .before .before .before in
     record {
-      placed = refl;
-      runs = λ bound constants lengths unary binary t₀ k x o.
-          does-dropped o (record { filled = c₁₀ .rows-of .result; answer = c₁₀ .rows-of .ensures }) (sym (c₅ .if1 .left) ∙ c₆ .agrees .ensures)
-          (repeats (c₂ .known-at .result) (c₁ .match .keys2) (c₂ .known-at .ensures));
+      filled = c₁₀ .rows-of .result;
+      made = c₁₀ .rows-of .ensures;
+      tests = (sym (c₆ .agrees .ensures) ∙ c₅ .if1 .left, repeats (c₂ .known-at .result) (c₁ .match .keys2) (c₂ .known-at .ensures), refl);
     }
 
 returns-3 : tie.Need-returns-3
@@ -40,10 +35,14 @@ returns-3 c =
     let c₈ = c₇ .before in
     let c₁₂ = c₈ .before .before .before .before in
     record {
-      placed = refl;
-      runs = λ bound constants lengths unary binary t₀ k x o.
-          does-full o (record { filled = c₁₂ .rows-of .result; answer = c₁₂ .rows-of .ensures }) (sym (c₇ .if1 .left) ∙ c₈ .agrees .ensures)
-          (fresh (c₄ .known-at .result) (c₃ .match .keys1) (c₄ .known-at .ensures)) (out-of-room _ _ (o .passes .room-in .1) _ (c .if2 .taken) (c₁ .no-place .ensures));
+      filled = c₁₂ .rows-of .result;
+      made = c₁₂ .rows-of .ensures;
+      tests = (
+        sym (c₈ .agrees .ensures) ∙ c₇ .if1 .left,
+        fresh (c₄ .known-at .result) (c₃ .match .keys1) (c₄ .known-at .ensures),
+        out-of-room _ _ _ (c .if2 .taken) (c₁ .no-place .ensures),
+        refl,
+      );
     }
 
 cast-t31 : tie.Need-cast-t31
@@ -65,11 +64,15 @@ returns-4 c =
     let c₂₉ = c₂₅ .before .before .before .before in
     let w = in-room _ _ _ (c₁₇ .if2 .left) (c₁₈ .no-place .ensures) in
     record {
-      placed = w;
-      runs = λ bound constants lengths unary binary t₀ k x o.
-          does-kept o (record { filled = c₂₉ .rows-of .result; answer = c₂₉ .rows-of .ensures }) (sym (c₂₄ .if1 .left) ∙ c₂₅ .agrees .ensures)
-          (fresh (c₂₁ .known-at .result) (c₂₀ .match .keys1) (c₂₁ .known-at .ensures)) (w .0)
-          (record { done = c₁₀ .keep .result; answer = c₁₀ .keep .ensures });
+      filled = c₂₉ .rows-of .result;
+      made = c₂₉ .rows-of .ensures;
+      tests = (
+        sym (c₂₅ .agrees .ensures) ∙ c₂₄ .if1 .left,
+        fresh (c₂₁ .known-at .result) (c₂₀ .match .keys1) (c₂₁ .known-at .ensures),
+        w .0,
+        w .1,
+        (c₁₀ .keep .result, c₁₀ .keep .ensures),
+      );
     }
 
 pub judge-spec : {M : Type 1} → statement M

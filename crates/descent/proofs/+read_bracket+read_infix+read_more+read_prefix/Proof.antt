@@ -24,7 +24,7 @@ use Rattle.descent.proofs.+read_bracket+read_infix+read_more+read_prefi
 use Rattle.descent.proofs.read_prefix.Reads as read-prefix
 use Rattle.descent.proofs.read_prefix.Kinds as read-prefix-kinds
 use Rattle.descent.proofs.+read_bracket+read_infix+read_more+read_prefix.Lts-read_prefix as read-prefix-lts
-use Rattle.tokens.proofs.front.front.Reads as front-reads
+use Rattle.operand.proofs.front.Reads as front-reads
 use Rattle.descent.proofs.leaves.leaf_of.Reads as leaf-of-reads
 use Rattle.descent.proofs.nodes.put.Reads as put-reads
 use Rattle.descent.proofs.nodes.put_one.Reads as put-one-reads

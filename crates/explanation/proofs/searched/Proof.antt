@@ -21,82 +21,68 @@ roomy = record {
 }
 
 array-share-prefix-codes : tie.Need-array-share-prefix-codes
-array-share-prefix-codes c = codes-in (this (c .before .before .before .before .before .before .before .before .before .before .before .before .before .before .before
-    .before .before .before .before .before .before .args .file .now) _ (c .before .before .before .before .before .before .before .before .before .before .before
-    .before .before .before .before .before .before .before .before .before .before .pre .0 .0)
-    (c .before .before .before .before .before .before .before .before .before .before .before .before .before .before .before .before .before .before .before .before
-    .before .pre .0 .1) (c .before .before .before .before .before .before .before .before .before .before .before .before .before .before .before .before .before
-    .before .before .before .before .pre .0 .2) _ roomy _ (c .before .before .before .before .before .before .before .before .search .result)
-    (c .before .before .before .before .before .before .before .before .search .ensures) (c .before .answer .given .1))
+array-share-prefix-codes c =
+    let c₁ = c .before in
+    let c₈ = c₁ .before .before .before .before .before .before .before in
+    let c₂₁ = c₈ .before .before .before .before .before .before .before .before .before .before .before .before .before in
+    codes-in (this (c₂₁ .args .file .now) _ (c₂₁ .pre .0 .0) (c₂₁ .pre .0 .1) (c₂₁ .pre .0 .2) _ roomy _ (c₈ .search .result) (c₈ .search .ensures)
+    (c₁ .answer .given .1))
 
 slice-aggregate-reported : tie.Need-slice-aggregate-reported
-slice-aggregate-reported c = codes-part (this (c .before .before .before .before .before .before .before .before .before .before .before .before .before .before .before
-    .before .before .before .before .before .before .before .args .file .now) _ (c .before .before .before .before .before .before .before .before .before .before
-    .before .before .before .before .before .before .before .before .before .before .before .before .pre .0 .0)
-    (c .before .before .before .before .before .before .before .before .before .before .before .before .before .before .before .before .before .before .before .before
-    .before .before .pre .0 .1) (c .before .before .before .before .before .before .before .before .before .before .before .before .before .before .before .before
-    .before .before .before .before .before .before .pre .0 .2) _ roomy _ (c .before .before .before .before .before .before .before .before .before .search .result)
-    (c .before .before .before .before .before .before .before .before .before .search .ensures) (c .before .before .answer .given .1))
+slice-aggregate-reported c =
+    let c₂ = c .before .before in
+    let c₉ = c₂ .before .before .before .before .before .before .before in
+    let c₂₂ = c₉ .before .before .before .before .before .before .before .before .before .before .before .before .before in
+    codes-part (this (c₂₂ .args .file .now) _ (c₂₂ .pre .0 .0) (c₂₂ .pre .0 .1) (c₂₂ .pre .0 .2) _ roomy _ (c₉ .search .result) (c₉ .search .ensures)
+    (c₂ .answer .given .1))
 
 array-share-prefix-lefts : tie.Need-array-share-prefix-lefts
-array-share-prefix-lefts c = lefts-in (this (c .before .before .before .before .before .before .before .before .before .before .before .before .before .before .before
-    .before .before .before .before .before .before .before .args .file .now) _ (c .before .before .before .before .before .before .before .before .before .before
-    .before .before .before .before .before .before .before .before .before .before .before .before .pre .0 .0)
-    (c .before .before .before .before .before .before .before .before .before .before .before .before .before .before .before .before .before .before .before .before
-    .before .before .pre .0 .1) (c .before .before .before .before .before .before .before .before .before .before .before .before .before .before .before .before
-    .before .before .before .before .before .before .pre .0 .2) _ roomy _ (c .before .before .before .before .before .before .before .before .before .search .result)
-    (c .before .before .before .before .before .before .before .before .before .search .ensures) (c .before .before .answer .given .1))
+array-share-prefix-lefts c =
+    let c₂ = c .before .before in
+    let c₉ = c₂ .before .before .before .before .before .before .before in
+    let c₂₂ = c₉ .before .before .before .before .before .before .before .before .before .before .before .before .before in
+    lefts-in (this (c₂₂ .args .file .now) _ (c₂₂ .pre .0 .0) (c₂₂ .pre .0 .1) (c₂₂ .pre .0 .2) _ roomy _ (c₉ .search .result) (c₉ .search .ensures)
+    (c₂ .answer .given .1))
 
 slice-aggregate-reported-2 : tie.Need-slice-aggregate-reported-2
-slice-aggregate-reported-2 c = lefts-part (this (c .before .before .before .before .before .before .before .before .before .before .before .before .before .before
-    .before .before .before .before .before .before .before .before .before .args .file .now) _
-    (c .before .before .before .before .before .before .before .before .before .before .before .before .before .before .before .before .before .before .before .before
-    .before .before .before .pre .0 .0) (c .before .before .before .before .before .before .before .before .before .before .before .before .before .before .before
-    .before .before .before .before .before .before .before .before .pre .0 .1) (c .before .before .before .before .before .before .before .before .before .before
-    .before .before .before .before .before .before .before .before .before .before .before .before .before .pre .0 .2) _ roomy _
-    (c .before .before .before .before .before .before .before .before .before .before .search .result)
-    (c .before .before .before .before .before .before .before .before .before .before .search .ensures) (c .before .before .before .answer .given .1))
+slice-aggregate-reported-2 c =
+    let c₃ = c .before .before .before in
+    let c₁₀ = c₃ .before .before .before .before .before .before .before in
+    let c₂₃ = c₁₀ .before .before .before .before .before .before .before .before .before .before .before .before .before in
+    lefts-part (this (c₂₃ .args .file .now) _ (c₂₃ .pre .0 .0) (c₂₃ .pre .0 .1) (c₂₃ .pre .0 .2) _ roomy _ (c₁₀ .search .result)
+    (c₁₀ .search .ensures) (c₃ .answer .given .1))
 
 array-share-prefix-rights : tie.Need-array-share-prefix-rights
-array-share-prefix-rights c = rights-in (this (c .before .before .before .before .before .before .before .before .before .before .before .before .before .before .before
-    .before .before .before .before .before .before .before .before .args .file .now) _
-    (c .before .before .before .before .before .before .before .before .before .before .before .before .before .before .before .before .before .before .before .before
-    .before .before .before .pre .0 .0) (c .before .before .before .before .before .before .before .before .before .before .before .before .before .before .before
-    .before .before .before .before .before .before .before .before .pre .0 .1) (c .before .before .before .before .before .before .before .before .before .before
-    .before .before .before .before .before .before .before .before .before .before .before .before .before .pre .0 .2) _ roomy _
-    (c .before .before .before .before .before .before .before .before .before .before .search .result)
-    (c .before .before .before .before .before .before .before .before .before .before .search .ensures) (c .before .before .before .answer .given .1))
+array-share-prefix-rights c =
+    let c₃ = c .before .before .before in
+    let c₁₀ = c₃ .before .before .before .before .before .before .before in
+    let c₂₃ = c₁₀ .before .before .before .before .before .before .before .before .before .before .before .before .before in
+    rights-in (this (c₂₃ .args .file .now) _ (c₂₃ .pre .0 .0) (c₂₃ .pre .0 .1) (c₂₃ .pre .0 .2) _ roomy _ (c₁₀ .search .result) (c₁₀ .search .ensures)
+    (c₃ .answer .given .1))
 
 slice-aggregate-reported-3 : tie.Need-slice-aggregate-reported-3
-slice-aggregate-reported-3 c = rights-part (this (c .before .before .before .before .before .before .before .before .before .before .before .before .before .before
-    .before .before .before .before .before .before .before .before .before .before .args .file .now) _
-    (c .before .before .before .before .before .before .before .before .before .before .before .before .before .before .before .before .before .before .before .before
-    .before .before .before .before .pre .0 .0) (c .before .before .before .before .before .before .before .before .before .before .before .before .before .before
-    .before .before .before .before .before .before .before .before .before .before .pre .0 .1)
-    (c .before .before .before .before .before .before .before .before .before .before .before .before .before .before .before .before .before .before .before .before
-    .before .before .before .before .pre .0 .2) _ roomy _ (c .before .before .before .before .before .before .before .before .before .before .before .search .result)
-    (c .before .before .before .before .before .before .before .before .before .before .before .search .ensures) (c .before .before .before .before .answer .given .1))
+slice-aggregate-reported-3 c =
+    let c₄ = c .before .before .before .before in
+    let c₁₁ = c₄ .before .before .before .before .before .before .before in
+    let c₂₄ = c₁₁ .before .before .before .before .before .before .before .before .before .before .before .before .before in
+    rights-part (this (c₂₄ .args .file .now) _ (c₂₄ .pre .0 .0) (c₂₄ .pre .0 .1) (c₂₄ .pre .0 .2) _ roomy _ (c₁₁ .search .result)
+    (c₁₁ .search .ensures) (c₄ .answer .given .1))
 
 array-share-prefix-sizes : tie.Need-array-share-prefix-sizes
-array-share-prefix-sizes c = sizes-in (this (c .before .before .before .before .before .before .before .before .before .before .before .before .before .before .before
-    .before .before .before .before .before .before .before .before .before .args .file .now) _
-    (c .before .before .before .before .before .before .before .before .before .before .before .before .before .before .before .before .before .before .before .before
-    .before .before .before .before .pre .0 .0) (c .before .before .before .before .before .before .before .before .before .before .before .before .before .before
-    .before .before .before .before .before .before .before .before .before .before .pre .0 .1)
-    (c .before .before .before .before .before .before .before .before .before .before .before .before .before .before .before .before .before .before .before .before
-    .before .before .before .before .pre .0 .2) _ roomy _ (c .before .before .before .before .before .before .before .before .before .before .before .search .result)
-    (c .before .before .before .before .before .before .before .before .before .before .before .search .ensures) (c .before .before .before .before .answer .given .1))
+array-share-prefix-sizes c =
+    let c₄ = c .before .before .before .before in
+    let c₁₁ = c₄ .before .before .before .before .before .before .before in
+    let c₂₄ = c₁₁ .before .before .before .before .before .before .before .before .before .before .before .before .before in
+    sizes-in (this (c₂₄ .args .file .now) _ (c₂₄ .pre .0 .0) (c₂₄ .pre .0 .1) (c₂₄ .pre .0 .2) _ roomy _ (c₁₁ .search .result) (c₁₁ .search .ensures)
+    (c₄ .answer .given .1))
 
 slice-aggregate-reported-4 : tie.Need-slice-aggregate-reported-4
-slice-aggregate-reported-4 c = sizes-part (this (c .before .before .before .before .before .before .before .before .before .before .before .before .before .before
-    .before .before .before .before .before .before .before .before .before .before .before .args .file .now) _
-    (c .before .before .before .before .before .before .before .before .before .before .before .before .before .before .before .before .before .before .before .before
-    .before .before .before .before .before .pre .0 .0) (c .before .before .before .before .before .before .before .before .before .before .before .before .before
-    .before .before .before .before .before .before .before .before .before .before .before .before .pre .0 .1)
-    (c .before .before .before .before .before .before .before .before .before .before .before .before .before .before .before .before .before .before .before .before
-    .before .before .before .before .before .pre .0 .2) _ roomy _ (c .before .before .before .before .before .before .before .before .before .before .before
-    .before .search .result) (c .before .before .before .before .before .before .before .before .before .before .before .before .search .ensures)
-    (c .before .before .before .before .before .answer .given .1))
+slice-aggregate-reported-4 c =
+    let c₅ = c .before .before .before .before .before in
+    let c₁₂ = c₅ .before .before .before .before .before .before .before in
+    let c₂₅ = c₁₂ .before .before .before .before .before .before .before .before .before .before .before .before .before in
+    sizes-part (this (c₂₅ .args .file .now) _ (c₂₅ .pre .0 .0) (c₂₅ .pre .0 .1) (c₂₅ .pre .0 .2) _ roomy _ (c₁₂ .search .result)
+    (c₁₂ .search .ensures) (c₅ .answer .given .1))
 
 reported-requires : tie.Need-reported-requires
 reported-requires c κs = (
@@ -114,50 +100,40 @@ reported-requires c κs = (
 )
 
 returns : tie.Need-returns
-returns c = found-stands (c .before .before .before .before .before .before .before .before .before .before .before .before .before .before .before .before .before
-    .before .before .before .before .before .before .before .before .before .before .before .before .args .file .now) _
-    (c .before .before .before .before .before .before .before .before .before .before .before .before .before .before .before .before .before .before .before .before
-    .before .before .before .before .before .before .before .before .before .pre .0 .0)
-    (c .before .before .before .before .before .before .before .before .before .before .before .before .before .before .before .before .before .before .before .before
-    .before .before .before .before .before .before .before .before .before .pre .0 .1)
-    (c .before .before .before .before .before .before .before .before .before .before .before .before .before .before .before .before .before .before .before .before
-    .before .before .before .before .before .before .before .before .before .pre .0 .2) _ roomy _
-    (c .before .before .before .before .before .before .before .before .before .before .before .before .before .before .before .before .search .result)
-    (c .before .before .before .before .before .before .before .before .before .before .before .before .before .before .before .before .search .ensures)
-    (c .before .before .before .before .before .before .before .before .before .answer .given .1) (c .before .before .reported .ensures)
+returns c =
+    let c₂ = c .before .before in
+    let c₉ = c₂ .before .before .before .before .before .before .before in
+    let c₁₆ = c₉ .before .before .before .before .before .before .before in
+    let c₂₉ = c₁₆ .before .before .before .before .before .before .before .before .before .before .before .before .before in
+    found-stands (c₂₉ .args .file .now) _ (c₂₉ .pre .0 .0) (c₂₉ .pre .0 .1) (c₂₉ .pre .0 .2) _ roomy _ (c₁₆ .search .result) (c₁₆ .search .ensures)
+    (c₉ .answer .given .1) (c₂ .reported .ensures)
 
 returns-2 : tie.Need-returns-2
-returns-2 c = none-stands (c .before .before .before .before .before .before .before .before .before .before .before .before .before .before .before .before .before
-    .before .before .before .before .before .before .before .args .file .now) _ (c .before .before .before .before .before .before .before .before .before .before
-    .before .before .before .before .before .before .before .before .before .before .before .before .before .before .pre .0 .0)
-    (c .before .before .before .before .before .before .before .before .before .before .before .before .before .before .before .before .before .before .before .before
-    .before .before .before .before .pre .0 .1) (c .before .before .before .before .before .before .before .before .before .before .before .before .before .before
-    .before .before .before .before .before .before .before .before .before .before .pre .0 .2) _ roomy _
-    (c .before .before .before .before .before .before .before .before .before .before .before .search .result)
-    (c .before .before .before .before .before .before .before .before .before .before .before .search .ensures) (c .before .before .before .before .enum-told .given .1)
-    (c .before .before .bench .ensures)
+returns-2 c =
+    let c₂ = c .before .before in
+    let c₄ = c₂ .before .before in
+    let c₁₁ = c₄ .before .before .before .before .before .before .before in
+    let c₂₄ = c₁₁ .before .before .before .before .before .before .before .before .before .before .before .before .before in
+    none-stands (c₂₄ .args .file .now) _ (c₂₄ .pre .0 .0) (c₂₄ .pre .0 .1) (c₂₄ .pre .0 .2) _ roomy _ (c₁₁ .search .result) (c₁₁ .search .ensures)
+    (c₄ .enum-told .given .1) (c₂ .bench .ensures)
 
 returns-3 : tie.Need-returns-3
-returns-3 c = full-stands (c .before .before .before .before .before .before .before .before .before .before .before .before .before .before .before .before .before
-    .before .before .before .before .before .before .before .args .file .now) _ (c .before .before .before .before .before .before .before .before .before .before
-    .before .before .before .before .before .before .before .before .before .before .before .before .before .before .pre .0 .0)
-    (c .before .before .before .before .before .before .before .before .before .before .before .before .before .before .before .before .before .before .before .before
-    .before .before .before .before .pre .0 .1) (c .before .before .before .before .before .before .before .before .before .before .before .before .before .before
-    .before .before .before .before .before .before .before .before .before .before .pre .0 .2) _ roomy _
-    (c .before .before .before .before .before .before .before .before .before .before .before .search .result)
-    (c .before .before .before .before .before .before .before .before .before .before .before .search .ensures) (c .before .before .before .before .enum-told2 .given .1)
-    (c .before .before .bench2 .ensures)
+returns-3 c =
+    let c₂ = c .before .before in
+    let c₄ = c₂ .before .before in
+    let c₁₁ = c₄ .before .before .before .before .before .before .before in
+    let c₂₄ = c₁₁ .before .before .before .before .before .before .before .before .before .before .before .before .before in
+    full-stands (c₂₄ .args .file .now) _ (c₂₄ .pre .0 .0) (c₂₄ .pre .0 .1) (c₂₄ .pre .0 .2) _ roomy _ (c₁₁ .search .result) (c₁₁ .search .ensures)
+    (c₄ .enum-told2 .given .1) (c₂ .bench2 .ensures)
 
 returns-4 : tie.Need-returns-4
-returns-4 c = refused-stands (c .before .before .before .before .before .before .before .before .before .before .before .before .before .before .before .before .before
-    .before .before .before .before .before .before .before .args .file .now) _ (c .before .before .before .before .before .before .before .before .before .before
-    .before .before .before .before .before .before .before .before .before .before .before .before .before .before .pre .0 .0)
-    (c .before .before .before .before .before .before .before .before .before .before .before .before .before .before .before .before .before .before .before .before
-    .before .before .before .before .pre .0 .1) (c .before .before .before .before .before .before .before .before .before .before .before .before .before .before
-    .before .before .before .before .before .before .before .before .before .before .pre .0 .2) _ roomy _
-    (c .before .before .before .before .before .before .before .before .before .before .before .search .result)
-    (c .before .before .before .before .before .before .before .before .before .before .before .search .ensures) (c .before .before .before .before .enum-told3 .given .1)
-    (c .before .before .bench3 .ensures)
+returns-4 c =
+    let c₂ = c .before .before in
+    let c₄ = c₂ .before .before in
+    let c₁₁ = c₄ .before .before .before .before .before .before .before in
+    let c₂₄ = c₁₁ .before .before .before .before .before .before .before .before .before .before .before .before .before in
+    refused-stands (c₂₄ .args .file .now) _ (c₂₄ .pre .0 .0) (c₂₄ .pre .0 .1) (c₂₄ .pre .0 .2) _ roomy _ (c₁₁ .search .result) (c₁₁ .search .ensures)
+    (c₄ .enum-told3 .given .1) (c₂ .bench3 .ensures)
 
 pub searched-spec : {M : Type 1} → statement M
 searched-spec = tie.close (tie.spec

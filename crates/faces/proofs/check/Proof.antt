@@ -1,4 +1,4 @@
--- `check` meets its contract: a walk of its code by hand, since it has a slice of structs. The nodes are copied, and `columns::check` answers for them.
+-- `check` meets its contract: a walk of its code by hand, since it has a slice of structs. The nodes are copied, and `nodes_in::check` answers for them.
 -- Assumes nothing.
 use mathlib.Core.Path.{refl}
 use mathlib.Core.List.{List, [], _∷_}
@@ -170,7 +170,7 @@ module _ {M : Type 1} (𝓤 : URA M) (H : Heap 𝓤) (A : Atoms 𝓤) (W : Given
   copied-said : (ys : List Node) → ent 𝓤 (ensured 𝓤 H A copied.ended (copied.clauses 𝓤 H A mem run) (κ₃, tt) args-c tt ys) (fact 𝓤 (Copied xs₅ ys))
   copied-said ys = exE 𝓤 _ (λ ws. snd∗ 𝓤 (sem 𝓤 H A (lasts copied.ended (κ₃, tt) args-c ws)) (fact 𝓤 (Copied xs₅ ys)))
 
-  -- the call of `columns::check`
+  -- the call of `nodes_in::check`
   abbrev Args-w : Type 0
   Args-w = ℕ × (ℕ × (RefT (List ℕ) × (RefT (List ℕ) × (RefT (List ℕ) × (List Node × (ℕ × (Node × (Unit {0}))))))))
 

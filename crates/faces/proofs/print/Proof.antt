@@ -1,4 +1,4 @@
--- `print` meets its contract: a walk of its code by hand, since it has a slice of structs. The nodes are copied, and `columns::print` is handed the room for good.
+-- `print` meets its contract: a walk of its code by hand, since it has a slice of structs. The nodes are copied, and `nodes_in::print` is handed the room for good.
 -- Assumes nothing.
 use mathlib.Core.Path.{_≡_, refl}
 use mathlib.Core.List.{List, [], _∷_}
@@ -141,7 +141,7 @@ module _ {M : Type 1} (𝓤 : URA M) (H : Heap 𝓤) (A : Atoms 𝓤) (W : Given
   copied-said : (ys : List Node) → ent 𝓤 (ensured 𝓤 H A copied.ended (copied.clauses 𝓤 H A mem run) (κ₁, tt) args-c tt ys) (fact 𝓤 (Copied xs₁ ys))
   copied-said ys = exE 𝓤 _ (λ ws. snd∗ 𝓤 (sem 𝓤 H A (lasts copied.ended (κ₁, tt) args-c ws)) (fact 𝓤 (Copied xs₁ ys)))
 
-  -- the call of `columns::print`
+  -- the call of `nodes_in::print`
   abbrev Args-w : Type 0
   Args-w = RefT (List ℕ) × (List Node × (ℕ × (Node × (RefT (List ℕ) × (Unit {0})))))
 

@@ -1,4 +1,4 @@
--- `search` meets its contract: a walk of its code by hand, since it has a slice of structs. `columns::search` is handed the matrices for good, and `put_back`
+-- `search` meets its contract: a walk of its code by hand, since it has a slice of structs. `nodes_out::search` is handed the matrices for good, and `put_back`
 -- the nodes. The walk is over any types of the answer and of what the search leaves: these are large, and nothing of them is needed but that values have them.
 -- Assumes nothing.
 use mathlib.Core.Path.{_≡_, refl}
@@ -49,7 +49,7 @@ use Rattle.walk.specs.Input.{inputOf}
 use Rattle.search.proofs.SearchAnswer as Said-type
 use Rattle.search.proofs.SearchAnswer.Laws as Said-laws
 use Rattle.nodes_out.specs.declared.Done.{Done}
-use Rattle.nodes_out.specs.Columns.{columns}
+use Rattle.nodes_out.specs.Columns.{nodeCols}
 use Rattle.nodes_out.specs.Arrays.{putOver, Works}
 use Rattle.nodes_out.proofs.Done as D
 use Rattle.nodes_out.proofs.Done.Laws as D′
@@ -230,7 +230,7 @@ module _ {M : Type 1} (𝓤 : URA M) (H : Heap 𝓤) (A : Atoms 𝓤) (W : Given
   abbrev Post : Val → SProp 𝓤
   Post = walkOf 𝓤 H A this.ended stayed (this.clauses 𝓤 H A mem run) .post (((κ₀, (κ₁, (κ₂, (κ₃, (κ₄, (κ₅, (κ₆, tt))))))), (q₀, (q₁, (q₂, (q₃, (q₄, (q₅, (q₆, tt))))))), tt, a, at), tt)
 
-  -- the call of `columns::search`
+  -- the call of `nodes_out::search`
   abbrev Args-w : Type 0
   Args-w = ℕ × (ℕ × (ℕ × (ℕ × (ℕ × (RefT (List ℕ) × (RefT (List ℕ) × (RefT (List ℕ) × (RefT (List ℕ) × (RefT (List ℕ) × (ℕ × (RefT (List ℕ) × (Unit {0}))))))))))))
 
@@ -292,7 +292,7 @@ module _ {M : Type 1} (𝓤 : URA M) (H : Heap 𝓤) (A : Atoms 𝓤) (W : Given
       (finally u64 γ₁₁ zs) ∷ ‵ (Said-type.the-row .own r (w ∷ [])) ∷ []
 
   exits : n₀ < 2 ^ 64 → n₁ < 2 ^ 64 → n₂ < 2 ^ 64 → n₃ < 2 ^ 64 → n₄ < 2 ^ 8 → (r : SearchAnswer) (w : Val) (ys : List Node) (zs : List ℕ) → Searched
-      (inputOf n₀ n₁ n₂ n₃ n₄ xs₅ xs₆ xs₇ xs₈ xs₉) (columns xs₁₀ xs₁₁) r (columns ys zs) → length ys ≡ length xs₁₀ → length zs ≡ length xs₁₁ → ent 𝓤
+      (inputOf n₀ n₁ n₂ n₃ n₄ xs₅ xs₆ xs₇ xs₈ xs₉) (nodeCols xs₁₀ xs₁₁) r (nodeCols ys zs) → length ys ≡ length xs₁₀ → length zs ≡ length xs₁₁ → ent 𝓤
       (⋆ 𝓤 H A (Last r w ys zs)) (Post w)
   exits f₀ f₁ f₂ f₃ f₄ r w ys zs d m l =
       qed W (Last r w ys zs) ∵ suffices ! _ (ends-at 𝓤 H A this.ended stayed (this.clauses 𝓤 H A mem run) W

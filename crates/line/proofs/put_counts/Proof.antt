@@ -1,8 +1,8 @@
 -- `put_counts` meets its contract: three numbers with their words, and the line's end.
 -- Assumes nothing.
 use Rattle.writing.proofs.Writing.{wrote-both}
-use Rattle.writing.specs.Writing.{decimal}
-use Rattle.line.specs.Line.{triedWord, keptWord, droppedWord, newline}
+use Rattle.writing.specs.Writing.{decimal, newline}
+use Rattle.line.specs.Line.{triedWord, keptWord, droppedWord}
 use mathlib.Core.List.{_++_}
 use borrow.Author.Needs.{needs}
 use Rattle.line.proofs.put_counts.Statement.{statement}

@@ -3,8 +3,8 @@
 use borrow.Author.Needs.{needs}
 use mathlib.Core.List.{_++_}
 use Rattle.writing.proofs.Writing.{wrote-both}
-use Rattle.writing.specs.Writing.{decimal}
-use Rattle.line.specs.Line.{refusedWord, newline}
+use Rattle.writing.specs.Writing.{decimal, newline}
+use Rattle.line.specs.Line.{refusedWord}
 use Rattle.line.specs.Line.{atWord}
 use Rattle.line.proofs.refused_at.Statement.{statement}
 use Rattle.line.proofs.refused_at.Tie as tie

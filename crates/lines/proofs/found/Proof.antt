@@ -24,23 +24,19 @@ slice-aggregate-put c = let a = c .before .before .before .before .before .befor
     (c .before .before .before .before .before .before .before .printed .given .1) in f .long ∙ sym (ap length (f .is))
 
 returns : tie.Need-returns
-returns c = let a = c .before .before .before .before .before .before .before .before .before .before .before .before .before .before .before .before .before .before
-    .before .before .before .before .before .before .before .before .args in λ names next e.
-    found-written (a .names .now) (nodes (a .codes .now) (a .lefts .now) (a .rights .now) (a .sizes .now)) (nodeOf (a .root))
-    (c .before .before .before .before .before .before .before .before .before .before .before .before .before .before .before .before .before .before .before
-    .before .before .before .before .before .before .before .pre .0) _ refl (c .before .before .before .before .before .before .before .before .before .before
-    .before .before .before .before .before .before .before .before .print .result) _
-    (c .before .before .before .before .before .before .before .before .before .before .before .before .before .before .before .before .before .before .print .ensures)
-    (text-front (a .names .now) (nodes (a .codes .now) (a .lefts .now) (a .rights .now) (a .sizes .now)) (nodeOf (a .root))
-    (c .before .before .before .before .before .before .before .before .before .before .before .before .before .before .before .before .before .before .before
-    .before .before .before .before .before .before .before .pre .0) _ refl (c .before .before .before .before .before .before .before .before .before .before
-    .before .before .before .before .before .before .before .before .print .result) _
-    (c .before .before .before .before .before .before .before .before .before .before .before .before .before .before .before .before .before .before .print .ensures)
-    (c .before .before .before .before .before .before .before .before .before .before .before .before .before .before .before .printed .given .1))
-    names next e (a .root .size) (a .tried) (length (a .codes .now)) (a .dropped)
-    (c .before .before .before .before .before .before .before .before .before .before .before .before .before .before .before .before .before .before .before
-    .before .before .before .before .before .before .before .pre .1) (c .before .before .before .before .before .before .before .before .before .before .before
-    .before .found .ensures) (c .before .before .before .before .before .before .before .put .ensures) (c .before .before .put2 .ensures)
+returns c =
+    let c₂ = c .before .before in
+    let c₇ = c₂ .before .before .before .before .before in
+    let c₁₂ = c₇ .before .before .before .before .before in
+    let c₁₅ = c₁₂ .before .before .before in
+    let c₁₈ = c₁₅ .before .before .before in
+    let c₂₆ = c₁₈ .before .before .before .before .before .before .before .before in
+    let a = c₂₆ .args in
+    λ names next e. found-written (a .names .now) (nodes (a .codes .now) (a .lefts .now) (a .rights .now) (a .sizes .now)) (nodeOf (a .root))
+    (c₂₆ .pre .0) _ refl (c₁₈ .print .result) _ (c₁₈ .print .ensures) (text-front (a .names .now) (nodes (a .codes .now) (a .lefts .now)
+    (a .rights .now) (a .sizes .now)) (nodeOf (a .root)) (c₂₆ .pre .0) _ refl (c₁₈ .print .result) _ (c₁₈ .print .ensures) (c₁₅ .printed .given .1))
+    names next e (a .root .size) (a .tried) (length (a .codes .now)) (a .dropped) (c₂₆ .pre .1) (c₁₂ .found .ensures) (c₇ .put .ensures)
+    (c₂ .put2 .ensures)
 
 returns-2 : tie.Need-returns-2
 returns-2 c = let a = c .before .before .before .before .before .before .before .before .before .before .before .before .before .before .before .before .args in absurd

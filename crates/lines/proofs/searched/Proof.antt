@@ -21,74 +21,68 @@ roomy = record {
 }
 
 array-share-prefix-codes : tie.Need-array-share-prefix-codes
-array-share-prefix-codes c = codes-in (this (c .before .before .before .before .before .before .before .before .before .before .before .before .before .before .before
-    .before .before .before .before .before .before .args .names .now) _ (c .before .before .before .before .before .before .before .before .before .before .before
-    .before .before .before .before .before .before .before .before .before .before .pre .0 .0)
-    (c .before .before .before .before .before .before .before .before .before .before .before .before .before .before .before .before .before .before .before .before
-    .before .pre .0 .1) _ roomy _ (c .before .before .before .before .before .before .before .before .search .result)
-    (c .before .before .before .before .before .before .before .before .search .ensures) (c .before .answer .given .1))
+array-share-prefix-codes c =
+    let c₁ = c .before in
+    let c₈ = c₁ .before .before .before .before .before .before .before in
+    let c₂₁ = c₈ .before .before .before .before .before .before .before .before .before .before .before .before .before in
+    codes-in (this (c₂₁ .args .names .now) _ (c₂₁ .pre .0 .0) (c₂₁ .pre .0 .1) _ roomy _ (c₈ .search .result) (c₈ .search .ensures)
+    (c₁ .answer .given .1))
 
 slice-aggregate-found : tie.Need-slice-aggregate-found
-slice-aggregate-found c = codes-part (this (c .before .before .before .before .before .before .before .before .before .before .before .before .before .before .before
-    .before .before .before .before .before .before .before .args .names .now) _
-    (c .before .before .before .before .before .before .before .before .before .before .before .before .before .before .before .before .before .before .before .before
-    .before .before .pre .0 .0) (c .before .before .before .before .before .before .before .before .before .before .before .before .before .before .before .before
-    .before .before .before .before .before .before .pre .0 .1) _ roomy _ (c .before .before .before .before .before .before .before .before .before .search .result)
-    (c .before .before .before .before .before .before .before .before .before .search .ensures) (c .before .before .answer .given .1))
+slice-aggregate-found c =
+    let c₂ = c .before .before in
+    let c₉ = c₂ .before .before .before .before .before .before .before in
+    let c₂₂ = c₉ .before .before .before .before .before .before .before .before .before .before .before .before .before in
+    codes-part (this (c₂₂ .args .names .now) _ (c₂₂ .pre .0 .0) (c₂₂ .pre .0 .1) _ roomy _ (c₉ .search .result) (c₉ .search .ensures)
+    (c₂ .answer .given .1))
 
 array-share-prefix-lefts : tie.Need-array-share-prefix-lefts
-array-share-prefix-lefts c = lefts-in (this (c .before .before .before .before .before .before .before .before .before .before .before .before .before .before .before
-    .before .before .before .before .before .before .before .args .names .now) _
-    (c .before .before .before .before .before .before .before .before .before .before .before .before .before .before .before .before .before .before .before .before
-    .before .before .pre .0 .0) (c .before .before .before .before .before .before .before .before .before .before .before .before .before .before .before .before
-    .before .before .before .before .before .before .pre .0 .1) _ roomy _ (c .before .before .before .before .before .before .before .before .before .search .result)
-    (c .before .before .before .before .before .before .before .before .before .search .ensures) (c .before .before .answer .given .1))
+array-share-prefix-lefts c =
+    let c₂ = c .before .before in
+    let c₉ = c₂ .before .before .before .before .before .before .before in
+    let c₂₂ = c₉ .before .before .before .before .before .before .before .before .before .before .before .before .before in
+    lefts-in (this (c₂₂ .args .names .now) _ (c₂₂ .pre .0 .0) (c₂₂ .pre .0 .1) _ roomy _ (c₉ .search .result) (c₉ .search .ensures)
+    (c₂ .answer .given .1))
 
 slice-aggregate-found-2 : tie.Need-slice-aggregate-found-2
-slice-aggregate-found-2 c = lefts-part (this (c .before .before .before .before .before .before .before .before .before .before .before .before .before .before .before
-    .before .before .before .before .before .before .before .before .args .names .now) _
-    (c .before .before .before .before .before .before .before .before .before .before .before .before .before .before .before .before .before .before .before .before
-    .before .before .before .pre .0 .0) (c .before .before .before .before .before .before .before .before .before .before .before .before .before .before .before
-    .before .before .before .before .before .before .before .before .pre .0 .1) _ roomy _
-    (c .before .before .before .before .before .before .before .before .before .before .search .result)
-    (c .before .before .before .before .before .before .before .before .before .before .search .ensures) (c .before .before .before .answer .given .1))
+slice-aggregate-found-2 c =
+    let c₃ = c .before .before .before in
+    let c₁₀ = c₃ .before .before .before .before .before .before .before in
+    let c₂₃ = c₁₀ .before .before .before .before .before .before .before .before .before .before .before .before .before in
+    lefts-part (this (c₂₃ .args .names .now) _ (c₂₃ .pre .0 .0) (c₂₃ .pre .0 .1) _ roomy _ (c₁₀ .search .result) (c₁₀ .search .ensures)
+    (c₃ .answer .given .1))
 
 array-share-prefix-rights : tie.Need-array-share-prefix-rights
-array-share-prefix-rights c = rights-in (this (c .before .before .before .before .before .before .before .before .before .before .before .before .before .before .before
-    .before .before .before .before .before .before .before .before .args .names .now) _
-    (c .before .before .before .before .before .before .before .before .before .before .before .before .before .before .before .before .before .before .before .before
-    .before .before .before .pre .0 .0) (c .before .before .before .before .before .before .before .before .before .before .before .before .before .before .before
-    .before .before .before .before .before .before .before .before .pre .0 .1) _ roomy _
-    (c .before .before .before .before .before .before .before .before .before .before .search .result)
-    (c .before .before .before .before .before .before .before .before .before .before .search .ensures) (c .before .before .before .answer .given .1))
+array-share-prefix-rights c =
+    let c₃ = c .before .before .before in
+    let c₁₀ = c₃ .before .before .before .before .before .before .before in
+    let c₂₃ = c₁₀ .before .before .before .before .before .before .before .before .before .before .before .before .before in
+    rights-in (this (c₂₃ .args .names .now) _ (c₂₃ .pre .0 .0) (c₂₃ .pre .0 .1) _ roomy _ (c₁₀ .search .result) (c₁₀ .search .ensures)
+    (c₃ .answer .given .1))
 
 slice-aggregate-found-3 : tie.Need-slice-aggregate-found-3
-slice-aggregate-found-3 c = rights-part (this (c .before .before .before .before .before .before .before .before .before .before .before .before .before .before .before
-    .before .before .before .before .before .before .before .before .before .args .names .now) _
-    (c .before .before .before .before .before .before .before .before .before .before .before .before .before .before .before .before .before .before .before .before
-    .before .before .before .before .pre .0 .0) (c .before .before .before .before .before .before .before .before .before .before .before .before .before .before
-    .before .before .before .before .before .before .before .before .before .before .pre .0 .1) _ roomy _
-    (c .before .before .before .before .before .before .before .before .before .before .before .search .result)
-    (c .before .before .before .before .before .before .before .before .before .before .before .search .ensures) (c .before .before .before .before .answer .given .1))
+slice-aggregate-found-3 c =
+    let c₄ = c .before .before .before .before in
+    let c₁₁ = c₄ .before .before .before .before .before .before .before in
+    let c₂₄ = c₁₁ .before .before .before .before .before .before .before .before .before .before .before .before .before in
+    rights-part (this (c₂₄ .args .names .now) _ (c₂₄ .pre .0 .0) (c₂₄ .pre .0 .1) _ roomy _ (c₁₁ .search .result) (c₁₁ .search .ensures)
+    (c₄ .answer .given .1))
 
 array-share-prefix-sizes : tie.Need-array-share-prefix-sizes
-array-share-prefix-sizes c = sizes-in (this (c .before .before .before .before .before .before .before .before .before .before .before .before .before .before .before
-    .before .before .before .before .before .before .before .before .before .args .names .now) _
-    (c .before .before .before .before .before .before .before .before .before .before .before .before .before .before .before .before .before .before .before .before
-    .before .before .before .before .pre .0 .0) (c .before .before .before .before .before .before .before .before .before .before .before .before .before .before
-    .before .before .before .before .before .before .before .before .before .before .pre .0 .1) _ roomy _
-    (c .before .before .before .before .before .before .before .before .before .before .before .search .result)
-    (c .before .before .before .before .before .before .before .before .before .before .before .search .ensures) (c .before .before .before .before .answer .given .1))
+array-share-prefix-sizes c =
+    let c₄ = c .before .before .before .before in
+    let c₁₁ = c₄ .before .before .before .before .before .before .before in
+    let c₂₄ = c₁₁ .before .before .before .before .before .before .before .before .before .before .before .before .before in
+    sizes-in (this (c₂₄ .args .names .now) _ (c₂₄ .pre .0 .0) (c₂₄ .pre .0 .1) _ roomy _ (c₁₁ .search .result) (c₁₁ .search .ensures)
+    (c₄ .answer .given .1))
 
 slice-aggregate-found-4 : tie.Need-slice-aggregate-found-4
-slice-aggregate-found-4 c = sizes-part (this (c .before .before .before .before .before .before .before .before .before .before .before .before .before .before .before
-    .before .before .before .before .before .before .before .before .before .before .args .names .now) _
-    (c .before .before .before .before .before .before .before .before .before .before .before .before .before .before .before .before .before .before .before .before
-    .before .before .before .before .before .pre .0 .0) (c .before .before .before .before .before .before .before .before .before .before .before .before .before
-    .before .before .before .before .before .before .before .before .before .before .before .before .pre .0 .1) _ roomy _
-    (c .before .before .before .before .before .before .before .before .before .before .before .before .search .result)
-    (c .before .before .before .before .before .before .before .before .before .before .before .before .search .ensures)
-    (c .before .before .before .before .before .answer .given .1))
+slice-aggregate-found-4 c =
+    let c₅ = c .before .before .before .before .before in
+    let c₁₂ = c₅ .before .before .before .before .before .before .before in
+    let c₂₅ = c₁₂ .before .before .before .before .before .before .before .before .before .before .before .before .before in
+    sizes-part (this (c₂₅ .args .names .now) _ (c₂₅ .pre .0 .0) (c₂₅ .pre .0 .1) _ roomy _ (c₁₂ .search .result) (c₁₂ .search .ensures)
+    (c₅ .answer .given .1))
 
 found-requires : tie.Need-found-requires
 found-requires c κs = (
@@ -111,37 +105,40 @@ found-requires c κs = (
 )
 
 returns : tie.Need-returns
-returns c = λ p g. found-returns (c .before .before .before .before .before .before .before .before .before .before .before .before .before .before .before .before
-    .before .before .before .before .before .before .before .before .before .before .before .before .before .args .names .now) _ p g _ roomy _
-    (c .before .before .before .before .before .before .before .before .before .before .before .before .before .before .before .before .search .result)
-    (c .before .before .before .before .before .before .before .before .before .before .before .before .before .before .before .before .search .ensures)
-    (c .before .before .before .before .before .before .before .before .before .answer .given .1)
-    (c .before .before .before .before .before .before .before .before .before .before .before .before .before .before .before .before .before .before .before .before
-    .before .before .before .before .before .before .before .before .before .pre .1) (c .before .before .found .ensures)
+returns c =
+    let c₂ = c .before .before in
+    let c₉ = c₂ .before .before .before .before .before .before .before in
+    let c₁₆ = c₉ .before .before .before .before .before .before .before in
+    let c₂₉ = c₁₆ .before .before .before .before .before .before .before .before .before .before .before .before .before in
+    λ p g. found-returns (c₂₉ .args .names .now) _ p g _ roomy _ (c₁₆ .search .result) (c₁₆ .search .ensures) (c₉ .answer .given .1) (c₂₉ .pre .1)
+    (c₂ .found .ensures)
 
 returns-2 : tie.Need-returns-2
-returns-2 c = λ p g. none-returns (c .before .before .before .before .before .before .before .before .before .before .before .before .before .before .before .before
-    .before .before .before .before .before .before .before .before .before .args .names .now) _ p g _ roomy _
-    (c .before .before .before .before .before .before .before .before .before .before .before .before .search .result)
-    (c .before .before .before .before .before .before .before .before .before .before .before .before .search .ensures)
-    (c .before .before .before .before .before .answer2 .given .1) (c .before .before .before .before .before .before .before .before .before .before .before .before
-    .before .before .before .before .before .before .before .before .before .before .before .before .before .pre .1) (c .before .before .none .ensures)
+returns-2 c =
+    let c₂ = c .before .before in
+    let c₅ = c₂ .before .before .before in
+    let c₁₂ = c₅ .before .before .before .before .before .before .before in
+    let c₂₅ = c₁₂ .before .before .before .before .before .before .before .before .before .before .before .before .before in
+    λ p g. none-returns (c₂₅ .args .names .now) _ p g _ roomy _ (c₁₂ .search .result) (c₁₂ .search .ensures) (c₅ .answer2 .given .1) (c₂₅ .pre .1)
+    (c₂ .none .ensures)
 
 returns-3 : tie.Need-returns-3
-returns-3 c = λ p g. full-returns (c .before .before .before .before .before .before .before .before .before .before .before .before .before .before .before .before
-    .before .before .before .before .before .before .before .before .before .args .names .now) _ p g _ roomy _
-    (c .before .before .before .before .before .before .before .before .before .before .before .before .search .result)
-    (c .before .before .before .before .before .before .before .before .before .before .before .before .search .ensures)
-    (c .before .before .before .before .before .answer3 .given .1) (c .before .before .before .before .before .before .before .before .before .before .before .before
-    .before .before .before .before .before .before .before .before .before .before .before .before .before .pre .1) (c .before .before .full .ensures)
+returns-3 c =
+    let c₂ = c .before .before in
+    let c₅ = c₂ .before .before .before in
+    let c₁₂ = c₅ .before .before .before .before .before .before .before in
+    let c₂₅ = c₁₂ .before .before .before .before .before .before .before .before .before .before .before .before .before in
+    λ p g. full-returns (c₂₅ .args .names .now) _ p g _ roomy _ (c₁₂ .search .result) (c₁₂ .search .ensures) (c₅ .answer3 .given .1) (c₂₅ .pre .1)
+    (c₂ .full .ensures)
 
 returns-4 : tie.Need-returns-4
-returns-4 c = λ p g. refused-returns (c .before .before .before .before .before .before .before .before .before .before .before .before .before .before .before .before
-    .before .before .before .before .before .before .before .before .before .args .names .now) _ p g _ roomy _
-    (c .before .before .before .before .before .before .before .before .before .before .before .before .search .result)
-    (c .before .before .before .before .before .before .before .before .before .before .before .before .search .ensures)
-    (c .before .before .before .before .before .answer4 .given .1) (c .before .before .before .before .before .before .before .before .before .before .before .before
-    .before .before .before .before .before .before .before .before .before .before .before .before .before .pre .1) (c .before .before .refused .ensures)
+returns-4 c =
+    let c₂ = c .before .before in
+    let c₅ = c₂ .before .before .before in
+    let c₁₂ = c₅ .before .before .before .before .before .before .before in
+    let c₂₅ = c₁₂ .before .before .before .before .before .before .before .before .before .before .before .before .before in
+    λ p g. refused-returns (c₂₅ .args .names .now) _ p g _ roomy _ (c₁₂ .search .result) (c₁₂ .search .ensures) (c₅ .answer4 .given .1) (c₂₅ .pre .1)
+    (c₂ .refused .ensures)
 
 pub searched-spec : {M : Type 1} → statement M
 searched-spec = tie.close (tie.spec

@@ -5,7 +5,7 @@ use Prim.Native.Nat.{ℕ}
 use native.Mathlib.Omega.{arith}
 use mathlib.Core.List.{[]}
 use lib.ListN.{length}
-use Rattle.reading.specs.Reading.{each, stepOf}
+use Rattle.reading.specs.Reading.{eachItem, stepOf}
 use Rattle.names.specs.Names.{name}
 use Rattle.reading.proofs.Steps.{section-read, section-broken, byte-read, byte-next}
 use borrow.Author.Needs.{needs}
@@ -20,7 +20,7 @@ returns c =
     let n = byte-next _ _ _ (byte-read _ _ (c .before .before .before .before .byte-within .ensures) (c .before .before .c .given .1)) in
     let at : 1 ≡ c .before .before .c .given .0 .1 .0 = omega (arith, n .1) in
     section-read _ _ 1 _ 0 _ (c .before .before .before .before .byte-within .ensures) _ (c .before .before .c .given .1)
-    (c .names-from .ensures ∙ ap (λ (p : ℕ). stepOf length (each name (c .before .before .c .given .0 .0) [] (c .before .before .before .before .before .before .args .file .now) p)) at)
+    (c .names-from .ensures ∙ ap (λ (p : ℕ). stepOf length (eachItem name (c .before .before .c .given .0 .0) [] (c .before .before .before .before .before .before .args .file .now) p)) at)
 
 returns-2 : tie.Need-returns-2
 returns-2 c = section-broken _ _ 1 _ 0 _ (c .before .before .before .byte-within .ensures) (c .before .c2 .given .1)

@@ -3,13 +3,13 @@
 use Prim.Native.Nat.{_≤_, _-_}
 use native.Mathlib.Omega.{arith}
 use borrow.Author.Needs.{needs}
-use Rattle.nodes_in.specs.Arrays.{Filled}
+use Rattle.nodes_in.specs.Arrays.{FieldsFilled}
 use Rattle.nodes_in.proofs.Fields.{filled-none, filled-more, filled-to}
 use Rattle.nodes_in.proofs.unpack.Statement.{statement}
 use Rattle.nodes_in.proofs.unpack.Tie as tie
 
 abbrev Inv-loop : tie.InvT-loop
-Inv-loop count codes₀ lefts₀ rights₀ sizes₀ list i₀ codes lefts rights sizes i = (i ≤ count) × Filled list i codes lefts rights sizes
+Inv-loop count codes₀ lefts₀ rights₀ sizes₀ list i₀ codes lefts rights sizes i = (i ≤ count) × FieldsFilled list i codes lefts rights sizes
 
 abbrev μ-loop : tie.MeasureT-loop
 μ-loop count codes₀ lefts₀ rights₀ sizes₀ list i₀ codes lefts rights sizes i = count - i

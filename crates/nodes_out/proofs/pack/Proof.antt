@@ -6,13 +6,13 @@ use native.Mathlib.Omega.{arith}
 use lib.ListN.{length}
 use borrow.Author.Needs.{needs}
 use Rattle.nodes_out.specs.Arrays.{room}
-use Rattle.nodes_in.specs.Arrays.{Filled}
+use Rattle.nodes_in.specs.Arrays.{FieldsFilled}
 use Rattle.nodes_in.proofs.Fields.{filled-none, packed-more, filled-to}
 use Rattle.nodes_out.proofs.pack.Statement.{statement}
 use Rattle.nodes_out.proofs.pack.Tie as tie
 
 abbrev Inv-loop : tie.InvT-loop
-Inv-loop count codes lefts rights sizes list₀ i₀ list i = (i ≤ count) × (length list ≡ room) × Filled list i codes lefts rights sizes
+Inv-loop count codes lefts rights sizes list₀ i₀ list i = (i ≤ count) × (length list ≡ room) × FieldsFilled list i codes lefts rights sizes
 
 abbrev μ-loop : tie.MeasureT-loop
 μ-loop count codes lefts rights sizes list₀ i₀ list i = count - i

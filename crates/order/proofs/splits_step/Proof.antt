@@ -4,11 +4,11 @@ use mathlib.Core.Path.{_≡_, refl, sym, ap, _∙_}
 use Prim.Native.Nat.{ℕ, _-_}
 use native.Mathlib.Omega.{arith}
 use borrow.Author.Needs.{needs}
-use Rattle.order.specs.declared.Cursor.{Cursor}
+use Rattle.split.specs.declared.Cursor.{Cursor}
 use Rattle.order.specs.Size.{layerOf}
 use Rattle.order.specs.Ahead.{partsAhead}
-use Rattle.order.specs.Inner.{Takes}
-use Rattle.order.proofs.Takes.{ended, carried}
+use Rattle.split.specs.Split.{Takes}
+use Rattle.split.proofs.Takes.{ended, carried}
 use Rattle.order.proofs.Sizes.{parts-out, parts-done, parts-step}
 use Rattle.order.proofs.splits_step.Statement.{statement}
 use Rattle.order.proofs.splits_step.Tie as tie

@@ -3,12 +3,12 @@
 use borrow.Author.Needs.{needs}
 use native.Mathlib.Omega.{arith}
 use mathlib.Core.Path.{ap}
-use Rattle.file.specs.Reading.{said}
+use Rattle.file.specs.Reading.{saidRead}
 use Rattle.out_read.proofs.number.Statement.{statement}
 use Rattle.out_read.proofs.number.Tie as tie
 
 cast-refused-at : tie.Need-cast-refused-at
-cast-refused-at c = omega (arith, c .before .before .before .pre _ (ap said (c .before .answer .given .1)))
+cast-refused-at c = omega (arith, c .before .before .before .pre _ (ap saidRead (c .before .answer .given .1)))
 
 returns-2 : tie.Need-returns-2
 returns-2 c = rw (c .before .before .answer .given .1) (c .refused-at .ensures)

@@ -7,11 +7,12 @@ use Rattle.out_resume.proofs.put.Statement.{statement}
 use Rattle.out_resume.proofs.put.Tie as tie
 
 returns : tie.Need-returns
-returns c = rw (c .before .before .before .before .before .before .before .before .before .answer .given .1) (put-goes _
-    (c .before .before .before .before .before .before .before .before .before .before .before .before .before .args .state .now)
-    (c .before .before .before .before .before .before .before .before .before .before .before .before .before .args .out .now) _ _ _
-    (c .before .before .before .before .before .before .before .before .before .before .before .before .before .pre .0)
-    (c .before .before .put .ensures) (c .before .before .before .before .before .before .tell .ensures))
+returns c =
+    let c₂ = c .before .before in
+    let c₆ = c₂ .before .before .before .before in
+    let c₉ = c₆ .before .before .before in
+    let c₁₃ = c₉ .before .before .before .before in
+    rw (c₉ .answer .given .1) (put-goes _ (c₁₃ .args .state .now) (c₁₃ .args .out .now) _ _ _ (c₁₃ .pre .0) (c₂ .put .ensures) (c₆ .tell .ensures))
 
 returns-2 : tie.Need-returns-2
 returns-2 c = rw (c .before .answer2 .given .1) (refl, refl, refl)

@@ -12,19 +12,14 @@ returns-2 : tie.Need-returns-2
 returns-2 c = state-short _ _ _ _ _ _ _ _ _ _ _ _ _ _ (c .before .before .if1 .left) (c .before .if2 .taken) _ (c .unanswered2 .ensures)
 
 returns-3 : tie.Need-returns-3
-returns-3 c = resume-long _ _ _ _ _
-    (c .before .before .before .before .before .before .before .before .before .before .before .before .before .before .before .before .before .before .before .before .before .before
-    .before .before .before .before .if1 .left)
-    (c .before .before .before .before .before .before .before .before .before .before .before .before .before .before .before .before .before .before .before .before .before .before
-    .before .before .before .if2 .left)
-    (c .before .before .before .before .before .before .before .before .before .before .before .before .before .before .before .before .before .before .before .before .before .before
-    .before .read .result)
-    (c .before .before .before .before .before .before .before .before .before .before .before .before .before .before .before .before .before .before .before .before .before .before
-    .before .read .ensures)
-    (c .before .before .before .before .before .before .before .before .before .before .before .before .before .before .before .before .before .resume .result)
-    _
-    (c .before .before .before .before .before .before .before .before .before .before .before .before .before .before .before .before .before .resume .ensures)
-    (c .before .before .before .before .put .result) _ _ (c .before .before .before .before .put .ensures)
+returns-3 c =
+    let c₄ = c .before .before .before .before in
+    let c₁₇ = c₄ .before .before .before .before .before .before .before .before .before .before .before .before .before in
+    let c₂₃ = c₁₇ .before .before .before .before .before .before in
+    let c₂₅ = c₂₃ .before .before in
+    let c₂₆ = c₂₅ .before in
+    resume-long _ _ _ _ _ (c₂₆ .if1 .left) (c₂₅ .if2 .left) (c₂₃ .read .result) (c₂₃ .read .ensures) (c₁₇ .resume .result) _ (c₁₇ .resume .ensures)
+    (c₄ .put .result) _ _ (c₄ .put .ensures)
 
 pub resume-spec : {M : Type 1} → statement M
 resume-spec = tie.close (tie.spec

@@ -3,14 +3,14 @@
 use mathlib.Core.Path.{refl}
 use native.Mathlib.Omega.{arith}
 use borrow.Author.Needs.{needs}
-use borrow.Author.Tests.{not-true, not-false}
 use Rattle.rules.proofs.Refusals.{decided-given, decided-not}
 use Rattle.walk.specs.Input.{inputOf}
 use Rattle.table.specs.Slices.{cols}
 use Rattle.checks.proofs.Passing.{search-passes}
+use Rattle.state.proofs.Passing.{passes-in}
+use Rattle.turns.proofs.Fitting.{pos-of-ne}
 use Rattle.slices.specs.Slices.{stateWrong}
-use Rattle.slices.proofs.Checks.{pos-of-ne}
-use Rattle.slices.proofs.Calls.{rows-search, rows-state, state-in, not-wrong, wrong, went-on, went-ended, asks-of}
+use Rattle.slices.proofs.Calls.{rows-search, rows-state, went-on, went-ended, asks-of}
 use Rattle.slices.proofs.advance.Statement.{statement}
 use Rattle.slices.proofs.advance.Tie as tie
 
@@ -22,14 +22,6 @@ returns c =
     let t = cols (a .codes .now) (a .lefts .now) (a .rights .now) (a .sizes .now) (a .matrices .now) in
     record { decided = rows-search i t (a .state) _ (c₁ .refusal .ensures) (c .if1 .taken); outcome = (pos-of-ne _ (c .if1 .taken), refl) }
 
-state-good-requires : tie.Need-state-good-requires
-state-good-requires c κs =
-    let c₁ = c .before in
-    let a = c₁ .before .before .before .before .before .before .before .before .before .before .before .before .before .before .before .before .args in
-    let i = inputOf (a .r) (a .m) (a .bound) (a .room) (a .constants) (a .marks .now) (a .lengths .now) (a .words .now) (a .unary .now) (a .binary .now) in
-    let t = cols (a .codes .now) (a .lefts .now) (a .rights .now) (a .sizes .now) (a .matrices .now) in
-    search-passes i t (rw (c .if1 .left) at (c₁ .refusal .ensures)) .propositions-in .1
-
 returns-2 : tie.Need-returns-2
 returns-2 c =
     let c₁ = c .before in
@@ -38,7 +30,7 @@ returns-2 c =
     let a = c₃ .before .before .before .before .before .before .before .before .before .before .before .before .before .before .before .before .args in
     let i = inputOf (a .r) (a .m) (a .bound) (a .room) (a .constants) (a .marks .now) (a .lengths .now) (a .words .now) (a .unary .now) (a .binary .now) in
     let t = cols (a .codes .now) (a .lefts .now) (a .rights .now) (a .sizes .now) (a .matrices .now) in
-    let bad = wrong i (a .state) (rw (not-true (c₁ .state-good .result) (c .if2 .taken)) at (c₁ .state-good .ensures)) in
+    let bad = rw (c .if2 .taken) at (c₁ .wrong .ensures) in
     record {
       decided = rows-state i t (a .state) _ (c₃ .refusal .ensures) (c₂ .if1 .left) 14 (decided-given (stateWrong i (a .state)) bad);
       outcome = (omega arith, refl);
@@ -53,23 +45,11 @@ returns-3 c =
     let a = c₅ .before .before .before .before .before .before .before .before .before .before .before .before .before .before .before .before .args in
     let i = inputOf (a .r) (a .m) (a .bound) (a .room) (a .constants) (a .marks .now) (a .lengths .now) (a .words .now) (a .unary .now) (a .binary .now) in
     let t = cols (a .codes .now) (a .lefts .now) (a .rights .now) (a .sizes .now) (a .matrices .now) in
-    let good = state-in i (a .state) (rw (not-false (c₃ .state-good .result) (c₂ .if2 .left)) at (c₃ .state-good .ensures)) in
+    let good = rw (c₂ .if2 .left) at (c₃ .wrong .ensures) in
     record {
-      decided = rows-state i t (a .state) _ (c₅ .refusal .ensures) (c₄ .if1 .left) 0 (decided-not (stateWrong i (a .state)) (not-wrong i (a .state) good));
-      outcome = went-ended i t (search-passes i t (rw (c₄ .if1 .left) at (c₅ .refusal .ensures))) (a .budget) (a .state) (c .if3 .taken) good;
+      decided = rows-state i t (a .state) _ (c₅ .refusal .ensures) (c₄ .if1 .left) 0 (decided-not (stateWrong i (a .state)) good);
+      outcome = went-ended i t (search-passes i t (rw (c₄ .if1 .left) at (c₅ .refusal .ensures))) (a .budget) (a .state) (c .if3 .taken) (passes-in good);
     }
-
-go-on-requires : tie.Need-go-on-requires
-go-on-requires c κs =
-    let c₇ = c .before .before .before .before .before .before .before in
-    let c₈ = c₇ .before in
-    let c₉ = c₈ .before in
-    let c₁₀ = c₉ .before in
-    let a = c₁₀ .before .before .before .before .before .before .before .before .before .before .before .before .before .before .before .before .args in
-    let i = inputOf (a .r) (a .m) (a .bound) (a .room) (a .constants) (a .marks .now) (a .lengths .now) (a .words .now) (a .unary .now) (a .binary .now) in
-    let t = cols (a .codes .now) (a .lefts .now) (a .rights .now) (a .sizes .now) (a .matrices .now) in
-    asks-of i (search-passes i t (rw (c₉ .if1 .left) at (c₁₀ .refusal .ensures))) (a .state)
-    (state-in i (a .state) (rw (not-false (c₈ .state-good .result) (c₇ .if2 .left)) at (c₈ .state-good .ensures)))
 
 same-length-16 : tie.Need-same-length-16
 same-length-16 c = c .before .before .before .before .before .before .before .before .before .before .go-on .kept .1 .1 .1 .1 .1 .1 .1 .1 .1 .1 .1 .1 .0
@@ -97,16 +77,16 @@ returns-4 c =
     let a = c₂₁ .before .before .before .before .before .before .before .before .before .before .before .before .before .before .before .before .args in
     let i = inputOf (a .r) (a .m) (a .bound) (a .room) (a .constants) (a .marks .now) (a .lengths .now) (a .words .now) (a .unary .now) (a .binary .now) in
     let t = cols (a .codes .now) (a .lefts .now) (a .rights .now) (a .sizes .now) (a .matrices .now) in
-    let good = state-in i (a .state) (rw (not-false (c₁₉ .state-good .result) (c₁₈ .if2 .left)) at (c₁₉ .state-good .ensures)) in
+    let good = rw (c₁₈ .if2 .left) at (c₁₉ .wrong .ensures) in
+    let ok = search-passes i t (rw (c₂₀ .if1 .left) at (c₂₁ .refusal .ensures)) in
     record {
-      decided = rows-state i t (a .state) _ (c₂₁ .refusal .ensures) (c₂₀ .if1 .left) 0 (decided-not (stateWrong i (a .state)) (not-wrong i (a .state) good));
-      outcome = went-on i t (search-passes i t (rw (c₂₀ .if1 .left) at (c₂₁ .refusal .ensures))) (a .budget) (a .state) (c₁₀ .go-on .result) (c₁₆ .if3 .left)
-          (c₁₀ .go-on .ensures);
+      decided = rows-state i t (a .state) _ (c₂₁ .refusal .ensures) (c₂₀ .if1 .left) 0 (decided-not (stateWrong i (a .state)) good);
+      outcome = went-on i t ok (a .budget) (a .state) (c₁₀ .go-on .result) (c₁₆ .if3 .left) (c₁₀ .go-on .ensures .goes (asks-of i ok (a .state) (passes-in good)));
     }
 
 pub advance-spec : {M : Type 1} → statement M
 advance-spec = tie.close (tie.spec
     (λ c κs. search needs) (λ c. search needs) (λ c. search needs) (λ c. search needs) (λ c. search needs) (λ c. search needs) returns
-    state-good-requires (λ c. search needs) (λ c. search needs) (λ c. search needs) (λ c. search needs) (λ c. search needs) returns-2
-    (λ c. search needs) (λ c. search needs) (λ c. search needs) (λ c. search needs) (λ c. search needs) returns-3 go-on-requires same-length-16
+    (λ c κs. search needs) (λ c. search needs) (λ c. search needs) (λ c. search needs) (λ c. search needs) (λ c. search needs) returns-2
+    (λ c. search needs) (λ c. search needs) (λ c. search needs) (λ c. search needs) (λ c. search needs) returns-3 (λ c κs. search needs) same-length-16
     same-length-17 same-length-18 same-length-19 same-length-20 returns-4)

@@ -1,7 +1,7 @@
 -- `fresh` meets its contract: a fresh state is put.
 -- Assumes nothing.
 use mathlib.Core.Path.{subst}
-use Rattle.slices.specs.declared.state.State.{State}
+use Rattle.state.specs.declared.State.{State}
 use Rattle.state_words.specs.Written.{StateDone}
 use borrow.Author.Needs.{needs}
 use Rattle.state_words.proofs.fresh.Statement.{statement}

@@ -4,7 +4,7 @@ use mathlib.Core.Path.{refl}
 use native.Mathlib.Omega.{arith}
 use borrow.Author.Needs.{needs}
 use Rattle.rules.specs.Limits.{mostSessions}
-use Rattle.rows.proofs.Products.{at-most}
+use Rattle.leaves.proofs.Products.{at-most}
 use Rattle.table.proofs.keep.Statement.{statement}
 use Rattle.table.proofs.keep.Tie as tie
 

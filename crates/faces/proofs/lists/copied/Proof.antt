@@ -52,7 +52,8 @@ use denote.Triple.Walked.{says, Stays, stay-none-slice, walkOf, Walks, ends-at, 
 use Rattle.formula.specs.declared.kinds.Node.{Node}
 use Rattle.formula.proofs.kinds.Node as T
 use Rattle.formula.proofs.kinds.Node.Laws as T′
-use Rattle.nodes_in.specs.Arrays.{seen, noNode, Copied}
+use Rattle.nodes_in.specs.Arrays.{seen, Copied}
+use Rattle.formula.specs.Kinds.{noNode}
 use Rattle.nodes_in.proofs.Filling.{holds, fails, one-more, as-many}
 use Rattle.faces.proofs.LocalArray.{by-elements, whole-again}
 use Rattle.faces.proofs.lists.blank as blank

@@ -60,7 +60,7 @@ use Rattle.search.proofs.SearchAnswer as Said-type
 use Rattle.search.proofs.SearchAnswer.Laws as Said-laws
 use Rattle.nodes_out.specs.declared.Done.{Done}
 use Rattle.nodes_out.specs.Arrays.{room, putOver}
-use Rattle.nodes_in.specs.Arrays.{noNode}
+use Rattle.formula.specs.Kinds.{noNode}
 use Rattle.nodes_out.proofs.Done as D
 use Rattle.nodes_out.proofs.Done.Laws as D′
 use Rattle.nodes_in.proofs.Filling.{holds, fails, one-more, rest-stays, put-all}

@@ -59,7 +59,7 @@ use Rattle.reader.specs.declared.Parsed.{Parsed}
 use Rattle.reader.proofs.Parsed as Said-type
 use Rattle.reader.proofs.Parsed.Laws as Said-laws
 use Rattle.nodes_out.specs.declared.Read.{Read}
-use Rattle.nodes_in.specs.Arrays.{noNode}
+use Rattle.formula.specs.Kinds.{noNode}
 use Rattle.nodes_out.specs.Arrays.{room, placedOver}
 use Rattle.nodes_out.proofs.Read as D
 use Rattle.nodes_out.proofs.Read.Laws as D′

@@ -9,21 +9,18 @@ use borrow.Author.Needs.{needs}
 use Rattle.formula.proofs.nodes.unary_good.Statement.{statement}
 use Rattle.formula.proofs.nodes.unary_good.Tie as tie
 
-returns : tie.Need-returns
-returns c = unaryPlace (c .before .before .before .before .before .before .pre .1) (c .if1 .taken)
-
 returns-2 : tie.Need-returns-2
-returns-2 c = rightUnused (not-both _ (c .before .before .before .before .before .before .before .before .pre .1)) (c .if2 .taken)
+returns-2 c m k e = rightUnused (not-both _ (c .before .before .before .before .pre)) (c .if2 .taken)
 
 returns-3 : tie.Need-returns-3
-returns-3 c = unarySize (c .before .before .before .before .before .before .before .before .before .before .before .pre .1) (λ e. c .if3 .taken (omega (arith, c .before .before .size-at .ensures .0)))
+returns-3 c m k e = unarySize (c .before .before .before .before .before .before .pre) (λ s. c .if3 .taken (omega arith))
 
 returns-5 : tie.Need-returns-5
-returns-5 c =
-    let op = c .before .before .before .before .before .before .before .before .before .before .before .before .pre .1 in
-    unary (op .0) (sym (op .1)) (omega arith) (c .before .before .before .before .if2 .left) (omega (arith, c .before .before .before .size-at .ensures .0)) (c .if4 .left)
+returns-5 c m k e =
+    let op = c .before .before .before .before .before .before .before .pre in
+    unary (op .0) (sym (op .1)) (omega arith) (c .before .before .before .if2 .left) (omega arith) (c .if4 .left)
 
 pub unary-good-spec : {M : Type 1} → statement M
 unary-good-spec = tie.close (tie.spec
-    (λ c. search needs) returns returns-2 (λ c κs. search needs) (λ c. search needs) (λ c. search needs) returns-3 (λ c. tooLarge (c .if4 .taken))
-    returns-5)
+    (λ c. search needs) (λ c m k e. unaryPlace (c .before .before .pre) (c .if1 .taken)) returns-2 (λ c. search needs) (λ c. search needs) returns-3
+    (λ c m k e. tooLarge (c .if4 .taken)) returns-5)

@@ -6,7 +6,7 @@ use Rattle.names.specs.Names.{letter}
 use Rattle.reading.specs.Reading.{byte, stepOf}
 use Rattle.names.specs.Inner.{fitsAt}
 use mathlib.Core.List.{List}
-use Rattle.reading.specs.declared.Step.{Step}
+use Rattle.reading.specs.declared.ReadStep.{ReadStep}
 use Rattle.reading.proofs.Steps.{step-read, step-broken, Loop, start, turn, broken, done}
 use Rattle.names.proofs.NameLaws.{letter-same}
 use borrow.Author.Needs.{needs}
@@ -14,7 +14,7 @@ use Rattle.names.proofs.letter.letters_from.Statement.{statement}
 use Rattle.names.proofs.letter.letters_from.Tie as tie
 
 -- what the callee says of the byte number i, said with the letters before it
-step : {file : List ℕ} {at n i p : ℕ} {r : Step} (l : Loop letter file at n i p) → r ≡ stepOf (λ b. b) (byte (fitsAt i) file p) → r ≡ stepOf (λ b. b) (letter (l .seen) file p)
+step : {file : List ℕ} {at n i p : ℕ} {r : ReadStep} (l : Loop letter file at n i p) → r ≡ stepOf (λ b. b) (byte (fitsAt i) file p) → r ≡ stepOf (λ b. b) (letter (l .seen) file p)
 step {file} {at} {n} {i} {p} l e = e ∙ ap (stepOf (λ b. b)) (ap (λ (k : ℕ). byte (fitsAt k) file p) (sym (l .count)) ∙ letter-same (l .seen) file p)
 
 abbrev Inv-loop : tie.InvT-loop

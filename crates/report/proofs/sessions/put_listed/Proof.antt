@@ -1,10 +1,10 @@
 -- `put_listed` meets its contract: the mark decides whether there is a line.
 -- Assumes nothing.
 use mathlib.Core.Path.{refl, sym, subst}
-use Rattle.formula.specs.Kinds.{nodeOf, nodes}
+use Rattle.formula.specs.Kinds.{nodes}
 use Rattle.session.specs.Recording.{recording}
 use Rattle.rules.specs.Refusals.{Decided}
-use Rattle.formula.specs.Nodes.{Node, nodeAt}
+use Rattle.formula.specs.Nodes.{Node}
 use Rattle.verdict.specs.Check.{checkRows}
 use Rattle.report.specs.Lines.{placeLine, NodeSays}
 use Rattle.report.specs.Lines.PlaceLine.{one}

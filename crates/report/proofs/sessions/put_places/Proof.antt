@@ -5,7 +5,7 @@ use borrow.Author.Needs.{needs}
 use Prim.Native.Nat.{_-_, _≤_}
 use native.Mathlib.Omega.{arith}
 use lib.ListN.{length}
-use Rattle.formula.specs.Kinds.{nodeOf, nodes}
+use Rattle.formula.specs.Kinds.{nodes}
 use Rattle.session.specs.Recording.{recording}
 use Rattle.formula.proofs.Listed.{length-nodes}
 use Rattle.writing.proofs.Writing.{wrote-length}

@@ -1,9 +1,6 @@
 -- `mark_children` meets its contract: a code's group says which fields are children.
 -- Assumes nothing.
-use mathlib.Core.Path.{_≡_}
-use Prim.Native.Nat.{ℕ}
-use native.Mathlib.Omega.{arith}
-use Rattle.operators.proofs.Groups.{in-unary, in-binary, off-unary, off-binary}
+use Rattle.operators.proofs.Groups.{in-unary, in-binary, in-neither}
 use Rattle.formula.specs.Kinds.{nodeOf}
 use Rattle.report.proofs.Marking.{marks-left, marks-both, marks-none}
 use borrow.Author.Needs.{needs}
@@ -26,9 +23,8 @@ returns-2 c =
 returns-3 : tie.Need-returns-3
 returns-3 c = let a = c .before .before .before .before .args in
     let f = c .before .before .operator-of in
-    marks-none (a .marks .now) (nodeOf (a .node))
-    (λ u. off-unary _ (f .result) (f .ensures) (λ g. let z : _≡_ {A = ℕ} 0 1 = cc (c .enum-told3 .given .1) in omega arith) (u .0) (u .1))
-    (λ u. off-binary _ (f .result) (f .ensures) (λ g. let z : _≡_ {A = ℕ} 0 1 = cc (c .enum-told3 .given .1) in omega arith) (u .0) (u .1))
+    let n = in-neither _ (f .result) (f .ensures) (c .enum-told3 .given .1) in
+    marks-none (a .marks .now) (nodeOf (a .node)) (λ u. n .0 (u .0) (u .1)) (λ u. n .1 (u .0) (u .1))
 
 pub mark-children-spec : {M : Type 1} → statement M
 mark-children-spec = tie.close (tie.spec

@@ -21,17 +21,15 @@ abbrev μ-loop : tie.MeasureT-loop
 
 loop-holds : tie.Need-loop-holds Inv-loop μ-loop
 loop-holds c =
-    let a = c .before .before .before .before .before .before .before .before .args in
+    let c₂ = c .before .before in
+    let c₈ = c₂ .before .before .before .before .before .before in
+    let a = c₈ .args in
     let e = c .count .ensures ∙ sym (length-nodes (a .codes .now) (a .lefts .now) (a .rights .now) (a .sizes .now)) in (
       omega (arith, e),
-      start-room (nodes (a .codes .now) (a .lefts .now) (a .rights .now) (a .sizes .now)) (nodeOf (a .root))
-          (c .before .before .before .before .before .before .before .before .pre) mostRoom _
-          (few-places (nodes (a .codes .now) (a .lefts .now) (a .rights .now) (a .sizes .now)) (nodeOf (a .root)) (c .before .before .before .before .before .before .before .before .pre))
-          (c .before .before .mark-children .ensures),
-      starts (nodes (a .codes .now) (a .lefts .now) (a .rights .now) (a .sizes .now)) (nodeOf (a .root))
-          (c .before .before .before .before .before .before .before .before .pre) mostRoom _
-          (few-places (nodes (a .codes .now) (a .lefts .now) (a .rights .now) (a .sizes .now)) (nodeOf (a .root)) (c .before .before .before .before .before .before .before .before .pre))
-          (c .before .before .mark-children .ensures) e,
+      start-room (nodes (a .codes .now) (a .lefts .now) (a .rights .now) (a .sizes .now)) (nodeOf (a .root)) (c₈ .pre) mostRoom _
+          (few-places (nodes (a .codes .now) (a .lefts .now) (a .rights .now) (a .sizes .now)) (nodeOf (a .root)) (c₈ .pre)) (c₂ .mark-children .ensures),
+      starts (nodes (a .codes .now) (a .lefts .now) (a .rights .now) (a .sizes .now)) (nodeOf (a .root)) (c₈ .pre) mostRoom _ (few-places (nodes
+          (a .codes .now) (a .lefts .now) (a .rights .now) (a .sizes .now)) (nodeOf (a .root)) (c₈ .pre)) (c₂ .mark-children .ensures) e,
     )
 
 mark-below-requires : tie.Need-mark-below-requires Inv-loop μ-loop
@@ -47,16 +45,19 @@ mark-below-requires c κs =
 
 loop-again : tie.Need-loop-again Inv-loop μ-loop
 loop-again c =
-    let a = c .before .before .before .before .before .before .before .before .before .before .before .before .before .args in
-    let l = c .before .before .before .before .loop in (
+    let c₁ = c .before in
+    let c₃ = c₁ .before .before in
+    let c₄ = c₃ .before in
+    let c₇ = c₄ .before .before .before in
+    let c₁₃ = c₇ .before .before .before .before .before .before in
+    let a = c₁₃ .args in
+    let l = c₄ .loop in (
       omega (arith, l .inv .0),
-      c .before .mark-below .ensures .same ∙ l .inv .1,
-      goes-on (nodes (a .codes .now) (a .lefts .now) (a .rights .now) (a .sizes .now)) (nodeOf (a .root))
-          (c .before .before .before .before .before .before .before .before .before .before .before .before .before .pre) mostRoom _
-          (few-places (nodes (a .codes .now) (a .lefts .now) (a .rights .now) (a .sizes .now)) (nodeOf (a .root))
-          (c .before .before .before .before .before .before .before .before .before .before .before .before .before .pre))
-          (c .before .before .before .before .before .before .before .mark-children .ensures) (l .q) _ (omega (arith, c .before .before .before .loop-test .taken)) (l .inv .0) (l .inv .1)
-          (l .inv .2) (c .before .mark-below .ensures),
+      c₁ .mark-below .ensures .same ∙ l .inv .1,
+      goes-on (nodes (a .codes .now) (a .lefts .now) (a .rights .now)
+          (a .sizes .now)) (nodeOf (a .root)) (c₁₃ .pre) mostRoom _ (few-places (nodes (a .codes .now) (a .lefts .now) (a .rights .now) (a .sizes .now))
+          (nodeOf (a .root)) (c₁₃ .pre)) (c₇ .mark-children .ensures) (l .q) _ (omega (arith, c₃ .loop-test .taken)) (l .inv .0) (l .inv .1) (l .inv .2)
+          (c₁ .mark-below .ensures),
     )
 
 returns : tie.Need-returns Inv-loop μ-loop

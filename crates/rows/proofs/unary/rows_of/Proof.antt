@@ -6,7 +6,7 @@ use native.Mathlib.Omega.{arith}
 use borrow.Author.Needs.{needs}
 use Rattle.rules.specs.Limits.{mostSessions}
 use Rattle.rows.proofs.Parts.{part-long}
-use Rattle.rows.proofs.Products.{at-most}
+use Rattle.leaves.proofs.Products.{at-most}
 use Rattle.rows.proofs.unary.rows_of.Statement.{statement}
 use Rattle.rows.proofs.unary.rows_of.Tie as tie
 

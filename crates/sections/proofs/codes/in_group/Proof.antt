@@ -1,9 +1,6 @@
 -- `in_group` meets its contract: the row of the table says which operators have the code.
 -- Assumes nothing.
-use mathlib.Core.Path.{_≡_}
-use Prim.Native.Nat.{ℕ}
-use native.Mathlib.Omega.{arith}
-use Rattle.operators.proofs.Groups.{in-unary, in-binary, off-unary, off-binary}
+use Rattle.operators.proofs.Groups.{in-unary, in-binary, in-neither}
 use Rattle.sections.proofs.CodeLaws.{group-unary, group-binary, group-neither}
 use borrow.Author.Needs.{needs}
 use Rattle.sections.proofs.codes.in_group.Statement.{statement}
@@ -24,8 +21,8 @@ returns-2 c =
 returns-3 : tie.Need-returns-3
 returns-3 c =
     let f = c .before .before .operator-of in
-    group-neither _ (c .before .before .before .args .unary) (off-unary _ (f .result) (f .ensures) (λ g. let z : _≡_ {A = ℕ} 0 1 = cc (c .enum-told3 .given .1) in omega arith))
-    (off-binary _ (f .result) (f .ensures) (λ g. let z : _≡_ {A = ℕ} 0 1 = cc (c .enum-told3 .given .1) in omega arith))
+    let n = in-neither _ (f .result) (f .ensures) (c .enum-told3 .given .1) in
+    group-neither _ (c .before .before .before .args .unary) (n .0) (n .1)
 
 pub in-group-spec : {M : Type 1} → statement M
 in-group-spec =

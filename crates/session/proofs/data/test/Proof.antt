@@ -6,6 +6,7 @@ use mathlib.Core.Logic.{inl, inr}
 use mathlib.Core.Bool.{true}
 use native.Mathlib.Nat.{mul-le-mul}
 use Rattle.session.specs.Data.{outsideNumbers, tooShort}
+use Rattle.session.specs.Recording.{recording}
 use Rattle.session.specs.Inner.{AllUpTo, AllClear}
 use Rattle.session.proofs.DataLaws.{is-1, is-3, is-4, is-5, is-6, is-0, inside, roomy}
 use borrow.Author.Needs.{needs}
@@ -17,11 +18,11 @@ numbers : (c : tie.Else4) → outsideNumbers (c .before .before .before .before 
 numbers c = inside _ _ (c .before .before .before .if1 .left) (c .before .before .if2 .left) (c .before .if3 .left) (c .if4 .left)
 
 -- past the next three, the slices are long enough
-rooms : (c : tie.Else7) → tooShort (c .before .before .before .before .before .before .before .before .before .before .args .r)
+rooms : (c : tie.Else7) → tooShort (recording (c .before .before .before .before .before .before .before .before .before .before .args .r)
     (c .before .before .before .before .before .before .before .before .before .before .args .m)
     (c .before .before .before .before .before .before .before .before .before .before .args .marks .now)
     (c .before .before .before .before .before .before .before .before .before .before .args .lengths .now)
-    (c .before .before .before .before .before .before .before .before .before .before .args .words .now) .given → ⊥
+    (c .before .before .before .before .before .before .before .before .before .before .args .words .now)) .given → ⊥
 rooms c = let a = c .before .before .before .before .before .before .before .before .before .before .args in roomy (a .r) (a .m) (a .marks .now)
     (a .lengths .now) (a .words .now) (c .before .before .if5 .left) (c .before .if6 .left) (c .if7 .left)
 
@@ -39,12 +40,10 @@ clear : (c : tie.Then9) → AllClear
     (c .before .before .before .before .before .before .before .before .before .before .before .before .before .before .args .words .now)
     (c .before .before .before .before .before .before .before .before .before .before .before .before .before .before .args .r)
     (c .before .before .before .before .before .before .before .before .before .before .before .before .before .before .args .m) true
-clear c = subst (AllClear
-    (c .before .before .before .before .before .before .before .before .before .before .before .before .before .before .args .lengths .now)
-    (c .before .before .before .before .before .before .before .before .before .before .before .before .before .before .args .words .now)
-    (c .before .before .before .before .before .before .before .before .before .before .before .before .before .before .args .r)
-    (c .before .before .before .before .before .before .before .before .before .before .before .before .before .before .args .m)) (c .if9 .taken)
-    (c .before .all-clear .ensures)
+clear c =
+    let c₁ = c .before in
+    let c₁₄ = c₁ .before .before .before .before .before .before .before .before .before .before .before .before .before in
+    subst (AllClear (c₁₄ .args .lengths .now) (c₁₄ .args .words .now) (c₁₄ .args .r) (c₁₄ .args .m)) (c .if9 .taken) (c₁ .all-clear .ensures)
 
 returns : tie.Need-returns
 returns c = let a = c .before .before .before .before .args in is-1 (a .r) (a .m) (a .marks .now) (a .lengths .now) (a .words .now) (inl (inl (c .if1 .taken)))

@@ -2,24 +2,25 @@
 -- Assumes nothing.
 use mathlib.Core.List.{_++_}
 use Rattle.writing.proofs.Writing.{wrote-both}
-use Rattle.writing.specs.Writing.{decimal}
-use Rattle.summary.specs.Line.{blank, newline, firstText}
+use Rattle.writing.specs.Writing.{decimal, newline}
+use Rattle.summary.specs.Line.{blank, firstText}
 use borrow.Author.Needs.{needs}
 use Rattle.summary.proofs.line.put_summary.Statement.{statement}
 use Rattle.summary.proofs.line.put_summary.Tie as tie
 
 returns : tie.Need-returns
 returns c =
-    let s =
-    c .before .before .before .before .before .before .before .before .before .before .before .before .before .before .before .before .before .before .before .before .before .before
-    .before .before .args .s in
+    let c₂ = c .before .before in
+    let c₇ = c₂ .before .before .before .before .before in
+    let c₁₂ = c₇ .before .before .before .before .before in
+    let c₁₇ = c₁₂ .before .before .before .before .before in
+    let c₂₁ = c₁₇ .before .before .before .before in
+    let c₂₄ = c₂₁ .before .before .before in
+    let s = c₂₄ .args .s in
     wrote-both (blank ++ firstText (s .holds)) ((blank ++ firstText (s .fails)) ++ (blank ++ (decimal (s .count) ++ newline)))
-    (c .before .before .before .before .before .before .before .before .before .before .before .before .before .before .before .before .before .before .before .before .before
-    .put-blank-first .ensures)
-    (wrote-both (blank ++ firstText (s .fails)) (blank ++ (decimal (s .count) ++ newline))
-    (c .before .before .before .before .before .before .before .before .before .before .before .before .before .before .before .before .before .put-blank-first2 .ensures)
-    (wrote-both blank (decimal (s .count) ++ newline) (c .before .before .before .before .before .before .before .before .before .before .before .before .put .ensures)
-    (wrote-both (decimal (s .count)) newline (c .before .before .before .before .before .before .before .put-decimal .ensures) (c .before .before .put2 .ensures))))
+    (c₂₁ .put-blank-first .ensures) (wrote-both (blank ++ firstText (s .fails)) (blank ++ (decimal (s .count) ++ newline))
+    (c₁₇ .put-blank-first2 .ensures) (wrote-both blank (decimal (s .count) ++ newline) (c₁₂ .put .ensures) (wrote-both (decimal (s .count)) newline
+    (c₇ .put-decimal .ensures) (c₂ .put2 .ensures))))
 
 pub put-summary-spec : {M : Type 1} → statement M
 put-summary-spec = tie.close (tie.spec

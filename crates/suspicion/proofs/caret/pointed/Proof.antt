@@ -8,7 +8,8 @@ use native.Mathlib.Omega.{arith}
 use lib.ListN.{replicate, length-replicate}
 use lib.Seq.{length-take-le}
 use Rattle.writing.proofs.Writing.{wrote-both}
-use Rattle.line.specs.Line.{newline, refusedAtLine}
+use Rattle.line.specs.Line.{refusedAtLine}
+use Rattle.writing.specs.Writing.{newline}
 use Rattle.suspicion.specs.Caret.{caret}
 use Rattle.suspicion.proofs.Typed.{take-replicate}
 use Rattle.suspicion.proofs.caret.pointed.Statement.{statement}

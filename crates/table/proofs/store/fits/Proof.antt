@@ -3,7 +3,7 @@
 use native.Mathlib.Omega.{arith}
 use borrow.Author.Needs.{needs}
 use Rattle.rules.specs.Limits.{mostSessions}
-use Rattle.rows.proofs.Products.{at-most}
+use Rattle.leaves.proofs.Products.{at-most}
 use Rattle.table.proofs.store.fits.Statement.{statement}
 use Rattle.table.proofs.store.fits.Tie as tie
 

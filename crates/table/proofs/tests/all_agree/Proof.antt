@@ -7,7 +7,7 @@ use native.Mathlib.Omega.{arith}
 use borrow.Author.Needs.{needs}
 use Rattle.rules.specs.Lists.{count}
 use Rattle.walk.specs.Input.{every}
-use Rattle.table.specs.Compare.{agreesAt}
+use Rattle.table.specs.Acceptance.{agreesAt}
 use Rattle.table.proofs.Acceptance.{every-start, every-turn, every-end}
 use Rattle.table.proofs.tests.all_agree.Statement.{statement}
 use Rattle.table.proofs.tests.all_agree.Tie as tie

@@ -1,56 +1,53 @@
--- `put_leaf` meets its contract: the name, or the constant's own letters.
+-- `put_leaf` meets its contract: a name out of the section, or a constant.
 -- Assumes nothing.
 use mathlib.Core.Path.{_≡_, subst}
+use mathlib.Core.List.{[]}
 use Prim.Native.Nat.{ℕ}
 use native.Mathlib.Omega.{arith}
-use mathlib.Core.List.{[]}
 use lib.ListN.{length, getD}
-use Rattle.formula.specs.Kinds.{nodeOf, nodes}
-use Rattle.names.specs.Names.{namesIn}
-use Rattle.writing.specs.Writing.{Wrote}
+use Rattle.formula.specs.Kinds.{nodeOf}
 use Rattle.formula.proofs.Faults.{proposition-under, true-code}
+use Rattle.names.specs.Names.{namesIn}
 use Rattle.names.proofs.Starts.{few-names}
+use Rattle.writing.specs.Writing.{Wrote}
 use Rattle.text.proofs.Printing.{proposition-text, false-text, true-text, known-written}
 use borrow.Author.Needs.{needs}
 use Rattle.text.proofs.text.put_leaf.Statement.{statement}
 use Rattle.text.proofs.text.put_leaf.Tie as tie
 
 put-name-requires : tie.Need-put-name-requires
-put-name-requires c κs = let s = c .before .before .before .before .before .before .before .before .before .before .before in
+put-name-requires c κs =
+    let s = c .before .before .before .before .before .before .before in
     let a = s .args in
-    let few = few-names (a .names .now) (s .pre .0 .good) in
-    let low = proposition-under (length (namesIn (a .names .now))) (nodes (a .codes .now) (a .lefts .now) (a .rights .now) (a .sizes .now)) (a .below) (nodeOf (a .node))
-    (s .pre .0 .fits) (c .before .before .before .if1 .taken) in
+    let r = s .pre .1 in
+    let few = few-names (a .names .now) (r .good) in
+    let low = proposition-under (length (namesIn (a .names .now))) (s .pre .0) _ (nodeOf (a .node)) (r .fits) (c .before .before .before .if1 .taken) in
     let e : c .before .before .from-left .result .0 ≡ a .node .left .0 = omega arith in
-    (s .pre .0 .good, omega arith)
+    (r .good, omega arith)
 
 returns : tie.Need-returns
-returns c = let s = c .before .before .before .before .before .before .before .before .before .before .before .before .before .before in
+returns c k =
+    let s = c .before .before .before .before .before .before .before .before .before .before in
     let a = s .args in
-    let few = few-names (a .names .now) (s .pre .0 .good) in
-    let low = proposition-under (length (namesIn (a .names .now))) (nodes (a .codes .now) (a .lefts .now) (a .rights .now) (a .sizes .now)) (a .below) (nodeOf (a .node))
-    (s .pre .0 .fits) (c .before .before .before .before .before .before .if1 .taken) in
+    let r = s .pre .1 in
+    let few = few-names (a .names .now) (r .good) in
+    let low = proposition-under (length (namesIn (a .names .now))) (s .pre .0) _ (nodeOf (a .node)) (r .fits) (c .before .before .before .before .before .before .if1 .taken) in
     let e : c .before .before .before .before .before .from-left .result .0 ≡ a .node .left .0 = omega arith in
     let w = subst (λ (p : ℕ). Wrote (a .room .now) (a .at) (getD (namesIn (a .names .now)) p []) (c .before .before .put-name .last .1 .1 .0)
     (c .before .before .put-name .result)) e (c .before .before .put-name .ensures) in
-    known-written (a .names .now) (nodes (a .codes .now) (a .lefts .now) (a .rights .now) (a .sizes .now)) (nodeOf (a .node))
-    (proposition-text (a .names .now) (nodes (a .codes .now) (a .lefts .now) (a .rights .now) (a .sizes .now)) (nodeOf (a .node))
-    (c .before .before .before .before .before .before .if1 .taken)) w
+    known-written (a .names .now) k (nodeOf (a .node)) (proposition-text (a .names .now) k (nodeOf (a .node)) (c .before .before .before .before .before .before .if1 .taken)) w
 
 returns-2 : tie.Need-returns-2
-returns-2 c =
-    let a = c .before .before .before .before .before .before .before .before .before .before .before .before .before .before .before .args in
-    known-written (a .names .now) (nodes (a .codes .now) (a .lefts .now) (a .rights .now) (a .sizes .now)) (nodeOf (a .node))
-    (false-text (a .names .now) (nodes (a .codes .now) (a .lefts .now) (a .rights .now) (a .sizes .now)) (nodeOf (a .node)) (c .before .before .before .before .before .if2 .taken))
-    (c .before .before .put .ensures)
+returns-2 c k =
+    let a = c .before .before .before .before .before .before .before .before .before .before .before .args in
+    known-written (a .names .now) k (nodeOf (a .node)) (false-text (a .names .now) k (nodeOf (a .node)) (c .before .before .before .before .before .if2 .taken)) (c .before .before .put .ensures)
 
 returns-3 : tie.Need-returns-3
-returns-3 c =
-    let s = c .before .before .before .before .before .before .before .before .before .before .before .before .before .before .before in
+returns-3 c k =
+    let s = c .before .before .before .before .before .before .before .before .before .before .before in
     let a = s .args in
-    known-written (a .names .now) (nodes (a .codes .now) (a .lefts .now) (a .rights .now) (a .sizes .now)) (nodeOf (a .node))
-    (true-text (a .names .now) (nodes (a .codes .now) (a .lefts .now) (a .rights .now) (a .sizes .now)) (nodeOf (a .node))
-    (true-code _ _ (a .below) (nodeOf (a .node)) (s .pre .0 .fits) (s .pre .1) (s .pre .2) (c .before .before .before .before .before .before .before .if1 .left)
+    known-written (a .names .now) k (nodeOf (a .node)) (true-text (a .names .now) k (nodeOf (a .node))
+    (true-code _ _ _ (nodeOf (a .node)) (s .pre .1 .fits) (s .pre .2) (s .pre .3) (c .before .before .before .before .before .before .before .if1 .left)
     (c .before .before .before .before .before .if2 .left))) (c .before .before .put2 .ensures)
 
 pub put-leaf-spec : {M : Type 1} → statement M

@@ -1,7 +1,7 @@
 -- `operator` meets its contract: each return is a law of `Operators`. It falls by the bytes that are left.
 -- Assumes nothing.
 use mathlib.Core.Path.{sym, _∙_}
-use Rattle.tokens.proofs.Operators.{inside, op-end, op-blank, op-and, op-or, op-implies, op-equiv, op-less-cut, op-until, op-release, op-none}
+use Rattle.tokens.proofs.Operators.{op-end, op-blank, op-and, op-or, op-implies, op-equiv, op-less-cut, op-until, op-release, op-none}
 use borrow.Author.Needs.{needs}
 use native.Mathlib.Omega.{arith}
 use lib.ListN.{length}

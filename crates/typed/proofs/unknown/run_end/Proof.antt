@@ -6,7 +6,6 @@ use Prim.Native.Nat.{ℕ, _-_, _≤_, _<_}
 use native.Mathlib.Omega.{arith}
 use borrow.Author.Needs.{needs}
 use lib.ListN.{length, getD}
-use Rattle.names.specs.Names.{isNameByte}
 use Rattle.typed.proofs.Unknowns.{Running, run-start, run-more, run-here, run-all}
 use Rattle.typed.proofs.unknown.run_end.Statement.{statement}
 use Rattle.typed.proofs.unknown.run_end.Tie as tie

@@ -1,0 +1,2 @@
+-- The law behind the counts.
+pub mod Tallies

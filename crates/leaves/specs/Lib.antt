@@ -1,0 +1,2 @@
+-- What a reader must believe of the leaves' rows.
+pub mod Leaves

@@ -1,0 +1,2 @@
+-- What a reader must believe of the masks.
+pub mod Masks

@@ -1,0 +1,2 @@
+-- The laws by which each return of the functions meets its contract.
+pub mod Fronts

@@ -1,0 +1,3 @@
+-- Codes, and that the contracts leave one answer.
+pub mod Codes
+pub mod Unique

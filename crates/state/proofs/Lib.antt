@@ -1,0 +1,2 @@
+-- The laws behind the proofs, by subject.
+pub mod Passing

@@ -1,0 +1,160 @@
+// The search as one loop (enum_aux in aux.rs): the next candidate, what becomes of it, the counts; a size's end and the next size's start.
+mod ends;
+
+use formula::kinds::Node;
+use split::Step;
+use starts::of_table;
+use state::State;
+ghost use mathlib.Core.Path.{_≡_};
+ghost use mathlib.Core.Bool.{not};
+ghost use Prim.Native.Nat.{_^_, _<_};
+ghost use lib.ListN.{length};
+ghost use Rattle.walk.specs.Input.{inputOf};
+ghost use Rattle.table.specs.Slices.{cols};
+ghost use Rattle.rules.specs.Answers.{Tested};
+ghost use Rattle.turns.specs.Turns.{Fits, Gone};
+ghost use Rattle.turns.specs.Inner.{beginState, Masked};
+
+// At most so many operators of a group are offered, none twice.
+const OPERATORS: usize = 6;
+
+// The state before the first candidate of the next size, by where the sizes begin.
+fn begin(starts: &[u16], before: State) -> State
+    requires { ⌜ before .size < 2 ^ 16 ⌝ }
+    ensures { λ r. ⌜ r ≡ beginState (now (starts .entry)) before ⌝ }
+{
+    let size = before.size + 1;
+    let at = order::first(starts, size);
+    ends::more(size, at, before.counts)
+}
+
+// The masks of the sessions, once for a call.
+fn masks_for(r: usize, lengths: &[u8]) -> [u64; rules::SESSIONS]
+    ensures { λ masks. ⌜ Masked r (now (lengths .entry)) masks ⌝ }
+{
+    let mut masks = [0u64; rules::SESSIONS];
+    masks::masks_of(r, lengths, &mut masks);
+    masks
+}
+
+// Whether the loop may not run: a number above document 01's limits, more operators of a group than there are, or a state that 14 refuses.
+fn unfit(
+    m: usize,
+    bound: usize,
+    room: usize,
+    constants: u8,
+    unary: &[u8],
+    binary: &[u8],
+    from: State,
+) -> bool
+    ensures { λ b. ⌜ Tested (Fits m bound room constants (length (now (unary .entry))) (length (now (binary .entry))) from) (not b) ⌝ }
+{
+    if rules::BOUND < bound {
+        return true;
+    }
+    if rules::ROOM < room {
+        return true;
+    }
+    if rules::PROPOSITIONS < m {
+        return true;
+    }
+    if OPERATORS < unary.len() {
+        return true;
+    }
+    if OPERATORS < binary.len() {
+        return true;
+    }
+    state::wrong(m, bound, room, constants, unary.len(), binary.len(), from)
+}
+
+// The walk from a state on, for at most so many candidates. It tests its own numbers, and where they are out of range it answers the state that it was handed
+// and writes nothing.
+pub fn go_on(
+    r: usize,
+    m: usize,
+    bound: usize,
+    room: usize,
+    constants: u8,
+    marks: &[u8],
+    lengths: &[u8],
+    words: &[u64],
+    unary: &[u8],
+    binary: &[u8],
+    budget: u64,
+    from: State,
+    codes: &mut [u8],
+    lefts: &mut [u16],
+    rights: &mut [u16],
+    sizes: &mut [u8],
+    matrices: &mut [u64],
+) -> State
+    ensures { λ state. ⌜ Gone
+        (inputOf r m bound room constants (now (marks .entry)) (now (lengths .entry)) (now (words .entry)) (now (unary .entry)) (now (binary .entry)))
+        budget from
+        (cols (now (codes .entry)) (now (lefts .entry)) (now (rights .entry)) (now (sizes .entry)) (now (matrices .entry)))
+        (cols (now (codes .exit)) (now (lefts .exit)) (now (rights .exit)) (now (sizes .exit)) (now (matrices .exit))) state ⌝ }
+{
+    if unfit(m, bound, room, constants, unary, binary, from) {
+        return from;
+    }
+    let masks = masks_for(r, lengths);
+    let mut rows = [0u64; rules::SESSIONS];
+    let mut state = from;
+    let mut left = budget;
+    let mut starts = of_table(sizes, state.counts.kept as u16);
+    loop {
+        let step = order::next(
+            state.at,
+            &starts,
+            state.size,
+            m as u8,
+            constants,
+            unary,
+            binary,
+        );
+        let Step::Candidate {
+            code,
+            left: l,
+            right: q,
+            next,
+        } = step
+        else {
+            if bound <= state.size {
+                return ends::none(state.size, state.counts);
+            }
+            starts = of_table(sizes, state.counts.kept as u16);
+            state = begin(&starts, state);
+            continue;
+        };
+        if left == 0 {
+            return ends::more(state.size, state.at, state.counts);
+        }
+        left -= 1;
+        let node = Node {
+            code,
+            left: l,
+            right: q,
+            size: state.size as u8,
+        };
+        let fate = candidate::judge(
+            r,
+            m,
+            room,
+            marks,
+            words,
+            &masks,
+            node,
+            state.counts.kept,
+            &mut rows,
+            codes,
+            lefts,
+            rights,
+            sizes,
+            matrices,
+        );
+        state = ends::after(state.size, state.counts, next, fate, node);
+        if state.end != 0 {
+            return state;
+        }
+    }
+}
