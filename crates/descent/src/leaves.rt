@@ -1,4 +1,7 @@
 // The leaf that a word is: a constant, or a name by its number.
+use formula::kinds::FALSE;
+use formula::kinds::PROPOSITION;
+use formula::kinds::TRUE;
 use names::lookup::FoundName;
 use names::lookup::find;
 use spelling::bytes::same;
@@ -18,15 +21,27 @@ fn word_leaf(names: &[u8], word: &[u8]) -> Leaf
     ensures { λ r. ⌜ WordIs (now (names .entry)) (now (word .entry)) r ⌝ }
 {
     if same(word, b"true") {
-        return Leaf { code: 18, left: 0 };
+        return Leaf {
+            code: TRUE,
+            left: 0,
+        };
     }
     if same(word, b"false") {
-        return Leaf { code: 17, left: 0 };
+        return Leaf {
+            code: FALSE,
+            left: 0,
+        };
     }
     let f = find(names, word);
     match f {
-        FoundName::At(p) => Leaf { code: 16, left: p },
-        FoundName::Nothing => Leaf { code: 16, left: 0 },
+        FoundName::At(p) => Leaf {
+            code: PROPOSITION,
+            left: p,
+        },
+        FoundName::Nothing => Leaf {
+            code: PROPOSITION,
+            left: 0,
+        },
     }
 }
 

@@ -2,15 +2,13 @@
 use formula::kinds::Node;
 use nodes_in::SEEN;
 use nodes_in::count_of;
-use nodes_out::Done;
+use nodes_out::Listed;
 use rules::ROOM;
 use rules::kinds::Place;
-use search::SearchAnswer;
 ghost use mathlib.Core.Path.{_≡_};
-ghost use Prim.Native.Nat.{_≤_};
 ghost use lib.ListN.{length};
 ghost use Rattle.nodes_in.specs.Arrays.{seen, Copied};
-ghost use Rattle.nodes_out.specs.Arrays.{putOver};
+ghost use Rattle.nodes_out.specs.Arrays.{putOver, Fits};
 
 fn blank() -> [Node; SEEN]
     ensures { λ r. ⌜ length r ≡ seen ⌝ }
@@ -38,37 +36,29 @@ pub(crate) fn copied(nodes: &[Node]) -> [Node; SEEN]
     list
 }
 
-fn nodes_of(done: Done) -> [Node; ROOM]
-    ensures { λ r. ⌜ r ≡ done .nodes ⌝ }
+fn nodes_of(listed: Listed) -> [Node; ROOM]
+    ensures { λ r. ⌜ r ≡ listed .nodes ⌝ }
 {
-    let nodes = done.nodes;
+    let nodes = listed.nodes;
     nodes
 }
 
-fn kept_of(done: Done) -> usize
-    ensures { λ r. ⌜ r ≡ done .kept ⌝ }
+fn number_of(listed: Listed) -> usize
+    ensures { λ r. ⌜ r ≡ listed .count ⌝ }
 {
-    done.kept
+    listed.count
 }
 
-fn answer_of(done: Done) -> SearchAnswer
-    ensures { λ r. ⌜ r ≡ done .answer ⌝ }
+// Nodes at the start of the lent list; the rest of it stays.
+pub(crate) fn put(listed: Listed, nodes: &mut [Node])
+    requires { ⌜ Fits listed (now nodes) ⌝ }
+    ensures { λ _. ⌜ now (nodes .exit) ≡ putOver listed (now (nodes .entry)) ⌝ }
 {
-    let answer = done.answer;
-    answer
-}
-
-// The kept nodes at the start of the lent list; the rest of it stays.
-pub(crate) fn put_back(done: Done, nodes: &mut [Node]) -> SearchAnswer
-    requires { ⌜ (done .kept ≤ length (done .nodes)) × (done .kept ≤ length (now nodes)) ⌝ }
-    ensures { λ r. ⌜ (r ≡ done .answer) × (now (nodes .exit) ≡ putOver done (now (nodes .entry))) ⌝ }
-{
-    let list = nodes_of(done);
-    let kept = kept_of(done);
+    let list = nodes_of(listed);
+    let count = number_of(listed);
     let mut i: usize = 0;
-    while i < kept {
+    while i < count {
         nodes[i] = list[i];
         i += 1;
     }
-    answer_of(done)
 }

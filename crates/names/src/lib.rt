@@ -21,7 +21,7 @@ ghost use Rattle.names.specs.Judged.{saidNames, namesSaid};
 // Document 01's numbers for a names section; for the contracts they are in specs/Names.antt.
 const PROPOSITIONS: usize = rules::PROPOSITIONS;
 
-const NAME_LENGTH: usize = 16;
+pub const NAME_LENGTH: usize = 16;
 
 // What a names section is: so many names, or broken at an offset.
 pub enum NamesAnswer {

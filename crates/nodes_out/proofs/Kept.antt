@@ -21,7 +21,7 @@ use Rattle.checks.specs.Refusals.{settingWrong, noRoom, searchRows}
 use Rattle.search.specs.Search.{saidSearch, walkSaid, Outcome, Searched}
 use Rattle.nodes_out.specs.declared.Done.{Done}
 use Rattle.nodes_out.specs.Columns.{nodeCols}
-use Rattle.nodes_out.specs.Arrays.{room, keptOf, putOver, Works}
+use Rattle.nodes_out.specs.Arrays.{room, keptOf, putOver, Fits, Works}
 use Rattle.nodes_in.specs.Arrays.{FieldsFilled}
 use Rattle.nodes_in.proofs.Fields.{map-take}
 
@@ -159,10 +159,10 @@ pub record Ran (i : Input) (n : ℕ) (old : List ℕ) (d : Done) (new : List ℕ
   pub codes-left : length (left .codes) ≡ length (given .codes)
   pub old-is : given .matrices ≡ old
   pub new-is : left .matrices ≡ new
-  pub kept-is : d .kept ≡ keptOf (d .answer)
-  pub room-is : length (d .nodes) ≡ room
+  pub kept-is : d .listed .count ≡ keptOf (d .answer)
+  pub room-is : length (d .listed .nodes) ≡ room
   pub searched : Searched i given (d .answer) left
-  pub filled : FieldsFilled (d .nodes) (d .kept) (left .codes ++ codes-beyond) (left .lefts ++ lefts-beyond) (left .rights ++ rights-beyond) (left .sizes ++ sizes-beyond)
+  pub filled : FieldsFilled (d .listed .nodes) (d .listed .count) (left .codes ++ codes-beyond) (left .lefts ++ lefts-beyond) (left .rights ++ rights-beyond) (left .sizes ++ sizes-beyond)
 
 module _ (i : Input) (n : ℕ) (old : List ℕ) (d : Done) (new : List ℕ) (ran : Ran i n old d new) (ns : List Node) (long : length ns ≡ n) where
   cut : CutTo (ran .given) (nodeCols ns old)
@@ -175,27 +175,27 @@ module _ (i : Input) (n : ℕ) (old : List ℕ) (d : Done) (new : List ℕ) (ran
   }
 
   Answered : Type 0
-  Answered = ((d .kept ≤ room) × (d .kept ≤ n)) × (nodeCols (putOver d ns) new ≡ tableOver (kept (search i)) (nodeCols ns old))
+  Answered = ((d .listed .count ≤ room) × (d .listed .count ≤ n)) × (nodeCols (putOver (d .listed) ns) new ≡ tableOver (kept (search i)) (nodeCols ns old))
 
   -- an answer that is no refusal
-  answered : (say : Said) → d .kept ≡ keptIn (say .values) → say ≡ walkSaid (search i) → ran .left ≡ tableOver (kept (search i)) (ran .given) → Answered
+  answered : (say : Said) → d .listed .count ≡ keptIn (say .values) → say ≡ walkSaid (search i) → ran .left ≡ tableOver (kept (search i)) (ran .given) → Answered
   unfolding Answered
   answered say k e t =
       let K = kept (search i) in
-      let l : d .kept ≡ length K = k ∙ ap (λ (x : Said). keptIn (x .values)) e ∙ kept-walk (search i) in
+      let l : d .listed .count ≡ length K = k ∙ ap (λ (x : Said). keptIn (x .values)) e ∙ kept-walk (search i) in
       let f = ran .filled in
       let w = within (map (λ c. c .node .code) K) (ran .given .codes) (ran .left .codes) (ap (λ (x : Cols). x .codes) t) (ran .codes-left) in
       let g = ran .codes-given in
       let m = length-map K (λ c. c .node .code) in (
         (omega (arith, w, g, m), omega (arith, w, g, m)),
         rw (
-          column (λ x. x .code) (map (λ c. c .node .code) K) (ran .given .codes) (ran .left .codes) (ran .codes-beyond) ns (d .nodes) (d .kept)
+          column (λ x. x .code) (map (λ c. c .node .code) K) (ran .given .codes) (ran .left .codes) (ran .codes-beyond) ns (d .listed .nodes) (d .listed .count)
               (length-map K (λ c. c .node .code) ∙ sym l) (ap (λ (x : Cols). x .codes) t) (f .codes-are),
-          column (λ x. x .left .0) (map (λ c. c .node .left) K) (ran .given .lefts) (ran .left .lefts) (ran .lefts-beyond) ns (d .nodes) (d .kept)
+          column (λ x. x .left .0) (map (λ c. c .node .left) K) (ran .given .lefts) (ran .left .lefts) (ran .lefts-beyond) ns (d .listed .nodes) (d .listed .count)
               (length-map K (λ c. c .node .left) ∙ sym l) (ap (λ (x : Cols). x .lefts) t) (f .lefts-are),
-          column (λ x. x .right .0) (map (λ c. c .node .right) K) (ran .given .rights) (ran .left .rights) (ran .rights-beyond) ns (d .nodes) (d .kept)
+          column (λ x. x .right .0) (map (λ c. c .node .right) K) (ran .given .rights) (ran .left .rights) (ran .rights-beyond) ns (d .listed .nodes) (d .listed .count)
               (length-map K (λ c. c .node .right) ∙ sym l) (ap (λ (x : Cols). x .rights) t) (f .rights-are),
-          column (λ x. x .size) (map (λ c. c .node .size) K) (ran .given .sizes) (ran .left .sizes) (ran .sizes-beyond) ns (d .nodes) (d .kept)
+          column (λ x. x .size) (map (λ c. c .node .size) K) (ran .given .sizes) (ran .left .sizes) (ran .sizes-beyond) ns (d .listed .nodes) (d .listed .count)
               (length-map K (λ c. c .node .size) ∙ sym l) (ap (λ (x : Cols). x .sizes) t) (f .sizes-are),
           sym (ran .new-is) ∙ ap (λ (x : Cols). x .matrices) t ∙ ap (λ (x : List ℕ). over (flatMap (λ c. c .matrix) K) x) (ran .old-is),
         ),
@@ -203,7 +203,7 @@ module _ (i : Input) (n : ℕ) (old : List ℕ) (d : Done) (new : List ℕ) (ran
 
   -- each answer
   outcome-over : (a : SearchAnswer) → d .answer ≡ a → Outcome i (ran .given) a (ran .left)
-      → ((d .kept ≤ room) × (d .kept ≤ n)) × Outcome i (nodeCols ns old) a (nodeCols (putOver d ns) new)
+      → ((d .listed .count ≤ room) × (d .listed .count ≤ n)) × Outcome i (nodeCols ns old) a (nodeCols (putOver (d .listed) ns) new)
   unfolding Answered keptIn
   outcome-over (Found root n) e o =
       let x = answered (saidSearch (Found root n)) (ran .kept-is ∙ ap keptOf e) (o .0) (o .1) in (x .0, (o .0, x .1))
@@ -212,11 +212,11 @@ module _ (i : Input) (n : ℕ) (old : List ℕ) (d : Done) (new : List ℕ) (ran
   outcome-over (Full size n) e o =
       let x = answered (saidSearch (Full size n)) (ran .kept-is ∙ ap keptOf e) (o .0) (o .1) in (x .0, (o .0, x .1))
   outcome-over (Refused k) e o =
-      let z : d .kept ≡ 0 = ran .kept-is ∙ ap keptOf e in
+      let z : d .listed .count ≡ 0 = ran .kept-is ∙ ap keptOf e in
       let m : new ≡ old = sym (ran .new-is) ∙ ap (λ (x : Cols). x .matrices) (o .1) ∙ ran .old-is in
-      ((omega arith, omega arith), (o .0, ap (λ (j : ℕ). nodeCols (take j (d .nodes) ++ drop j ns) new) z ∙ ap (nodeCols ns) m))
+      ((omega arith, omega arith), (o .0, ap (λ (j : ℕ). nodeCols (take j (d .listed .nodes) ++ drop j ns) new) z ∙ ap (nodeCols ns) m))
 
-  works-over : ((d .kept ≤ length (d .nodes)) × (d .kept ≤ length ns)) × Searched i (nodeCols ns old) (d .answer) (nodeCols (putOver d ns) new)
+  works-over : Fits (d .listed) ns × Searched i (nodeCols ns old) (d .answer) (nodeCols (putOver (d .listed) ns) new)
   works-over =
       let x = outcome-over (d .answer) refl (ran .searched .outcome) in
       let b = x .0 in (

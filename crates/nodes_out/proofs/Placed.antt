@@ -23,7 +23,7 @@ use Rattle.reader.proofs.Scratch.{nodes-length}
 use Rattle.nodes_out.specs.declared.Read.{Read}
 use Rattle.nodes_in.specs.Arrays.{FieldsFilled}
 use Rattle.nodes_out.specs.Columns.{fields}
-use Rattle.nodes_out.specs.Arrays.{room, countIn, placedOver, ReadIn}
+use Rattle.nodes_out.specs.Arrays.{room, countIn, putOver, Fits, ReadIn}
 use Rattle.nodes_out.proofs.Kept.{column, within}
 
 -- ---- the rows, for slices of other lengths
@@ -138,10 +138,10 @@ pub record Ran (file text : List ℕ) (n : ℕ) (d : Read) : Type 0 where
   pub rights-given : length (given .rights) ≡ min n room
   pub sizes-given : length (given .sizes) ≡ min n room
   pub codes-left : length (left .codes) ≡ length (given .codes)
-  pub count-is : d .count ≡ countIn (d .answer)
-  pub room-is : length (d .nodes) ≡ room
+  pub count-is : d .listed .count ≡ countIn (d .answer)
+  pub room-is : length (d .listed .nodes) ≡ room
   pub parsed : Parses file text given left (saidParsed (d .answer))
-  pub filled : FieldsFilled (d .nodes) (d .count) (left .codes ++ codes-beyond) (left .lefts ++ lefts-beyond) (left .rights ++ rights-beyond) (left .sizes ++ sizes-beyond)
+  pub filled : FieldsFilled (d .listed .nodes) (d .listed .count) (left .codes ++ codes-beyond) (left .lefts ++ lefts-beyond) (left .rights ++ rights-beyond) (left .sizes ++ sizes-beyond)
 
 module _ (file text : List ℕ) (n : ℕ) (d : Read) (ran : Ran file text n d) (ns : List Node) (long : length ns ≡ n) where
   abbrev answer : Said
@@ -155,22 +155,22 @@ module _ (file text : List ℕ) (n : ℕ) (d : Read) (ran : Ran file text n d) (
       alike _ _ _ _ _ (ran .codes-given) (ran .lefts-given) (ran .rights-given) (ran .sizes-given)
       ∙ ap (λ (m : ℕ). min m room) (sym (alike _ _ _ _ n (as-long (λ m. m .code)) (as-long (λ m. m .left .0)) (as-long (λ m. m .right .0)) (as-long (λ m. m .size))))
 
-  placed : (t : Formula) → d .count ≡ size t → ran .left ≡ nodesOver (list t) (ran .given) → fields (placedOver d ns) ≡ nodesOver (list t) (fields ns)
+  placed : (t : Formula) → d .listed .count ≡ size t → ran .left ≡ nodesOver (list t) (ran .given) → fields (putOver (d .listed) ns) ≡ nodesOver (list t) (fields ns)
   placed t k e =
       let f = ran .filled in
-      let l : length (list t) ≡ d .count = nodes-length codes 0 t ∙ sym k in
+      let l : length (list t) ≡ d .listed .count = nodes-length codes 0 t ∙ sym k in
       rw (
-        column (λ x. x .code) (map (λ m. m .code) (list t)) (ran .given .codes) (ran .left .codes) (ran .codes-beyond) ns (d .nodes) (d .count)
+        column (λ x. x .code) (map (λ m. m .code) (list t)) (ran .given .codes) (ran .left .codes) (ran .codes-beyond) ns (d .listed .nodes) (d .listed .count)
             (length-map (list t) (λ m. m .code) ∙ l) (ap (λ (x : Columns). x .codes) e) (f .codes-are),
-        column (λ x. x .left .0) (map (λ m. m .left) (list t)) (ran .given .lefts) (ran .left .lefts) (ran .lefts-beyond) ns (d .nodes) (d .count)
+        column (λ x. x .left .0) (map (λ m. m .left) (list t)) (ran .given .lefts) (ran .left .lefts) (ran .lefts-beyond) ns (d .listed .nodes) (d .listed .count)
             (length-map (list t) (λ m. m .left) ∙ l) (ap (λ (x : Columns). x .lefts) e) (f .lefts-are),
-        column (λ x. x .right .0) (map (λ m. m .right) (list t)) (ran .given .rights) (ran .left .rights) (ran .rights-beyond) ns (d .nodes) (d .count)
+        column (λ x. x .right .0) (map (λ m. m .right) (list t)) (ran .given .rights) (ran .left .rights) (ran .rights-beyond) ns (d .listed .nodes) (d .listed .count)
             (length-map (list t) (λ m. m .right) ∙ l) (ap (λ (x : Columns). x .rights) e) (f .rights-are),
-        column (λ x. x .size) (map (λ m. m .size) (list t)) (ran .given .sizes) (ran .left .sizes) (ran .sizes-beyond) ns (d .nodes) (d .count)
+        column (λ x. x .size) (map (λ m. m .size) (list t)) (ran .given .sizes) (ran .left .sizes) (ran .sizes-beyond) ns (d .listed .nodes) (d .listed .count)
             (length-map (list t) (λ m. m .size) ∙ l) (ap (λ (x : Columns). x .sizes) e) (f .sizes-are),
       )
 
-  taken-over : Taken file text (ran .given) (ran .left) answer → Taken file text (fields ns) (fields (placedOver d ns)) answer
+  taken-over : Taken file text (ran .given) (ran .left) answer → Taken file text (fields ns) (fields (putOver (d .listed) ns)) answer
   taken-over t = record {
     number = t .number;
     formula = t .formula;
@@ -180,12 +180,12 @@ module _ (file text : List ℕ) (n : ℕ) (d : Read) (ran : Ran file text n d) (
     nodes = placed (t .formula) (ran .count-is ∙ count-taken (d .answer) (size (t .formula)) (t .number) (t .values)) (t .nodes);
   }
 
-  refused-over : (answer .number ≡ 0 → ⊥) → fields (placedOver d ns) ≡ fields ns
+  refused-over : (answer .number ≡ 0 → ⊥) → fields (putOver (d .listed) ns) ≡ fields ns
   refused-over f =
-      let z : d .count ≡ 0 = ran .count-is ∙ count-refused (d .answer) f in
-      ap (λ (k : ℕ). fields (take k (d .nodes) ++ drop k ns)) z
+      let z : d .listed .count ≡ 0 = ran .count-is ∙ count-refused (d .answer) f in
+      ap (λ (k : ℕ). fields (take k (d .listed .nodes) ++ drop k ns)) z
 
-  over-list : ((d .count ≤ length (d .nodes)) × (d .count ≤ length ns)) × Parses file text (fields ns) (fields (placedOver d ns)) answer
+  over-list : Fits (d .listed) ns × Parses file text (fields ns) (fields (putOver (d .listed) ns)) answer
   over-list =
       let b = count-within file text (ran .given) (ran .left) (d .answer) (ran .parsed) (ran .codes-left) in
       let g = ran .codes-given in
@@ -194,7 +194,7 @@ module _ (file text : List ℕ) (n : ℕ) (d : Read) (ran : Ran file text n d) (
         (omega (arith, b, g, c, m), omega (arith, b, g, c)),
         record {
           answer = same-rows file text (ran .given) (fields ns) room-cut (Taken file text (ran .given) (ran .left))
-              (Taken file text (fields ns) (fields (placedOver d ns))) answer taken-over (ran .parsed .answer);
+              (Taken file text (fields ns) (fields (putOver (d .listed) ns))) answer taken-over (ran .parsed .answer);
           refused = refused-over;
         },
       )

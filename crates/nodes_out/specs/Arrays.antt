@@ -15,6 +15,7 @@ use Rattle.reader.specs.declared.Parsed.{Parsed}
 use Rattle.reader.specs.declared.Parsed.the-variants.{Nodes, Broken, Stops, Unknown}
 use Rattle.reader.specs.declared.Parsed.the-variants as reader
 use Rattle.reader.specs.Parsing.{saidParsed, Parses}
+use Rattle.nodes_out.specs.declared.Listed.{Listed}
 use Rattle.nodes_out.specs.declared.Done.{Done}
 use Rattle.nodes_out.specs.declared.Read.{Read}
 use Rattle.nodes_out.specs.Columns.{nodeCols, fields}
@@ -30,15 +31,19 @@ keptOf (None n) = n .kept
 keptOf (Full size n) = n .kept
 keptOf (search.Refused k) = 0
 
--- the kept nodes, over what was there before
-abbrev pub putOver : Done → List Node → List Node
-putOver d ns = take (d .kept) (d .nodes) ++ drop (d .kept) ns
+-- nodes, over what was there before
+abbrev pub putOver : Listed → List Node → List Node
+putOver l ns = take (l .count) (l .nodes) ++ drop (l .count) ns
+
+-- there is room for them in the array and in a list
+abbrev pub Fits : Listed → List Node → Type 0
+Fits l ns = (l .count ≤ length (l .nodes)) × (l .count ≤ length ns)
 
 -- for whatever list of n nodes is lent: there is room for the kept ones, and with these put over its first places it is as the search has to leave it
 abbrev pub Works : Input → ℕ → List ℕ → Done → List ℕ → Type 0
 Works i n old d new =
     (ns : List Node) → length ns ≡ n
-    → ((d .kept ≤ length (d .nodes)) × (d .kept ≤ length ns)) × Searched i (nodeCols ns old) (d .answer) (nodeCols (putOver d ns) new)
+    → Fits (d .listed) ns × Searched i (nodeCols ns old) (d .answer) (nodeCols (putOver (d .listed) ns) new)
 
 -- ---- the formula reader
 
@@ -50,12 +55,8 @@ countIn (Stops o) = 0
 countIn (Unknown o) = 0
 countIn (reader.Refused k) = 0
 
--- the formula's nodes, over what was there before
-abbrev pub placedOver : Read → List Node → List Node
-placedOver d ns = take (d .count) (d .nodes) ++ drop (d .count) ns
-
 -- for whatever list of n nodes is lent: there is room for the formula's, and with these put over its first places it is as the reader has to leave it
 abbrev pub ReadIn : List ℕ → List ℕ → ℕ → Read → Type 0
 ReadIn file text n d =
     (ns : List Node) → length ns ≡ n
-    → ((d .count ≤ length (d .nodes)) × (d .count ≤ length ns)) × Parses file text (fields ns) (fields (placedOver d ns)) (saidParsed (d .answer))
+    → Fits (d .listed) ns × Parses file text (fields ns) (fields (putOver (d .listed) ns)) (saidParsed (d .answer))

@@ -11,18 +11,22 @@ ghost use Rattle.walk.specs.Input.{inputOf};
 ghost use Rattle.nodes_in.specs.Arrays.{FieldsFilled};
 ghost use Rattle.nodes_out.specs.Arrays.{room, keptOf, countIn, Works, ReadIn};
 
-// What a search leaves: its answer, and the kept nodes at the start of an array.
-pub struct Done {
-    pub answer: SearchAnswer,
-    pub nodes: [Node; ROOM],
-    pub kept: usize,
-}
-
-// What reading leaves: its answer, and the formula's nodes at the start of an array.
-pub struct Read {
-    pub answer: Parsed,
+// Nodes at the start of an array.
+pub struct Listed {
     pub nodes: [Node; ROOM],
     pub count: usize,
+}
+
+// What a search leaves: its answer, and the kept nodes.
+pub struct Done {
+    pub answer: SearchAnswer,
+    pub listed: Listed,
+}
+
+// What reading leaves: its answer, and the formula's nodes.
+pub struct Read {
+    pub answer: Parsed,
+    pub listed: Listed,
 }
 
 fn bytes() -> [u8; ROOM]
@@ -122,7 +126,7 @@ pub fn search(
         (inputOf r m bound room constants (now (marks .entry)) (now (lengths .entry)) (now (words .entry)) (now (unary .entry)) (now (binary .entry)))
         length (now (matrices .entry)) d (now (matrices .exit)) ⌝ }
 {
-    let count = room_of(length);
+    let least = room_of(length);
     let mut codes = bytes();
     let mut lefts = places();
     let mut rights = places();
@@ -138,18 +142,17 @@ pub fn search(
         words,
         unary,
         binary,
-        &mut codes[..count],
-        &mut lefts[..count],
-        &mut rights[..count],
-        &mut sizes[..count],
+        &mut codes[..least],
+        &mut lefts[..least],
+        &mut rights[..least],
+        &mut sizes[..least],
         matrices,
     );
-    let kept = kept_in(answer);
-    let nodes = pack(codes, lefts, rights, sizes, kept);
+    let count = kept_in(answer);
+    let nodes = pack(codes, lefts, rights, sizes, count);
     Done {
         answer,
-        nodes,
-        kept,
+        listed: Listed { nodes, count },
     }
 }
 
@@ -174,7 +177,6 @@ pub fn parse(names: &[u8], text: &[u8], length: usize) -> Read
     let nodes = pack(codes, lefts, rights, sizes, count);
     Read {
         answer,
-        nodes,
-        count,
+        listed: Listed { nodes, count },
     }
 }

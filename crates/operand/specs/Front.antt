@@ -7,23 +7,23 @@ use Prim.Native.Nat.{ℕ, suc, _+_, _-_, _≤_, _<_}
 use lib.ListN.{length, take, drop, getD}
 use Rattle.sequence.specs.Operators.{Unary, unaryCode}
 use Rattle.sequence.specs.Operators.Unary.{strongNext}
-use Rattle.names.specs.Names.{isNameByte}
+use Rattle.names.specs.Names.{nameLength, isNameByte}
 use Rattle.grammar.specs.Token.{Atom, pre, atom, opens}
 use Rattle.grammar.specs.Scan.{leafy, classify, ready, after, rest, word as inWord}
 use Rattle.grammar.specs.Passing.{ScanPasses, Stops, Refuses}
 use Rattle.operand.specs.declared.Awaited.{Awaited}
 use Rattle.operand.specs.declared.Awaited.the-variants.{Operator as PrefixOperator, Open, Word as LeafWord, Bad as NoOperand}
 
--- a word so far goes on from i to r; from there no word's byte comes, or the word has all its 16
+-- a word so far goes on from i to r; from there no word's byte comes, or the word is as long as a name may be
 pub record Ran (text : List ℕ) (start i r : ℕ) : Type 0 where
   pub forward : i ≤ r
   pub within : r ≤ length text
-  pub short : r ≤ start + 16
-  pub stops : r < start + 16 → isNameByte (getD text r 0) ≡ false
+  pub short : r ≤ start + nameLength
+  pub stops : r < start + nameLength → isNameByte (getD text r 0) ≡ false
   pub grows : (v : List ℕ) → start + length v ≡ i → (x : List ℕ) × (start + length (v ++ x) ≡ r) × ((d : ℕ)
       → ScanPasses text (inWord v d) i [] (inWord (v ++ x) d) r) × (take (r - i) (drop i text) ≡ x)
 
--- behind `X[`
+-- behind `X[`: 33 is `!`, 93 is `]`
 abbrev pub Strong : List ℕ → ℕ → Awaited → Type 0
 Strong text at (PrefixOperator next code) = (at < next) × ((d : ℕ) → ScanPasses text (rest 33 (93 ∷ []) (pre strongNext) d) at (pre strongNext ∷ []) (ready d) next) × (code ≡ unaryCode strongNext)
 Strong text at (Open next) = ⊥

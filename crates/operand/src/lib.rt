@@ -6,7 +6,7 @@ ghost use mathlib.Core.Path.{_≡_};
 ghost use mathlib.Core.Bool.{true};
 ghost use Prim.Native.Nat.{_≤_, _<_, _+_};
 ghost use lib.ListN.{length, getD};
-ghost use Rattle.names.specs.Names.{isLetter};
+ghost use Rattle.names.specs.Names.{nameLength, isLetter};
 ghost use Rattle.operand.specs.Front.{Front, Fronts, Ran, Strong};
 
 // A prefix operator, an opening bracket or a leaf, up to its end; or no operand.
@@ -17,12 +17,12 @@ pub enum Awaited {
     Bad(usize),
 }
 
-// The end of a word's bytes, at most 16 from its start.
+// The end of a word's bytes, at most a name's from its start.
 fn run(text: &[u8], start: usize, i: usize) -> usize
-    requires { ⌜ (start < i) × (i ≤ start + 16) × (i ≤ length (now text)) ⌝ }
+    requires { ⌜ (start < i) × (i ≤ start + nameLength) × (i ≤ length (now text)) ⌝ }
     ensures { λ r. ⌜ Ran (now (text .entry)) start i r ⌝ }
 {
-    if 16 <= i - start {
+    if names::NAME_LENGTH <= i - start {
         return i;
     }
     let b = bytes::byte(text, i);

@@ -1,12 +1,14 @@
--- A row's group says which operator has its code.
+-- A row's group says which operator has its code, and whether it is the group that is asked for.
 -- Assumes nothing.
 use mathlib.Core.Path.{_≡_, ap}
+use mathlib.Core.Bool.{Bool, true, false, not}
 use Prim.Native.Nat.{ℕ}
 use native.Mathlib.Omega.{arith}
 use Rattle.operators.specs.declared.Operator.{Operator}
 use Rattle.operators.specs.declared.Group.the-variants.{Unary, Binary, Neither}
 use Rattle.sequence.specs.Operators as ops
-use Rattle.operators.specs.Table.{Listed, unary, binary, neither}
+use Rattle.operators.specs.Table.{Listed, unary, binary, neither, GroupIs}
+use Rattle.rules.specs.Answers.{Tested}
 use Rattle.sequence.proofs.Groups.{unary-below, binary-between}
 
 module _ (code : ℕ) (r : Operator) where
@@ -41,3 +43,17 @@ module _ (code : ℕ) (r : Operator) where
   in-neither (neither m n q) g = (m, n)
   in-neither (unary op e q) g = let z : _≡_ {A = ℕ} 0 1 = cc in absurd (omega arith)
   in-neither (binary op e q) g = let z : _≡_ {A = ℕ} 0 1 = cc in absurd (omega arith)
+
+-- ---- the group that is asked for
+
+pub group-unary : (u : Bool) (c : ℕ) (op : ops.Unary) → ops.unaryCode op ≡ c → Tested (GroupIs u c) u
+group-unary true c op e = (op, e)
+group-unary false c op e = λ w. omega (arith, unary-below op, e, binary-between (w .0) .0, w .1)
+
+pub group-binary : (u : Bool) (c : ℕ) (op : ops.Binary) → ops.binaryCode op ≡ c → Tested (GroupIs u c) (not u)
+group-binary true c op e = λ w. omega (arith, unary-below (w .0), w .1, binary-between op .0, e)
+group-binary false c op e = (op, e)
+
+pub group-neither : (u : Bool) (c : ℕ) → ((op : ops.Unary) → ops.unaryCode op ≡ c → ⊥) → ((op : ops.Binary) → ops.binaryCode op ≡ c → ⊥) → GroupIs u c → ⊥
+group-neither true c a b w = a (w .0) (w .1)
+group-neither false c a b w = b (w .0) (w .1)

@@ -1,7 +1,7 @@
 -- The rows of the constant table of operators.
 -- Assumes nothing.
 use mathlib.Core.Path.{_≡_}
-use mathlib.Core.Bool.{false}
+use mathlib.Core.Bool.{Bool, true, false}
 use mathlib.Core.List.{List, [], _∷_, _++_}
 use Prim.Native.Nat.{ℕ}
 use lib.ListN.{length, take}
@@ -29,3 +29,8 @@ pub data Listed (code : ℕ) (r : Operator) : Type 0 where
   unary : (op : ops.Unary) → ops.unaryCode op ≡ code → r ≡ unaryListed op → Listed code r
   binary : (op : ops.Binary) → ops.binaryCode op ≡ code → r ≡ binaryListed op → Listed code r
   neither : ((op : ops.Unary) → ops.unaryCode op ≡ code → ⊥) → ((op : ops.Binary) → ops.binaryCode op ≡ code → ⊥) → r ≡ noRow → Listed code r
+
+-- the code is one of the unary group, or of the binary one
+abbrev pub GroupIs : Bool → ℕ → Type 0
+GroupIs true c = (op : ops.Unary) × (ops.unaryCode op ≡ c)
+GroupIs false c = (op : ops.Binary) × (ops.binaryCode op ≡ c)

@@ -3,9 +3,10 @@ use sequence::Answer;
 use sequence::CharSeq;
 ghost use mathlib.Core.Path.{_≡_};
 ghost use mathlib.Core.List.{[], _∷_};
+ghost use Rattle.rules.specs.Answers.{Tested};
 ghost use Rattle.rules.specs.Refusals.{Decided, firstOf};
 ghost use Rattle.sequence.specs.Sequence.{notUnary, notBinary, unequal, UnaryAnswer, BinaryAnswer};
-ghost use Rattle.operators.specs.Table.{Listed};
+ghost use Rattle.operators.specs.Table.{Listed, GroupIs};
 
 pub enum Group {
     Unary,
@@ -106,6 +107,18 @@ pub fn operator_of(code: u8) -> Operator
             group: Group::Neither,
             commutes: false,
         }
+    }
+}
+
+// Whether the code's group, by the table, is the one asked for.
+pub fn in_group(code: u8, unary: bool) -> bool
+    ensures { λ b. ⌜ Tested (GroupIs unary code) b ⌝ }
+{
+    let group = operator_of(code).group;
+    match group {
+        Group::Unary => unary,
+        Group::Binary => !unary,
+        Group::Neither => false,
     }
 }
 

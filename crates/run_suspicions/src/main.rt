@@ -5,7 +5,7 @@
 use stored::say;
 
 fn answer(typed: &[u8], file: &[u8]) {
-    let mut text = [0u8; 8248];
+    let mut text = [0u8; suspicion::LONGEST];
     let length = suspicion::of_typed(typed, file, &mut text);
     say(&text[..length]);
 }

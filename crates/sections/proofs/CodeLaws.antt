@@ -9,6 +9,8 @@ use borrow.Author.Tests.{eq-eqb, eqb-true, not-true}
 use lib.Dec.{eqb}
 use Rattle.sequence.specs.Operators.{Unary, Binary, unaryCode, binaryCode, Coded, unary, binary, neither, decode}
 use Rattle.sequence.proofs.Decoding.{decode-unary, decode-binary}
+use Rattle.operators.specs.Table.{GroupIs}
+use Rattle.rules.specs.Answers.{Tested}
 use Rattle.reading.specs.Reading.{one, isIn}
 use Rattle.sections.specs.Sections.{unaryGroup, binaryGroup, isUnary, isBinary, groupOf, code}
 use Rattle.reading.proofs.Lists.{and-first, and-second, and-both, not-in, in-not, true-false}
@@ -60,25 +62,19 @@ module _ (c : ℕ) where
       go (binary op) e t = (op, e)
       go neither e t = absurd (true-false t refl)
 
-  -- the group that a code is in, as the code asks for it
-  pub group-unary : (u : Bool) (op : Unary) → unaryCode op ≡ c → u ≡ groupOf u c
-  group-unary true op e = sym (subst (λ (x : ℕ). isUnary x ≡ true) e (unary-in op))
-  group-unary false op e = sym (subst (λ (x : ℕ). isBinary x ≡ false) e (ap binaryGroup (decode-unary op)))
-
-  pub group-binary : (u : Bool) (op : Binary) → binaryCode op ≡ c → bool.not u ≡ groupOf u c
-  group-binary true op e = sym (subst (λ (x : ℕ). isUnary x ≡ false) e (ap unaryGroup (decode-binary op)))
-  group-binary false op e = sym (subst (λ (x : ℕ). isBinary x ≡ true) e (binary-in op))
-
-  pub group-neither : (u : Bool) → ((op : Unary) → unaryCode op ≡ c → ⊥) → ((op : Binary) → binaryCode op ≡ c → ⊥) → false ≡ groupOf u c
-  group-neither true n m = go (isUnary c) refl
+  -- what the test of a group says is what the rule of a section asks
+  pub tested-group : (u b : Bool) → Tested (GroupIs u c) b → b ≡ groupOf u c
+  tested-group true true (op, e) = sym (subst (λ (x : ℕ). isUnary x ≡ true) e (unary-in op))
+  tested-group false true (op, e) = sym (subst (λ (x : ℕ). isBinary x ≡ true) e (binary-in op))
+  tested-group true false n = go (isUnary c) refl
     where
       go : (b : Bool) → isUnary c ≡ b → false ≡ isUnary c
-      go true e = let op = unary-at e in absurd (n (op .0) (op .1))
+      go true e = absurd (n (unary-at e))
       go false e = sym e
-  group-neither false n m = go (isBinary c) refl
+  tested-group false false n = go (isBinary c) refl
     where
       go : (b : Bool) → isBinary c ≡ b → false ≡ isBinary c
-      go true e = let op = binary-at e in absurd (m (op .0) (op .1))
+      go true e = absurd (n (binary-at e))
       go false e = sym e
 
 -- ---- codes

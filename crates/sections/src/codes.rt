@@ -1,5 +1,5 @@
 // A section of operator codes: each in its group, none twice.
-use operators::Group;
+use operators::in_group;
 use reading::ReadStep;
 use reading::byte_within;
 ghost use mathlib.Core.Path.{_≡_};
@@ -9,18 +9,6 @@ ghost use lib.ListN.{length, take, drop};
 ghost use lib.Dec.{eqb};
 ghost use Rattle.reading.specs.Reading.{eachItem, isIn, stepOf};
 ghost use Rattle.sections.specs.Sections.{groupOf, code, allCodes};
-
-// Whether the code's group, by the table of operators, is the one asked for.
-fn in_group(c: u8, unary: bool) -> bool
-    ensures { λ r. ⌜ r ≡ groupOf unary c ⌝ }
-{
-    let group = operators::operator_of(c).group;
-    match group {
-        Group::Unary => unary,
-        Group::Binary => !unary,
-        Group::Neither => false,
-    }
-}
 
 // Whether the code is one of the `count` from an offset on.
 fn seen_code(file: &[u8], from: usize, count: usize, c: u8) -> bool

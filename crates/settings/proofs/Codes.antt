@@ -1,33 +1,15 @@
--- Codes: their groups, and one more that is good.
+-- Codes: one more that is good.
 -- Assumes nothing.
 use mathlib.Core.Path.{_≡_, ap, _∙_, subst}
-use mathlib.Core.Bool.{Bool, true, false, not}
+use mathlib.Core.Bool.{Bool}
 use mathlib.Core.List.{List}
 use Prim.Native.Nat.{ℕ, suc, _+_, _≤_, _<_}
 use native.Mathlib.Omega.{arith}
 use native.Mathlib.Decide.{decLe}
 use lib.ListN.{length, getD}
-use Rattle.sequence.specs.Operators.{Unary, Binary, unaryCode, binaryCode}
-use Rattle.sequence.proofs.Groups.{unary-below, binary-between}
-use Rattle.settings.specs.Settings.{GroupIs, GoodCodes}
+use Rattle.operators.specs.Table.{GroupIs}
+use Rattle.settings.specs.Settings.{GoodCodes}
 use Rattle.settings.specs.Inner.{SeenIn}
-use Rattle.rules.specs.Answers.{Tested}
-
--- ---- groups
-
-pub group-unary : (u : Bool) (c : ℕ) (op : Unary) → unaryCode op ≡ c → Tested (GroupIs u c) u
-group-unary true c op e = (op, e)
-group-unary false c op e = λ w. omega (arith, unary-below op, e, binary-between (w .0) .0, w .1)
-
-pub group-binary : (u : Bool) (c : ℕ) (op : Binary) → binaryCode op ≡ c → Tested (GroupIs u c) (not u)
-group-binary true c op e = λ w. omega (arith, unary-below (w .0), w .1, binary-between op .0, e)
-group-binary false c op e = (op, e)
-
-pub group-neither : (u : Bool) (c : ℕ) → ((op : Unary) → unaryCode op ≡ c → ⊥) → ((op : Binary) → binaryCode op ≡ c → ⊥) → GroupIs u c → ⊥
-group-neither true c a b w = a (w .0) (w .1)
-group-neither false c a b w = b (w .0) (w .1)
-
--- ---- codes that are good
 
 -- one more code is good
 pub record GoodBelow (u : Bool) (codes : List ℕ) (n : ℕ) : Type 0 where

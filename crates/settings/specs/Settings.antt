@@ -7,17 +7,12 @@ use mathlib.Core.List.{List}
 use Prim.Native.Nat.{ℕ, _≤_, _<_}
 use lib.ListN.{length, getD}
 use Rattle.rules.specs.Limits.{mostSize, mostRoom, Outside}
-use Rattle.sequence.specs.Operators.{Unary, Binary, unaryCode, binaryCode}
+use Rattle.operators.specs.Table.{GroupIs}
 
 -- "size bound B 1 to 31; table room C 1 to 4,096 formulas", the constants' mark 0 or 1
 abbrev pub SettingsTold : ℕ → ℕ → ℕ → Bool → Type 0
 SettingsTold bound room constants true = (1 ≤ bound) × (bound ≤ mostSize) × (1 ≤ room) × (room ≤ mostRoom) × (constants ≤ 1)
 SettingsTold bound room constants false = Outside 1 mostSize bound ⊎ Outside 1 mostRoom room ⊎ (1 < constants)
-
--- the code is one of the unary group, or of the binary one
-abbrev pub GroupIs : Bool → ℕ → Type 0
-GroupIs true c = (op : Unary) × (unaryCode op ≡ c)
-GroupIs false c = (op : Binary) × (binaryCode op ≡ c)
 
 -- a code stands at two positions
 abbrev pub Repeated : List ℕ → Type 0

@@ -1,22 +1,10 @@
 // A search's own numbers and codes: whether the settings are in range, and whether codes are good.
-use operators::Group;
-use operators::operator_of;
+use operators::in_group;
 ghost use Prim.Native.Nat.{_≤_};
 ghost use lib.ListN.{length};
-ghost use Rattle.settings.specs.Settings.{GroupIs, CodesTold, SettingsTold};
+ghost use Rattle.settings.specs.Settings.{CodesTold, SettingsTold};
 ghost use Rattle.settings.specs.Inner.{SeenIn};
 ghost use Rattle.rules.specs.Answers.{Tested};
-
-fn in_group(code: u8, unary: bool) -> bool
-    ensures { λ b. ⌜ Tested (GroupIs unary code) b ⌝ }
-{
-    let group = operator_of(code).group;
-    match group {
-        Group::Unary => unary,
-        Group::Binary => !unary,
-        Group::Neither => false,
-    }
-}
 
 // Whether the code stands at one of the first n positions.
 fn seen(codes: &[u8], n: usize, code: u8) -> bool

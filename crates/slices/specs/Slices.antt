@@ -1,4 +1,4 @@
--- Request E7, "Search in slices between screen updates": a fresh state, "state and room stand at count n of the walk", the answer that a state tells, and the
+-- Request E7, "Search in slices between screen updates": a fresh state, what it is that state and room stand at count n of the walk, the answer that a state tells, and the
 -- refusals.
 -- Assumes nothing.
 use mathlib.Core.Bool.{cond}

@@ -1,4 +1,4 @@
--- Request E7's "state and room": the state of a walk that is cut before a candidate or has ended, and what the lent slices hold by then.
+-- Request E7: the state of a walk that is cut before a candidate or has ended, and what the lent slices hold by then.
 -- Assumes nothing.
 use mathlib.Core.Path.{_≡_}
 use mathlib.Core.List.{List, map}

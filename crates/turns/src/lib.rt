@@ -16,7 +16,7 @@ ghost use Rattle.turns.specs.Turns.{Fits, Gone};
 ghost use Rattle.turns.specs.Inner.{beginState, Masked};
 
 // At most so many operators of a group are offered, none twice.
-const OPERATORS: usize = 6;
+const GROUP_MOST: usize = 6;
 
 // The state before the first candidate of the next size, by where the sizes begin.
 fn begin(starts: &[u16], before: State) -> State
@@ -58,10 +58,10 @@ fn unfit(
     if rules::PROPOSITIONS < m {
         return true;
     }
-    if OPERATORS < unary.len() {
+    if GROUP_MOST < unary.len() {
         return true;
     }
-    if OPERATORS < binary.len() {
+    if GROUP_MOST < binary.len() {
         return true;
     }
     state::wrong(m, bound, room, constants, unary.len(), binary.len(), from)

@@ -28,7 +28,8 @@ use Rattle.formula.specs.Nodes.{Node, nodeAt}
 use Rattle.sequence.proofs.Agreeing.{means-agree, unary-agree, binary-agree}
 use Rattle.formula.specs.Rule.{IsUnary, IsBinary, propositionCode}
 use Rattle.formula.specs.Faultless.{Fits}
-use Rattle.verdict.specs.Inner.{traceAt, Ready, Evaluated}
+use Rattle.verdict.specs.Inner.{traceAt, Ready, Evaluated, ReadyAt}
+use Rattle.verdict.proofs.Places.{reaches-left, reaches-right, reach-low}
 use Rattle.formula.proofs.Faults.{not-both, not-unary-leaf, not-binary-leaf, proposition-under, left-fits, right-fits}
 
 -- another node that fits is as ready
@@ -63,12 +64,12 @@ module _ (n : ℕ) (words : List ℕ) (from : ℕ) (k : List Node) (nd : Node) w
   word-of-true m h e q a (unary op t) s = absurd (omega (arith, unary-below op, s .0))
   word-of-true m h e q a (binary op l t) s = let x = binary-between op in absurd (omega (arith, s .0))
 
-  -- what is asked of a node over the list is asked of its children, which are smaller
-  pub ready-left : (r : Ready n words from k nd) → IsUnary (nd .code) ⊎ IsBinary (nd .code) → Ready n words from k (nodeAt k (nd .left)) × (nodeAt k (nd .left) .size < nd .size)
-  ready-left r u = let f = left-fits (r .propositions) k (r .all) nd (r .fits) u in (ready-of r (f .0), f .1)
+  -- what is asked of a node over the list is asked of its children, which stand in the list
+  pub ready-left : (r : Ready n words from k nd) → IsUnary (nd .code) ⊎ IsBinary (nd .code) → ReadyAt n words from k (nd .left)
+  ready-left r u = (omega (arith, reaches-left nd u, reach-low nd (r .fits)), ready-of r (left-fits (r .propositions) k (r .all) nd (r .fits) u .0))
 
-  pub ready-right : (r : Ready n words from k nd) → IsBinary (nd .code) → Ready n words from k (nodeAt k (nd .right)) × (nodeAt k (nd .right) .size < nd .size)
-  ready-right r u = let f = right-fits (r .propositions) k (r .all) nd (r .fits) u in (ready-of r (f .0), f .1)
+  pub ready-right : (r : Ready n words from k nd) → IsBinary (nd .code) → ReadyAt n words from k (nd .right)
+  ready-right r u = (omega (arith, reaches-right nd u, reach-low nd (r .fits)), ready-of r (right-fits (r .propositions) k (r .all) nd (r .fits) u .0))
 
   -- ---- operators
 

@@ -39,9 +39,9 @@ pub record Ready (n : ℕ) (words : List ℕ) (from : ℕ) (k : List Node) (node
 abbrev pub Evaluated : ℕ → List ℕ → ℕ → List Node → Node → CharSeq → Type 0
 Evaluated n words from k node r = (t : Formula) → Spells codes k node t → Denotes n (Holds (traceAt n words from) t) r
 
--- the same of the node at a place
+-- the same of the node at a place of the list
 abbrev pub ReadyAt : ℕ → List ℕ → ℕ → List Node → ℕ → Type 0
-ReadyAt n words from k p = Ready n words from k (nodeAt k p)
+ReadyAt n words from k p = (p < length k) × Ready n words from k (nodeAt k p)
 
 abbrev pub EvaluatedAt : ℕ → List ℕ → ℕ → List Node → ℕ → CharSeq → Type 0
 EvaluatedAt n words from k p r = Evaluated n words from k (nodeAt k p) r

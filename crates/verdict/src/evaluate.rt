@@ -50,7 +50,7 @@ fn eval_child(
     eval(length, words, from, codes, lefts, rights, sizes, node)
 }
 
-// The sequence of a node, by those of its children, which are smaller.
+// The sequence of a node, by those of its children, whose places are smaller.
 pub(crate) fn eval(
     length: usize,
     words: &[u64],

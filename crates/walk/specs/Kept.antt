@@ -7,7 +7,7 @@ use Rattle.walk.specs.Walk.{Candidate}
 use Rattle.walk.specs.Input.{Input, offer}
 use Rattle.walk.specs.Cut.{Cut, start, turn}
 
--- "The kept formulas are a lent list of nodes ..; their matrices are lent too, r words per place"
+-- "The kept formulas are a lent list of nodes ..", "The matrices lie in a lent slice of words, r per place"
 abbrev pub Table : Type 0
 Table = List (Candidate (List ℕ))
 

@@ -22,7 +22,7 @@ returns c =
     let lefts = rights .before in
     let codes = lefts .before in
     let room = codes .before in
-    read-in _ _ _ (record { answer = read .parse .result; nodes = _; count = _ }) (record {
+    read-in _ _ _ (record { answer = read .parse .result; listed = _ }) (record {
       given = _;
       left = _;
       codes-beyond = _;

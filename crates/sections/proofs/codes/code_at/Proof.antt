@@ -3,8 +3,9 @@
 use Prim.Native.Nat.{_+_}
 use native.Mathlib.Omega.{arith}
 use mathlib.Core.Path.{sym, _∙_}
-use lib.ListN.{take, drop}
+use lib.ListN.{take, drop, getD}
 use Rattle.sections.specs.Sections.{groupOf}
+use Rattle.sections.proofs.CodeLaws.{tested-group}
 use Rattle.sections.proofs.Turns.{code-ends, code-off, code-twice, code-new}
 use borrow.Author.Needs.{needs}
 use Rattle.sections.proofs.codes.code_at.Statement.{statement}
@@ -18,7 +19,9 @@ returns-2 c =
     let y = c .before .before .before in
     let a = y .before .before .before .before .args in
     code-twice (groupOf (a .unary)) (take (a .count) (drop (a .from) (a .file .now))) (a .file .now) (a .from + a .count)
-    (y .before .before .if1 .left) (sym (y .in-group .ensures) ∙ c .before .before .if2 .taken) (sym (c .before .seen-code .ensures) ∙ c .if3 .taken)
+    (y .before .before .if1 .left)
+    (sym (tested-group (getD (a .file .now) (a .from + a .count) 0) (a .unary) (y .in-group .result) (y .in-group .ensures))
+    ∙ c .before .before .if2 .taken) (sym (c .before .seen-code .ensures) ∙ c .if3 .taken)
 
 cast-t14 : tie.Need-cast-t14
 cast-t14 c =
@@ -33,14 +36,17 @@ returns-3 c =
     let y = c .before .before .before in
     let a = y .before .before .before .before .args in
     code-new (groupOf (a .unary)) (take (a .count) (drop (a .from) (a .file .now))) (a .file .now) (a .from + a .count)
-    (y .before .before .if1 .left) (sym (y .in-group .ensures) ∙ c .before .before .if2 .taken) (sym (c .before .seen-code .ensures) ∙ c .if3 .left)
+    (y .before .before .if1 .left)
+    (sym (tested-group (getD (a .file .now) (a .from + a .count) 0) (a .unary) (y .in-group .result) (y .in-group .ensures))
+    ∙ c .before .before .if2 .taken) (sym (c .before .seen-code .ensures) ∙ c .if3 .left)
 
 returns-4 : tie.Need-returns-4
 returns-4 c =
     let y = c .before in
     let a = y .before .before .before .before .args in
     code-off (groupOf (a .unary)) (take (a .count) (drop (a .from) (a .file .now))) (a .file .now) (a .from + a .count)
-    (y .before .before .if1 .left) (sym (y .in-group .ensures) ∙ c .if2 .left)
+    (y .before .before .if1 .left)
+    (sym (tested-group (getD (a .file .now) (a .from + a .count) 0) (a .unary) (y .in-group .result) (y .in-group .ensures)) ∙ c .if2 .left)
 
 pub code-at-spec : {M : Type 1} → statement M
 code-at-spec = tie.close (tie.spec

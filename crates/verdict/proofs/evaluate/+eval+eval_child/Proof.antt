@@ -1,4 +1,4 @@
--- `eval` and `eval_child` meet their contracts, by the node's size: a child is smaller, and is read before it is evaluated.
+-- `eval` and `eval_child` meet their contracts, falling by place: a child's place is below its node's, and the child is read before it is evaluated.
 -- Assumes nothing.
 use mathlib.Core.Path.{sym, ap, subst}
 use mathlib.Core.Logic.{inl, inr}
@@ -7,6 +7,7 @@ use Rattle.operators.proofs.Groups.{in-unary, in-binary, in-neither}
 use Rattle.formula.specs.Nodes.{Node, nodeAt}
 use Rattle.formula.specs.Kinds.{nodeOf, nodes}
 use Rattle.verdict.specs.Inner.{Ready, Evaluated}
+use Rattle.verdict.proofs.Places.{reach, reaches-left, reaches-right, reach-low}
 use Rattle.verdict.proofs.Evaluation.{ready-left, ready-right, word-of-unary, word-of-binary}
 use borrow.Author.Needs.{needs}
 use Prim.Native.Nat.{ℕ, _+_, _*_, _<_}
@@ -27,11 +28,10 @@ use Rattle.verdict.proofs.evaluate.+eval+eval_child.{statement}
 use Rattle.verdict.proofs.evaluate.+eval+eval_child.Tie.{close}
 
 abbrev μ-eval : Measures 5 eval-kinds.ps ℕ
-μ-eval κs a = 2 * a .1 .1 .1 .1 .1 .1 .1 .0 .size
+μ-eval κs a = 2 * reach (nodeOf (a .1 .1 .1 .1 .1 .1 .1 .0))
 
 abbrev μ-eval-child : Measures 5 eval-child-kinds.ps ℕ
-μ-eval-child κs a =
-    2 * nodeAt (nodes (a .1 .1 .1 .0 .now) (a .1 .1 .1 .1 .0 .now) (a .1 .1 .1 .1 .1 .0 .now) (a .1 .1 .1 .1 .1 .1 .0 .now)) (a .1 .1 .1 .1 .1 .1 .1 .0 .0) .size + 1
+μ-eval-child κs a = 2 * a .1 .1 .1 .1 .1 .1 .1 .0 .0 + 1
 
 abbrev eval-at : ℕ → In 5 eval-kinds.ps
 eval-at t = and 5 eval-kinds.ps (is 5 eval-kinds.ps μ-eval t) eval.Pre
@@ -70,27 +70,30 @@ left-requires t c κs =
     let s = c .before .before .before .before .before .before .before .before in
     let a = s .args in
     let f = c .before .before .operator-of in
+    let u = inl (in-unary _ (f .result) (f .ensures) (c .enum-told .given .1)) in
     let r = ready-left (a .length) (a .words .now) (a .from) (nodes (a .codes .now) (a .lefts .now) (a .rights .now) (a .sizes .now)) (nodeOf (a .node)) (s .pre .1)
-    (inl (in-unary _ (f .result) (f .ensures) (c .enum-told .given .1))) in
-    (omega (arith, s .pre .0, r .1), r .0)
+    u in
+    (omega (arith, s .pre .0, reaches-left (nodeOf (a .node)) u), r)
 
 one-requires : (t : ℕ) → eval-lts.Need-eval-child-requires-2 (eval-calls t) (eval-at t) eval.Post
 one-requires t c κs =
     let s = c .before .before .before .before .before .before .before .before in
     let a = s .args in
     let f = c .before .before .operator-of in
+    let u = inr (in-binary _ (f .result) (f .ensures) (c .enum-told2 .given .1)) in
     let r = ready-left (a .length) (a .words .now) (a .from) (nodes (a .codes .now) (a .lefts .now) (a .rights .now) (a .sizes .now)) (nodeOf (a .node)) (s .pre .1)
-    (inr (in-binary _ (f .result) (f .ensures) (c .enum-told2 .given .1))) in
-    (omega (arith, s .pre .0, r .1), r .0)
+    u in
+    (omega (arith, s .pre .0, reaches-left (nodeOf (a .node)) u), r)
 
 other-requires : (t : ℕ) → eval-lts.Need-eval-child-requires-3 (eval-calls t) (eval-at t) eval.Post
 other-requires t c κs =
     let s = c .before .before .before .before .before .before .before .before .before in
     let a = s .args in
     let f = c .before .before .before .operator-of in
+    let u = in-binary _ (f .result) (f .ensures) (c .before .enum-told2 .given .1) in
     let r = ready-right (a .length) (a .words .now) (a .from) (nodes (a .codes .now) (a .lefts .now) (a .rights .now) (a .sizes .now)) (nodeOf (a .node)) (s .pre .1)
-    (in-binary _ (f .result) (f .ensures) (c .before .enum-told2 .given .1)) in
-    (omega (arith, s .pre .0, r .1), r .0)
+    u in
+    (omega (arith, s .pre .0, reaches-right (nodeOf (a .node)) u), r)
 
 leaf-requires : (t : ℕ) → eval-lts.Need-leaf-requires (eval-calls t) (eval-at t) eval.Post
 leaf-requires t c κs =
@@ -120,9 +123,11 @@ binary-returns t c =
 child-requires : (t : ℕ) → eval-child-lts.Need-eval-requires (eval-child-calls t) (eval-child-at t) eval-child.Post
 child-requires t c κs =
     let s = c .before .before .before .before .before .before .before in
-    let a = s .args in (
-      omega (arith, s .pre .0, ap (λ (n : Node). n .size) (c .node-at .ensures)),
-      subst (Ready (a .length) (a .words .now) (a .from) (nodes (a .codes .now) (a .lefts .now) (a .rights .now) (a .sizes .now))) (sym (c .node-at .ensures)) (s .pre .1),
+    let a = s .args in
+    let k = nodes (a .codes .now) (a .lefts .now) (a .rights .now) (a .sizes .now) in
+    let low = reach-low (nodeAt k (a .at .0)) (s .pre .1 .1 .all (a .at .0) (s .pre .1 .0)) in (
+      omega (arith, s .pre .0, low, ap reach (c .node-at .ensures)),
+      subst (Ready (a .length) (a .words .now) (a .from) k) (sym (c .node-at .ensures)) (s .pre .1 .1),
     )
 
 child-returns : (t : ℕ) → eval-child-lts.Need-returns (eval-child-calls t) (eval-child-at t) eval-child.Post
