@@ -226,8 +226,3 @@ module _ (i : Input) (n : ℕ) (old : List ℕ) (d : Done) (new : List ℕ) (ran
 
 pub works : (i : Input) (n : ℕ) (old : List ℕ) (d : Done) (new : List ℕ) → Ran i n old d new → Works i n old d new
 works i n old d new ran ns long = works-over i n old d new ran ns long
-
--- an answer and a list that are those of `Works`
-pub as-left : (i : Input) (t : Cols) (a b : SearchAnswer) (ys ms : List Node) (zs : List ℕ) → b ≡ a → ys ≡ ms → Searched i t a (nodeCols ms zs) → Searched i t b (nodeCols ys zs)
-as-left i t a b ys ms zs e m s =
-    subst (λ (x : SearchAnswer). Searched i t x (nodeCols ys zs)) (sym e) (subst (λ (l : List Node). Searched i t a (nodeCols l zs)) (sym m) s)
