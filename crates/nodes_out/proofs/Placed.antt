@@ -23,7 +23,7 @@ use Rattle.reader.proofs.Scratch.{nodes-length}
 use Rattle.nodes_out.specs.declared.Read.{Read}
 use Rattle.nodes_in.specs.Arrays.{FieldsFilled}
 use Rattle.nodes_out.specs.Columns.{fields}
-use Rattle.nodes_out.specs.Arrays.{room, countIn, putOver, Fits, ReadIn}
+use Rattle.nodes_out.specs.Arrays.{room, countIn, putOver, ListFits, ReadIn}
 use Rattle.nodes_out.proofs.Kept.{column, within}
 
 -- ---- the rows, for slices of other lengths
@@ -185,7 +185,7 @@ module _ (file text : List ℕ) (n : ℕ) (d : Read) (ran : Ran file text n d) (
       let z : d .listed .count ≡ 0 = ran .count-is ∙ count-refused (d .answer) f in
       ap (λ (k : ℕ). fields (take k (d .listed .nodes) ++ drop k ns)) z
 
-  over-list : Fits (d .listed) ns × Parses file text (fields ns) (fields (putOver (d .listed) ns)) answer
+  over-list : ListFits (d .listed) ns × Parses file text (fields ns) (fields (putOver (d .listed) ns)) answer
   over-list =
       let b = count-within file text (ran .given) (ran .left) (d .answer) (ran .parsed) (ran .codes-left) in
       let g = ran .codes-given in

@@ -50,7 +50,7 @@ use Rattle.reader.proofs.Parsed.Laws as Said-laws
 use Rattle.nodes_out.specs.declared.Listed.{Listed}
 use Rattle.nodes_out.specs.declared.Read.{Read}
 use Rattle.nodes_out.specs.Columns.{fields}
-use Rattle.nodes_out.specs.Arrays.{putOver, Fits, ReadIn}
+use Rattle.nodes_out.specs.Arrays.{putOver, ListFits, ReadIn}
 use Rattle.nodes_out.proofs.Listed as L
 use Rattle.nodes_out.proofs.Listed.Laws as L′
 use Rattle.nodes_out.proofs.Read as D
@@ -163,7 +163,7 @@ module _ {M : Type 1} (𝓤 : URA M) (H : Heap 𝓤) (A : Atoms 𝓤) (W : Given
   abbrev to-put : Read → Val → Put 𝓤 H A mem run .Ghost
   to-put d z = (((κ₂, tt), (q₂, tt), tt, args-p d, (z ∷ [], (v₂ ∷ [], tt))), tt)
 
-  goes-put : (d : Read) (z : Val) → Fits (d .listed) xs₂ → ent 𝓤 (⋆ 𝓤 H A (Tok₂ ∷ ‵ (L.the-row .own (d .listed) (z ∷ [])) ∷ Own₂ ∷ [])) (Put 𝓤 H A mem run .pre (to-put d z))
+  goes-put : (d : Read) (z : Val) → ListFits (d .listed) xs₂ → ent 𝓤 (⋆ 𝓤 H A (Tok₂ ∷ ‵ (L.the-row .own (d .listed) (z ∷ [])) ∷ Own₂ ∷ [])) (Put 𝓤 H A mem run .pre (to-put d z))
   goes-put d z h =
       qed W (Tok₂ ∷ ‵ (L.the-row .own (d .listed) (z ∷ [])) ∷ Own₂ ∷ []) ∵ says ! h $ nothing ! $ move ! (1 ∷ 0 ∷ []) $ join ! $ frame ! $
       nothing ! $ move ! (2 ∷ 0 ∷ []) $ fjoin ! $ move ! (1 ∷ 0 ∷ []) $ fjoin ! $ done !

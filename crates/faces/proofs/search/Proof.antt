@@ -51,7 +51,7 @@ use Rattle.search.proofs.SearchAnswer.Laws as Said-laws
 use Rattle.nodes_out.specs.declared.Listed.{Listed}
 use Rattle.nodes_out.specs.declared.Done.{Done}
 use Rattle.nodes_out.specs.Columns.{nodeCols}
-use Rattle.nodes_out.specs.Arrays.{putOver, Fits, Works}
+use Rattle.nodes_out.specs.Arrays.{putOver, ListFits, Works}
 use Rattle.nodes_out.proofs.Listed as L
 use Rattle.nodes_out.proofs.Listed.Laws as L′
 use Rattle.nodes_out.proofs.Done as D
@@ -280,7 +280,7 @@ module _ {M : Type 1} (𝓤 : URA M) (H : Heap 𝓤) (A : Atoms 𝓤) (W : Given
   abbrev to-put : Done → Val → Put 𝓤 H A mem run .Ghost
   to-put d z = (((κ₅, tt), (q₅, tt), tt, args-p d, (z ∷ [], (v₁₀ ∷ [], tt))), tt)
 
-  goes-put : (d : Done) (z : Val) → Fits (d .listed) xs₁₀ → ent 𝓤 (⋆ 𝓤 H A (Tok₅ ∷ ‵ (L.the-row .own (d .listed) (z ∷ [])) ∷ Own₁₀ ∷ [])) (Put 𝓤 H A mem run .pre (to-put d z))
+  goes-put : (d : Done) (z : Val) → ListFits (d .listed) xs₁₀ → ent 𝓤 (⋆ 𝓤 H A (Tok₅ ∷ ‵ (L.the-row .own (d .listed) (z ∷ [])) ∷ Own₁₀ ∷ [])) (Put 𝓤 H A mem run .pre (to-put d z))
   goes-put d z h =
       qed W (Tok₅ ∷ ‵ (L.the-row .own (d .listed) (z ∷ [])) ∷ Own₁₀ ∷ []) ∵ says ! h $ nothing ! $ move ! (1 ∷ 0 ∷ []) $ join ! $ frame ! $
       nothing ! $ move ! (2 ∷ 0 ∷ []) $ fjoin ! $ move ! (1 ∷ 0 ∷ []) $ fjoin ! $ done !
