@@ -21,7 +21,7 @@ use Rattle.names.specs.Judged.{saidNames, namesSaid, saidOfNames as saidOf}
 use Rattle.names.specs.declared.NamesAnswer.{NamesAnswer}
 use Rattle.names.specs.declared.NamesAnswer.the-variants.{Names, Broken as NamesBroken}
 use Rattle.names.proofs.Starts.{names-by}
-use Rattle.descent.specs.declared.judge.Judged.the-variants.{Nodes as Sized, Stops as StopsAt, Unknown as UnknownName, Large}
+use Rattle.descent.specs.declared.judge.TextJudged.the-variants.{Nodes as Sized, Stops as StopsAt, Unknown as UnknownName, Large}
 use Rattle.descent.specs.Words.{mostBytes}
 use Rattle.names.specs.Names.{GoodNames, namesIn, wholeNames, listed}
 use Rattle.descent.specs.Answers.{WholeText}

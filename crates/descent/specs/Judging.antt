@@ -11,8 +11,8 @@ use Rattle.reading.specs.Reading.{bad}
 use Rattle.names.specs.Names.{wholeNames, namesIn, GoodNames}
 use Rattle.grammar.specs.Token.{Typed}
 use Rattle.grammar.specs.Grammar.{Reads, Refused11}
-use Rattle.descent.specs.declared.judge.Judged.{Judged}
-use Rattle.descent.specs.declared.judge.Judged.the-variants.{Nodes as Sized, Broken as BrokenNames, Long, Room as NoRoom, Stops as StopsAt, Unknown as UnknownName, Large}
+use Rattle.descent.specs.declared.judge.TextJudged.{TextJudged}
+use Rattle.descent.specs.declared.judge.TextJudged.the-variants.{Nodes as Sized, Broken as BrokenNames, Long, Room as NoRoom, Stops as StopsAt, Unknown as UnknownName, Large}
 use Rattle.descent.specs.Words.{mostBytes, UnknownAt, FirstUnknown, Deep}
 use Rattle.descent.specs.Packed.{NodesWritten}
 
@@ -22,7 +22,7 @@ AllKnown file text = (k : ℕ) → UnknownAt (namesIn file) text k → ⊥
 
 -- the text as it is judged, up to the first refusal
 module _ (file text old new : List ℕ) where
-  abbrev pub JudgedIs : Judged → Type 0
+  abbrev pub JudgedIs : TextJudged → Type 0
   JudgedIs (BrokenNames o) = wholeNames file ≡ bad o
   JudgedIs Long = (mostBytes < length text) × GoodNames file
   JudgedIs NoRoom = (length text ≤ mostBytes) × (length old < length text) × GoodNames file

@@ -10,7 +10,7 @@ ghost use Rattle.descent.specs.Judging.{JudgedIs};
 
 // How many nodes a text has that is taken so far; or which refusal it gets: the names' 8, 12 for its bytes, no room in the scratch for so many, 11, 13, 12
 // for its size or brackets.
-pub enum Judged {
+pub enum TextJudged {
     Nodes(usize),
     Broken(usize),
     Long,
@@ -21,31 +21,31 @@ pub enum Judged {
 }
 
 // With names that are good.
-fn judge_text(names: &[u8], text: &[u8], scratch: &mut [u64]) -> Judged
+fn judge_text(names: &[u8], text: &[u8], scratch: &mut [u64]) -> TextJudged
     requires { ⌜ GoodNames (now names) ⌝ }
     ensures { λ r. ⌜ JudgedIs (now (names .entry)) (now (text .entry)) (now (scratch .entry)) (now (scratch .exit)) r ⌝ }
 {
     if rules::TYPED < text.len() {
-        return Judged::Long;
+        return TextJudged::Long;
     }
     if scratch.len() < text.len() {
-        return Judged::Room;
+        return TextJudged::Room;
     }
     let t = read_text(names, text, scratch);
     match t {
-        Got::Bad(k) => Judged::Stops(k),
+        Got::Bad(k) => TextJudged::Stops(k),
         Got::Val { next: _, size } => {
             let u = unknown(names, text);
             match u {
-                Missing::At(k) => Judged::Unknown(k),
+                Missing::At(k) => TextJudged::Unknown(k),
                 Missing::Nothing => {
                     if rules::BOUND < size {
-                        return Judged::Large;
+                        return TextJudged::Large;
                     }
                     if deep(text) {
-                        return Judged::Large;
+                        return TextJudged::Large;
                     }
-                    Judged::Nodes(size)
+                    TextJudged::Nodes(size)
                 }
             }
         }
@@ -53,12 +53,12 @@ fn judge_text(names: &[u8], text: &[u8], scratch: &mut [u64]) -> Judged
 }
 
 // A node of the tree takes one place of the scratch, from the first on; the scratch needs as many as the text has bytes.
-pub fn judge(names: &[u8], text: &[u8], scratch: &mut [u64]) -> Judged
+pub fn judge(names: &[u8], text: &[u8], scratch: &mut [u64]) -> TextJudged
     ensures { λ r. ⌜ JudgedIs (now (names .entry)) (now (text .entry)) (now (scratch .entry)) (now (scratch .exit)) r ⌝ }
 {
     let judged = names::judge(names);
     match judged {
-        NamesAnswer::Broken(o) => Judged::Broken(o),
+        NamesAnswer::Broken(o) => TextJudged::Broken(o),
         NamesAnswer::Names(_) => judge_text(names, text, scratch),
     }
 }

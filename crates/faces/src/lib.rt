@@ -1,7 +1,6 @@
 // Faces over lent lists of nodes: check, print, search and parse with a slice of `Node` structs where the core has four slices of numbers. Thin functions:
 // they copy nodes (`lists`) and hand them on by value to the crates that work on numbers (nodes_in, nodes_out).
 mod lists;
-mod parts;
 
 use formula::kinds::Node;
 use reader::Parsed;
@@ -77,8 +76,8 @@ pub fn search(
         nodes.len(),
         matrices,
     );
-    lists::put(parts::kept(done), nodes);
-    parts::found(done)
+    lists::put(done.listed, nodes);
+    done.answer
 }
 
 // A formula that is typed with names of a lent names section, its nodes in a lent list of nodes: left child, right child, parent, the root last.
@@ -86,6 +85,6 @@ pub fn parse(names: &[u8], text: &[u8], nodes: &mut [Node]) -> Parsed
     ensures { λ p. ⌜ Parses (now (names .entry)) (now (text .entry)) (fields (now (nodes .entry))) (fields (now (nodes .exit))) (saidParsed p) ⌝ }
 {
     let read = nodes_out::parse(names, text, nodes.len());
-    lists::put(parts::formula(read), nodes);
-    parts::parsed(read)
+    lists::put(read.listed, nodes);
+    read.answer
 }

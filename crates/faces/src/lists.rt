@@ -8,7 +8,7 @@ use rules::kinds::Place;
 ghost use mathlib.Core.Path.{_≡_};
 ghost use lib.ListN.{length};
 ghost use Rattle.nodes_in.specs.Arrays.{seen, Copied};
-ghost use Rattle.nodes_out.specs.Arrays.{putOver, Fits};
+ghost use Rattle.nodes_out.specs.Arrays.{putOver, ListFits};
 
 fn blank() -> [Node; SEEN]
     ensures { λ r. ⌜ length r ≡ seen ⌝ }
@@ -51,7 +51,7 @@ fn number_of(listed: Listed) -> usize
 
 // Nodes at the start of the lent list; the rest of it stays.
 pub(crate) fn put(listed: Listed, nodes: &mut [Node])
-    requires { ⌜ Fits listed (now nodes) ⌝ }
+    requires { ⌜ ListFits listed (now nodes) ⌝ }
     ensures { λ _. ⌜ now (nodes .exit) ≡ putOver listed (now (nodes .entry)) ⌝ }
 {
     let list = nodes_of(listed);

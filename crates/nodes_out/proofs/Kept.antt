@@ -21,7 +21,7 @@ use Rattle.checks.specs.Refusals.{settingWrong, noRoom, searchRows}
 use Rattle.search.specs.Search.{saidSearch, walkSaid, Outcome, Searched}
 use Rattle.nodes_out.specs.declared.Done.{Done}
 use Rattle.nodes_out.specs.Columns.{nodeCols}
-use Rattle.nodes_out.specs.Arrays.{room, keptOf, putOver, Fits, Works}
+use Rattle.nodes_out.specs.Arrays.{room, keptOf, putOver, ListFits, Works}
 use Rattle.nodes_in.specs.Arrays.{FieldsFilled}
 use Rattle.nodes_in.proofs.Fields.{map-take}
 
@@ -216,7 +216,7 @@ module _ (i : Input) (n : ℕ) (old : List ℕ) (d : Done) (new : List ℕ) (ran
       let m : new ≡ old = sym (ran .new-is) ∙ ap (λ (x : Cols). x .matrices) (o .1) ∙ ran .old-is in
       ((omega arith, omega arith), (o .0, ap (λ (j : ℕ). nodeCols (take j (d .listed .nodes) ++ drop j ns) new) z ∙ ap (nodeCols ns) m))
 
-  works-over : Fits (d .listed) ns × Searched i (nodeCols ns old) (d .answer) (nodeCols (putOver (d .listed) ns) new)
+  works-over : ListFits (d .listed) ns × Searched i (nodeCols ns old) (d .answer) (nodeCols (putOver (d .listed) ns) new)
   works-over =
       let x = outcome-over (d .answer) refl (ran .searched .outcome) in
       let b = x .0 in (
@@ -226,8 +226,3 @@ module _ (i : Input) (n : ℕ) (old : List ℕ) (d : Done) (new : List ℕ) (ran
 
 pub works : (i : Input) (n : ℕ) (old : List ℕ) (d : Done) (new : List ℕ) → Ran i n old d new → Works i n old d new
 works i n old d new ran ns long = works-over i n old d new ran ns long
-
--- an answer and a list that are those of `Works`
-pub as-left : (i : Input) (t : Cols) (a b : SearchAnswer) (ys ms : List Node) (zs : List ℕ) → b ≡ a → ys ≡ ms → Searched i t a (nodeCols ms zs) → Searched i t b (nodeCols ys zs)
-as-left i t a b ys ms zs e m s =
-    subst (λ (x : SearchAnswer). Searched i t x (nodeCols ys zs)) (sym e) (subst (λ (l : List Node). Searched i t a (nodeCols l zs)) (sym m) s)

@@ -1,7 +1,7 @@
 -- What the reader leaves in arrays, put over a lent list of nodes, is what it has to leave there: of a list it goes by the length alone, and no formula
 -- has more nodes than the arrays.
 -- Assumes nothing.
-use mathlib.Core.Path.{_≡_, refl, sym, ap, _∙_, subst}
+use mathlib.Core.Path.{_≡_, refl, sym, ap, _∙_}
 use mathlib.Core.Logic.{inl, inr}
 use mathlib.Core.List.{List, [], _∷_, _++_, map, head-eq-of-cons-eq, nil≢cons}
 use Prim.Native.Nat.{ℕ, _<_, _≤_, min}
@@ -23,7 +23,7 @@ use Rattle.reader.proofs.Scratch.{nodes-length}
 use Rattle.nodes_out.specs.declared.Read.{Read}
 use Rattle.nodes_in.specs.Arrays.{FieldsFilled}
 use Rattle.nodes_out.specs.Columns.{fields}
-use Rattle.nodes_out.specs.Arrays.{room, countIn, putOver, Fits, ReadIn}
+use Rattle.nodes_out.specs.Arrays.{room, countIn, putOver, ListFits, ReadIn}
 use Rattle.nodes_out.proofs.Kept.{column, within}
 
 -- ---- the rows, for slices of other lengths
@@ -185,7 +185,7 @@ module _ (file text : List ℕ) (n : ℕ) (d : Read) (ran : Ran file text n d) (
       let z : d .listed .count ≡ 0 = ran .count-is ∙ count-refused (d .answer) f in
       ap (λ (k : ℕ). fields (take k (d .listed .nodes) ++ drop k ns)) z
 
-  over-list : Fits (d .listed) ns × Parses file text (fields ns) (fields (putOver (d .listed) ns)) answer
+  over-list : ListFits (d .listed) ns × Parses file text (fields ns) (fields (putOver (d .listed) ns)) answer
   over-list =
       let b = count-within file text (ran .given) (ran .left) (d .answer) (ran .parsed) (ran .codes-left) in
       let g = ran .codes-given in
@@ -201,9 +201,3 @@ module _ (file text : List ℕ) (n : ℕ) (d : Read) (ran : Ran file text n d) (
 
 pub read-in : (file text : List ℕ) (n : ℕ) (d : Read) → Ran file text n d → ReadIn file text n d
 read-in file text n d ran ns long = over-list file text n d ran ns long
-
--- an answer and a list that are those of `ReadIn`
-pub as-read : (file text : List ℕ) (old : Columns) (a b : Parsed) (ys ms : List Node) → b ≡ a → ys ≡ ms → Parses file text old (fields ms) (saidParsed a)
-    → Parses file text old (fields ys) (saidParsed b)
-as-read file text old a b ys ms e m p =
-    subst (λ (x : Parsed). Parses file text old (fields ys) (saidParsed x)) (sym e) (subst (λ (l : List Node). Parses file text old (fields l) (saidParsed a)) (sym m) p)

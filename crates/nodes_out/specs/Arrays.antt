@@ -36,14 +36,14 @@ abbrev pub putOver : Listed → List Node → List Node
 putOver l ns = take (l .count) (l .nodes) ++ drop (l .count) ns
 
 -- there is room for them in the array and in a list
-abbrev pub Fits : Listed → List Node → Type 0
-Fits l ns = (l .count ≤ length (l .nodes)) × (l .count ≤ length ns)
+abbrev pub ListFits : Listed → List Node → Type 0
+ListFits l ns = (l .count ≤ length (l .nodes)) × (l .count ≤ length ns)
 
 -- for whatever list of n nodes is lent: there is room for the kept ones, and with these put over its first places it is as the search has to leave it
 abbrev pub Works : Input → ℕ → List ℕ → Done → List ℕ → Type 0
 Works i n old d new =
     (ns : List Node) → length ns ≡ n
-    → Fits (d .listed) ns × Searched i (nodeCols ns old) (d .answer) (nodeCols (putOver (d .listed) ns) new)
+    → ListFits (d .listed) ns × Searched i (nodeCols ns old) (d .answer) (nodeCols (putOver (d .listed) ns) new)
 
 -- ---- the formula reader
 
@@ -59,4 +59,4 @@ countIn (reader.Refused k) = 0
 abbrev pub ReadIn : List ℕ → List ℕ → ℕ → Read → Type 0
 ReadIn file text n d =
     (ns : List Node) → length ns ≡ n
-    → Fits (d .listed) ns × Parses file text (fields ns) (fields (putOver (d .listed) ns)) (saidParsed (d .answer))
+    → ListFits (d .listed) ns × Parses file text (fields ns) (fields (putOver (d .listed) ns)) (saidParsed (d .answer))

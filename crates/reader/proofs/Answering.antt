@@ -17,8 +17,8 @@ use Rattle.grammar.specs.Grammar.{Reads}
 use Rattle.grammar.specs.Nodes.{nodesOf}
 use Rattle.grammar.proofs.Theorems.{one-tree, formula-not-refused}
 use Rattle.reader.specs.declared.Parsed.the-variants.{Nodes, Broken, Stops, Unknown, Refused}
-use Rattle.descent.specs.declared.judge.Judged.{Judged}
-use Rattle.descent.specs.declared.judge.Judged.the-variants.{Nodes as Sized, Broken as BrokenNames, Long, Room as NoRoom, Stops as StopsAt, Unknown as UnknownName, Large}
+use Rattle.descent.specs.declared.judge.TextJudged.{TextJudged}
+use Rattle.descent.specs.declared.judge.TextJudged.the-variants.{Nodes as Sized, Broken as BrokenNames, Long, Room as NoRoom, Stops as StopsAt, Unknown as UnknownName, Large}
 use Rattle.reader.specs.Words.{mostBytes, Deep}
 use Rattle.reader.specs.Parsing.{saidParsed, ParseRow, Decides, Columns, columns, roomOf, nodesOver, longText, noFormula, unknownName, largeFormula, shortNodeRoom, Taken, Parses}
 use Rattle.descent.specs.Packed.{codesBy}
@@ -65,7 +65,7 @@ module _ (file text : List ℕ) (old : Columns) where
 
   -- ---- rows that are
 
-  module _ (scratch new : List ℕ) {j : Judged} (is : JudgedIs file text scratch new j) where
+  module _ (scratch new : List ℕ) {j : TextJudged} (is : JudgedIs file text scratch new j) where
     pub names-broken : {o : ℕ} → j ≡ BrokenNames o → Parses file text old old (saidParsed (Broken o))
     names-broken e = answer-broken (subst (JudgedIs file text scratch new) e is)
 

@@ -2,7 +2,7 @@
 mod fill;
 mod write;
 
-use descent::judge::Judged;
+use descent::judge::TextJudged;
 use descent::judge::judge;
 use write::least;
 ghost use Rattle.reader.specs.Parsing.{saidParsed, columns, Parses};
@@ -33,14 +33,14 @@ pub fn parse(
     let mut scratch = [0u64; rules::TYPED];
     let j = judge(names, text, &mut scratch);
     match j {
-        Judged::Broken(o) => Parsed::Broken(o),
-        Judged::Long => Parsed::Refused(12),
+        TextJudged::Broken(o) => Parsed::Broken(o),
+        TextJudged::Long => Parsed::Refused(12),
         // the scratch has room for the longest text that is taken, so that this never comes up
-        Judged::Room => Parsed::Refused(3),
-        Judged::Stops(k) => Parsed::Stops(k),
-        Judged::Unknown(k) => Parsed::Unknown(k),
-        Judged::Large => Parsed::Refused(12),
-        Judged::Nodes(n) => {
+        TextJudged::Room => Parsed::Refused(3),
+        TextJudged::Stops(k) => Parsed::Stops(k),
+        TextJudged::Unknown(k) => Parsed::Unknown(k),
+        TextJudged::Large => Parsed::Refused(12),
+        TextJudged::Nodes(n) => {
             if least(codes.len(), lefts.len(), rights.len(), sizes.len()) < n {
                 return Parsed::Refused(3);
             }

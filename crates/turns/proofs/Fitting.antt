@@ -10,10 +10,10 @@ use Rattle.state.specs.Row.{stateWrong}
 use Rattle.rules.specs.Answers.{Tested}
 use Rattle.state.proofs.Passing.{passes-in, in-passes}
 use Rattle.turns.specs.Costs.{operators}
-use Rattle.turns.specs.Turns.{Fits}
+use Rattle.turns.specs.Turns.{LoopFits}
 
 pub state-tells : (m bound room constants unary binary : ℕ) (from : State) → bound ≤ mostSize → room ≤ mostRoom → m ≤ mostPropositions → unary ≤ operators → binary ≤ operators
-    → (b : Bool) → Tested (stateWrong m bound room constants unary binary from .given) b → Tested (Fits m bound room constants unary binary from) (not b)
+    → (b : Bool) → Tested (stateWrong m bound room constants unary binary from .given) b → Tested (LoopFits m bound room constants unary binary from) (not b)
 state-tells m bound room constants unary binary from p q r u v true w = λ f. in-passes (f .state-in) w
 state-tells m bound room constants unary binary from p q r u v false w =
     record { bound-in = p; room-in = q; propositions-in = r; unary-few = u; binary-few = v; state-in = passes-in w }

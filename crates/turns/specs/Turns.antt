@@ -20,7 +20,7 @@ abbrev pub StateIn : Input → State → Type 0
 StateIn i st = row.StateIn (i .recording .propositions) (i .bound) (i .room) (i .constants) (length (i .unary)) (length (i .binary)) st
 
 -- what the loop asks: numbers up to document 01's limits, no more operators of a group than there are, and a state that 14 lets pass
-pub record Fits (m bound room constants unary binary : ℕ) (from : State) : Type 0 where
+pub record LoopFits (m bound room constants unary binary : ℕ) (from : State) : Type 0 where
   pub bound-in : bound ≤ mostSize
   pub room-in : room ≤ mostRoom
   pub propositions-in : m ≤ mostPropositions
@@ -29,7 +29,7 @@ pub record Fits (m bound room constants unary binary : ℕ) (from : State) : Typ
   pub state-in : row.StateIn m bound room constants unary binary from
 
 abbrev pub GoAsks : Input → State → Type 0
-GoAsks i from = Fits (i .recording .propositions) (i .bound) (i .room) (i .constants) (length (i .unary)) (length (i .binary)) from
+GoAsks i from = LoopFits (i .recording .propositions) (i .bound) (i .room) (i .constants) (length (i .unary)) (length (i .binary)) from
 
 -- it leaves a state that 14 lets pass, with at most `budget` more tried and kept; and from a state that stood at a cut of the walk and has not ended it goes
 -- on by `budget` candidates

@@ -12,7 +12,7 @@ ghost use lib.ListN.{length};
 ghost use Rattle.walk.specs.Input.{inputOf};
 ghost use Rattle.table.specs.Slices.{cols};
 ghost use Rattle.rules.specs.Answers.{Tested};
-ghost use Rattle.turns.specs.Turns.{Fits, Gone};
+ghost use Rattle.turns.specs.Turns.{LoopFits, Gone};
 ghost use Rattle.turns.specs.Inner.{beginState, Masked};
 
 // At most so many operators of a group are offered, none twice.
@@ -47,7 +47,7 @@ fn unfit(
     binary: &[u8],
     from: State,
 ) -> bool
-    ensures { λ b. ⌜ Tested (Fits m bound room constants (length (now (unary .entry))) (length (now (binary .entry))) from) (not b) ⌝ }
+    ensures { λ b. ⌜ Tested (LoopFits m bound room constants (length (now (unary .entry))) (length (now (binary .entry))) from) (not b) ⌝ }
 {
     if rules::BOUND < bound {
         return true;

@@ -55,7 +55,7 @@ use Rattle.formula.specs.declared.kinds.Node.{Node}
 use Rattle.formula.proofs.kinds.Node as T
 use Rattle.formula.proofs.kinds.Node.Laws as T′
 use Rattle.nodes_out.specs.declared.Listed.{Listed}
-use Rattle.nodes_out.specs.Arrays.{room, putOver, Fits}
+use Rattle.nodes_out.specs.Arrays.{room, putOver, ListFits}
 use Rattle.formula.specs.Kinds.{noNode}
 use Rattle.nodes_out.proofs.Listed as D
 use Rattle.nodes_out.proofs.Listed.Laws as D′
@@ -368,7 +368,7 @@ module _ {M : Type 1} (𝓤 : URA M) (H : Heap 𝓤) (A : Atoms 𝓤) (W : Given
         ∷ 1 ∷ []) $ by ! (k l₀ l₁ l₂ l₃ l₄ l₅ l₆ l₇ l₈ l₉ l₁₀ l₁₁ l₁₂ l₁₃)))))))))))))))
 
   walk : (𝓣 : Tables 𝓤 H) → FmC 𝓤 H (W .laws) (𝓣 .C) → Triple 𝓤 (𝓣 .C #nodes) (Nodes-of 𝓤 H A mem run) → Triple 𝓤 (𝓣 .C #number) (Number-of 𝓤 H A mem run)
-      → Is D.the-row d (v₀ ∷ []) → Room T.the-row (length xs) → Fits d xs
+      → Is D.the-row d (v₀ ∷ []) → Room T.the-row (length xs) → ListFits d xs
       → ent 𝓤 (onEntry 𝓤 H A this.signature (κ₀, tt) (q₀, tt) a at) (WpFn 𝓤 H (𝓣 .C) (𝓣 .Λ) code.function (v₀ ∷ v₁ ∷ []) Post)
   walk 𝓣 fm known-n known-k is₀ g h =
       enters (𝓣 .C) (𝓣 .Λ) D′.mir mir′.t-1 (LL.lawful D.the-type D′.the-laws 𝓤 H A W .typed d _ is₀ .0) g
