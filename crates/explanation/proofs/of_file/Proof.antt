@@ -4,7 +4,7 @@ use Prim.Native.Nat.{ℕ}
 use native.Mathlib.Omega.{arith}
 use lib.ListN.{length-replicate, replicate}
 use Rattle.file.specs.Reading.{lent}
-use Rattle.lines.proofs.Handed.{Wide, handed, same, never-room}
+use Rattle.lines.proofs.Handed.{Wide, handed, same}
 use Rattle.explanation.proofs.Outcomes.{good-explained, broken-explained}
 use borrow.Author.Needs.{needs}
 use Rattle.explanation.proofs.of_file.Statement.{statement}
@@ -158,25 +158,15 @@ returns c =
 returns-2 : tie.Need-returns-2
 returns-2 c =
     let c₂ = c .before .before in
-    let c₉ = c₂ .before .before .before .before .before .before .before in
-    let c₁₅ = c₉ .before .before .before .before .before .before in
-    let c₁₆ = c₁₅ .before in
-    broken-explained (c₁₆ .args .file .now) (λ i. omega (arith, c₁₅ .shared-slice-known .given i)) _ wide (c₉ .read .result) _ _ _ _ _
-    (c₉ .read .ensures) (c₂ .enum-told .given .1) (c .bench .ensures)
-
-returns-3 : tie.Need-returns-3
-returns-3 c =
-    let c₂ = c .before .before in
-    let c₉ = c₂ .before .before .before .before .before .before .before in
-    let c₁₅ = c₉ .before .before .before .before .before .before in
-    let c₁₆ = c₁₅ .before in
-    absurd (never-room (c₁₆ .args .file .now) (λ i. omega (arith, c₁₅ .shared-slice-known .given i)) _ wide (c₉ .read .result) _ _ _ _ _
-    (c₉ .read .ensures) (c₂ .enum-told2 .given .1))
+    let c₈ = c₂ .before .before .before .before .before .before in
+    let c₁₄ = c₈ .before .before .before .before .before .before in
+    let c₁₅ = c₁₄ .before in
+    broken-explained (c₁₅ .args .file .now) (λ i. omega (arith, c₁₄ .shared-slice-known .given i)) _ wide (c₈ .read .result) _ _ _ _ _
+    (c₈ .read .ensures) (c₂ .match .keys2) (c .bench .ensures)
 
 pub of-file-spec : {M : Type 1} → statement M
 of-file-spec = tie.close (tie.spec
     (λ c. search needs) (λ c. search needs) (λ c. search needs) (λ c. search needs) (λ c. search needs) (λ c κs. search needs) (λ c. search needs)
     (λ c. search needs) array-share-prefix-marks slice-aggregate-searched array-share-prefix-lengths slice-aggregate-searched-2 mul-words
     array-share-prefix-words slice-aggregate-searched-3 array-share-prefix-unary slice-aggregate-searched-4 array-share-prefix-binary
-    slice-aggregate-searched-5 searched-requires (λ c. search needs) (λ c κs. search needs) (λ c. search needs) (λ c κs. search needs) returns
-    returns-2 returns-3)
+    slice-aggregate-searched-5 searched-requires (λ c κs. search needs) returns returns-2)

@@ -5,7 +5,7 @@ use lib.ListN.{length-replicate, replicate}
 use Rattle.search.specs.Table.{cols}
 use Rattle.lines.proofs.Searching.{Roomy}
 use Rattle.lines.proofs.Answered.{codes-in, codes-part, lefts-in, lefts-part, rights-in, rights-part, sizes-in, sizes-part}
-use Rattle.explanation.proofs.Outcomes.{this, found-passes, found-stands, none-stands, full-stands, refused-stands}
+use Rattle.explanation.proofs.Outcomes.{this, found-passes, found-stands, unfound-stands}
 use borrow.Author.Needs.{needs}
 use Rattle.explanation.proofs.searched.Statement.{statement}
 use Rattle.explanation.proofs.searched.Tie as tie
@@ -112,33 +112,14 @@ returns-2 : tie.Need-returns-2
 returns-2 c =
     let c₂ = c .before .before in
     let c₄ = c₂ .before .before in
-    let c₁₁ = c₄ .before .before .before .before .before .before .before in
+    let c₁₁ = c₄ .before .before .before .before .before .before in
     let c₂₄ = c₁₁ .before .before .before .before .before .before .before .before .before .before .before .before .before in
-    none-stands (c₂₄ .args .file .now) _ (c₂₄ .pre .0 .0) (c₂₄ .pre .0 .1) (c₂₄ .pre .0 .2) _ roomy _ (c₁₁ .search .result) (c₁₁ .search .ensures)
-    (c₄ .enum-told .given .1) (c₂ .bench .ensures)
-
-returns-3 : tie.Need-returns-3
-returns-3 c =
-    let c₂ = c .before .before in
-    let c₄ = c₂ .before .before in
-    let c₁₁ = c₄ .before .before .before .before .before .before .before in
-    let c₂₄ = c₁₁ .before .before .before .before .before .before .before .before .before .before .before .before .before in
-    full-stands (c₂₄ .args .file .now) _ (c₂₄ .pre .0 .0) (c₂₄ .pre .0 .1) (c₂₄ .pre .0 .2) _ roomy _ (c₁₁ .search .result) (c₁₁ .search .ensures)
-    (c₄ .enum-told2 .given .1) (c₂ .bench2 .ensures)
-
-returns-4 : tie.Need-returns-4
-returns-4 c =
-    let c₂ = c .before .before in
-    let c₄ = c₂ .before .before in
-    let c₁₁ = c₄ .before .before .before .before .before .before .before in
-    let c₂₄ = c₁₁ .before .before .before .before .before .before .before .before .before .before .before .before .before in
-    refused-stands (c₂₄ .args .file .now) _ (c₂₄ .pre .0 .0) (c₂₄ .pre .0 .1) (c₂₄ .pre .0 .2) _ roomy _ (c₁₁ .search .result) (c₁₁ .search .ensures)
-    (c₄ .enum-told3 .given .1) (c₂ .bench3 .ensures)
+    unfound-stands (c₂₄ .args .file .now) _ (c₂₄ .pre .0 .0) (c₂₄ .pre .0 .1) (c₂₄ .pre .0 .2) _ roomy _ (c₁₁ .search .result) (c₁₁ .search .ensures)
+    (c₄ .match .keys2) (c₂ .bench .ensures)
 
 pub searched-spec : {M : Type 1} → statement M
 searched-spec = tie.close (tie.spec
     (λ c. search needs) (λ c. search needs) (λ c. search needs) (λ c. search needs) (λ c. search needs) (λ c κs. search needs) (λ c. search needs)
     array-share-prefix-codes slice-aggregate-reported array-share-prefix-lefts slice-aggregate-reported-2 array-share-prefix-rights
-    slice-aggregate-reported-3 array-share-prefix-sizes slice-aggregate-reported-4 reported-requires (λ c. search needs) (λ c κs. search needs)
-    (λ c. search needs) (λ c κs. search needs) (λ c. search needs) (λ c κs. search needs) (λ c. search needs) returns (λ c. search needs) returns-2
-    (λ c. search needs) returns-3 (λ c. search needs) returns-4)
+    slice-aggregate-reported-3 array-share-prefix-sizes slice-aggregate-reported-4 reported-requires (λ c κs. search needs) (λ c. search needs)
+    returns (λ c. search needs) returns-2)
