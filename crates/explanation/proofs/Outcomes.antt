@@ -129,39 +129,40 @@ module _ (file : List ℕ) (j : Input) (p : Parts) (g : Good p) (s : j ≡ fileI
           let d = decided-unique (searchRows (fileInput p benchRoom) t) z 0 (v .decided) (in-room p g benchRoom t roomy (omega arith) (omega arith)) in
           absurd (omega (arith, v .outcome .0))
 
-  module _ {root : declared.Node} {c : Counts} (e : a ≡ Found root c) where
-    pub this : FoundAt p g benchRoom t roomy u root c
-    this = found-at p g benchRoom t roomy u root c (moved (Found root c) e)
+  pub this : {root : declared.Node} {c : Counts} → a ≡ Found root c → FoundAt p g benchRoom t roomy u root c
+  this {root} {c} e = found-at p g benchRoom t roomy u root c (moved (Found root c) e)
 
-    -- the formula found passes the check
-    pub found-passes : Decided (checkRows (j .recording) (lent this) (nodeOf root)) 0
-    found-passes =
-        let r = fileInput p benchRoom .recording in
-        let d : Decided (checkRows r (tableNodes (this .table)) (nodeOf root)) 0 =
-        decided-both (dataRows (recording (length (p .sessions)) (length (p .names)) (marksOf p) (lengthsOf p) (wordsOf p)))
-        (brokenList (length (p .names)) (tableNodes (this .table)) (nodeOf root) ∷ []) 0 0 (lit< tt, (lit< tt, (lit< tt, (lit< tt, (lit< tt, tt)))))
-        (data-pass p g benchRoom t roomy) (decided-not (brokenList (length (p .names)) (tableNodes (this .table)) (nodeOf root)) (this .whole)) in
-        subst (λ (i : Input). Decided (checkRows (i .recording) (lent this) (nodeOf root)) 0) (sym s)
-        (subst (λ (k : List Node). Decided (checkRows r k (nodeOf root)) 0) (sym (kept-nodes this)) d)
+module _ (file : List ℕ) (j : Input) (p : Parts) (g : Good p) (s : j ≡ fileInput p benchRoom) {t : Cols} {roomy : Roomy t} {u : Cols} {root : declared.Node} {c : Counts}
+    (this : FoundAt p g benchRoom t roomy u root c) where
+  -- the formula found passes the check
+  pub found-passes : Decided (checkRows (j .recording) (lent this) (nodeOf root)) 0
+  found-passes =
+      let r = fileInput p benchRoom .recording in
+      let d : Decided (checkRows r (tableNodes (this .table)) (nodeOf root)) 0 =
+      decided-both (dataRows (recording (length (p .sessions)) (length (p .names)) (marksOf p) (lengthsOf p) (wordsOf p)))
+      (brokenList (length (p .names)) (tableNodes (this .table)) (nodeOf root) ∷ []) 0 0 (lit< tt, (lit< tt, (lit< tt, (lit< tt, (lit< tt, tt)))))
+      (data-pass p g benchRoom t roomy) (decided-not (brokenList (length (p .names)) (tableNodes (this .table)) (nodeOf root)) (this .whole)) in
+      subst (λ (i : Input). Decided (checkRows (i .recording) (lent this) (nodeOf root)) 0) (sym s)
+      (subst (λ (k : List Node). Decided (checkRows r k (nodeOf root)) 0) (sym (kept-nodes this)) d)
 
-    pub found-stands : {old new : List ℕ} {n : ℕ} → Stands (ReportOf (j .recording) (lent this) (nodeOf root)) old n new → Stands (ToldOf file j) old n new
-    found-stands b =
-        let is : search j ≡ ended (found (nodeOf root)) (this .table) (tallyOf c) = ap search s ∙ this .is in
-        let text : ReportText (j .recording) (tableNodes (this .table)) (nodeOf root) (b .output) =
-        subst (λ (k : List Node). ReportText (j .recording) k (nodeOf root) (b .output)) (kept-nodes this) (b .said) in
-        record {
-          output = b .output;
-          said = record {
-            report = λ root′ k (n, q).
-                let z = sym is ∙ q in
-                let x : nodeOf root ≡ root′ = cc z in
-                let y : this .table ≡ k = cc z in
-                subst (λ (l : Table). ReportText (j .recording) (tableNodes l) root′ (b .output)) y
-                (subst (λ (m : Node). ReportText (j .recording) (tableNodes (this .table)) m (b .output)) x text);
-            else = λ f. absurd (f (nodeOf root) (this .table) (tallyOf c, is));
-          };
-          wrote = b .wrote;
-        }
+  pub found-stands : {old new : List ℕ} {n : ℕ} → Stands (ReportOf (j .recording) (lent this) (nodeOf root)) old n new → Stands (ToldOf file j) old n new
+  found-stands b =
+      let is : search j ≡ ended (found (nodeOf root)) (this .table) (tallyOf c) = ap search s ∙ this .is in
+      let text : ReportText (j .recording) (tableNodes (this .table)) (nodeOf root) (b .output) =
+      subst (λ (k : List Node). ReportText (j .recording) k (nodeOf root) (b .output)) (kept-nodes this) (b .said) in
+      record {
+        output = b .output;
+        said = record {
+          report = λ root′ k (n, q).
+              let z = sym is ∙ q in
+              let x : nodeOf root ≡ root′ = cc z in
+              let y : this .table ≡ k = cc z in
+              subst (λ (l : Table). ReportText (j .recording) (tableNodes l) root′ (b .output)) y
+              (subst (λ (m : Node). ReportText (j .recording) (tableNodes (this .table)) m (b .output)) x text);
+          else = λ f. absurd (f (nodeOf root) (this .table) (tallyOf c, is));
+        };
+        wrote = b .wrote;
+      }
 
 -- ---- the file
 
