@@ -93,8 +93,7 @@ unfolding input left start
 found-requires c κs =
     let k = c .before .before .before .before .before .before in
     let d = k .before .before .before .before .before .before .before in
-    let s = d .before .before .before .before .before .before .before .before .before .before .before .before .before in
-    (
+    let s = d .before .before .before .before .before .before .before .before .before .before .before .before .before in (
       showable (s .args .names .now) (input s) (s .pre .0 .0) (s .pre .0 .1) blank roomy (left d) (d .search .result) (ran d) (k .answer .given .1),
       as-many (s .args .names .now) (input s) (s .pre .0 .0) (s .pre .0 .1) blank roomy (left d) (d .search .result) (ran d) (k .answer .given .1),
     )
