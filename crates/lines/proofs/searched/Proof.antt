@@ -48,8 +48,9 @@ ran c = c .search .ensures
 
 -- the formula found, and the table that it stands in
 here : (c : tie.After-answer)
-    → FoundAt (start (c .before .before .before .before .before .before .before) .pre .0 .0) (start (c .before .before .before .before .before .before .before) .pre .0 .1 .good) (start (c .before .before .before .before .before .before .before) .args .room) blank
-    roomy (left (c .before .before .before .before .before .before .before)) (c .answer .given .0 .0) (c .answer .given .0 .1 .0)
+    → FoundAt (start (c .before .before .before .before .before .before .before) .pre .0 .0) (start (c .before .before .before .before .before .before .before) .pre .0 .1 .good)
+    (start (c .before .before .before .before .before .before .before) .args .room)
+    blank roomy (left (c .before .before .before .before .before .before .before)) (c .answer .given .0 .0) (c .answer .given .0 .1 .0)
 unfolding start input
 here c =
     let d = c .before .before .before .before .before .before .before in

@@ -84,4 +84,5 @@ pub judged-spec : {M : Type 1} → statement M
 judged-spec = tie.close (tie.spec
     (λ c. search needs) (λ c. search needs) (λ c. search needs) (λ c. search needs) (λ c κs. search needs) (λ c. search needs)
     array-share-prefix-codes slice-aggregate-checked array-share-prefix-lefts slice-aggregate-checked-2 array-share-prefix-rights
-    slice-aggregate-checked-3 array-share-prefix-sizes slice-aggregate-checked-4 (λ c. here (c .before .before .before .before .before) .some) (λ c κs. search needs) unread-requires (λ c. search needs) returns (λ c. search needs) returns-2)
+    slice-aggregate-checked-3 array-share-prefix-sizes slice-aggregate-checked-4 (λ c. here (c .before .before .before .before .before) .some) (λ c κs. search needs)
+    unread-requires (λ c. search needs) returns (λ c. search needs) returns-2)
