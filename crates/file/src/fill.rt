@@ -75,7 +75,14 @@ pub(crate) fn fill_sessions(
 }
 
 // The codes of both groups: u and v of them, each group behind its count.
-pub(crate) fn fill_codes(unary: &mut [u8], binary: &mut [u8], file: &[u8], at: usize, u: usize, v: usize)
+pub(crate) fn fill_codes(
+    unary: &mut [u8],
+    binary: &mut [u8],
+    file: &[u8],
+    at: usize,
+    u: usize,
+    v: usize,
+)
     requires { ⌜ (u ≤ length (now unary)) × (v ≤ length (now binary)) × (at + u + 2 + v ≤ length (now file)) ⌝ }
     ensures { λ _. ⌜ (now (unary .exit) ≡ sets (now (unary .entry)) 0 (strided 1 u (drop (at + 1) (now (file .entry)))))
         × (now (binary .exit) ≡ sets (now (binary .entry)) 0 (strided 1 v (drop (at + u + 2) (now (file .entry))))) ⌝ }

@@ -65,28 +65,14 @@ fn leaf_good(m: usize, node: Node) -> bool
     requires { ⌜ (IsUnary (node .code) → ⊥) × (IsBinary (node .code) → ⊥) ⌝ }
     ensures { λ r. ⌜ LeafJudged m (nodeOf node) r ⌝ }
 {
-    if node.code < PROPOSITION {
-        return false;
-    }
-    if TRUE < node.code {
-        return false;
-    }
-    if node.right.0 != 0 {
-        return false;
-    }
-    if node.size != 1 {
-        return false;
-    }
-    if node.code == PROPOSITION {
-        if (node.left.0 as usize) < m {
-            return true;
-        }
-        return false;
-    }
-    if node.left.0 != 0 {
-        return false;
-    }
-    true
+    let code = node.code;
+    let known = (PROPOSITION <= code) & (code <= TRUE);
+    let unused = node.right.0 == 0;
+    let single = node.size == 1;
+    let proposition = code == PROPOSITION;
+    let listed = (node.left.0 as usize) < m;
+    let nothing = node.left.0 == 0;
+    known & unused & single & ((proposition & listed) | (!proposition & nothing))
 }
 
 // A unary operator's node, whose child has size l.
@@ -94,20 +80,12 @@ fn unary_good(below: usize, node: Node, l: u8) -> bool
     requires { ⌜ IsUnary (node .code) ⌝ }
     ensures { λ r. ⌜ UnaryJudged below (nodeOf node) l r ⌝ }
 {
-    if below <= node.left.0 as usize {
-        return false;
-    }
-    if node.right.0 != 0 {
-        return false;
-    }
     let size = node.size as usize;
-    if size != 1 + l as usize {
-        return false;
-    }
-    if rules::BOUND < size {
-        return false;
-    }
-    true
+    let placed = (node.left.0 as usize) < below;
+    let unused = node.right.0 == 0;
+    let sum = size == 1 + l as usize;
+    let small = size <= rules::BOUND;
+    placed & unused & sum & small
 }
 
 // A binary operator's node, whose children have the sizes l and r.
@@ -115,20 +93,12 @@ fn binary_good(below: usize, node: Node, l: u8, r: u8) -> bool
     requires { ⌜ IsBinary (node .code) ⌝ }
     ensures { λ a. ⌜ BinaryJudged below (nodeOf node) l r a ⌝ }
 {
-    if below <= node.left.0 as usize {
-        return false;
-    }
-    if below <= node.right.0 as usize {
-        return false;
-    }
     let size = node.size as usize;
-    if size != 1 + l as usize + r as usize {
-        return false;
-    }
-    if rules::BOUND < size {
-        return false;
-    }
-    true
+    let left = (node.left.0 as usize) < below;
+    let right = (node.right.0 as usize) < below;
+    let sum = size == 1 + l as usize + r as usize;
+    let small = size <= rules::BOUND;
+    left & right & sum & small
 }
 
 // One node, whose children have to stand below a place.
