@@ -6,27 +6,30 @@ use operators::Group;
 use rules::kinds::Place;
 ghost use mathlib.Core.Path.{_≡_};
 ghost use mathlib.Core.List.{[], _∷_};
+ghost use Prim.Native.Nat.{min};
 ghost use Rattle.formula.specs.Nodes.{nodeAt};
 ghost use Rattle.rules.specs.Refusals.{Decided};
 ghost use Rattle.formula.specs.Kinds.{nodeOf, countOf, nodes};
 ghost use Rattle.formula.specs.Rule.{IsUnary, IsBinary, brokenList};
 ghost use Rattle.formula.specs.Inner.{NodeJudged, AllJudged, LeafJudged, UnaryJudged, BinaryJudged};
 
+fn smaller(a: usize, b: usize) -> usize
+    ensures { λ r. ⌜ r ≡ min a b ⌝ }
+{
+    if b < a {
+        return b;
+    }
+    a
+}
+
 // How many nodes four slices have: as many as the shortest.
 pub fn count(codes: &[u8], lefts: &[u16], rights: &[u16], sizes: &[u8]) -> usize
     ensures { λ r. ⌜ r ≡ countOf (now (codes .entry)) (now (lefts .entry)) (now (rights .entry)) (now (sizes .entry)) ⌝ }
 {
-    let mut n = codes.len();
-    if lefts.len() < n {
-        n = lefts.len();
-    }
-    if rights.len() < n {
-        n = rights.len();
-    }
-    if sizes.len() < n {
-        n = sizes.len();
-    }
-    n
+    smaller(
+        codes.len(),
+        smaller(lefts.len(), smaller(rights.len(), sizes.len())),
+    )
 }
 
 // The node at a place; where there is none, one whose numbers are all 0.
@@ -157,11 +160,10 @@ pub fn refusal(
     if rules::ROOM < n {
         return 9;
     }
-    if nodes_good(m, codes, lefts, rights, sizes, n) {
-        if node_good(m, codes, lefts, rights, sizes, n, root) {
-            return 0;
-        }
-        return 9;
+    let listed = nodes_good(m, codes, lefts, rights, sizes, n);
+    let rooted = node_good(m, codes, lefts, rights, sizes, n, root);
+    if listed & rooted {
+        return 0;
     }
     9
 }
