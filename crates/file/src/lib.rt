@@ -132,22 +132,7 @@ fn enough(
 ) -> bool
     ensures { λ b. ⌜ Enough marks lengths words unary binary r n u v b ⌝ }
 {
-    if marks < r {
-        return false;
-    }
-    if lengths < r {
-        return false;
-    }
-    if words < n {
-        return false;
-    }
-    if unary < u {
-        return false;
-    }
-    if binary < v {
-        return false;
-    }
-    true
+    (r <= marks) & ((r <= lengths) & ((n <= words) & ((u <= unary) & (v <= binary))))
 }
 
 // Reads a session file into lent slices: marks and lengths, one a session; words, m a session; the codes of each group. The whole file is judged before

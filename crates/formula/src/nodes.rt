@@ -9,7 +9,7 @@ ghost use mathlib.Core.List.{[], _∷_};
 ghost use Prim.Native.Nat.{min};
 ghost use Rattle.formula.specs.Nodes.{nodeAt};
 ghost use Rattle.rules.specs.Refusals.{Decided};
-ghost use Rattle.formula.specs.Kinds.{nodeOf, countOf, nodes};
+ghost use Rattle.formula.specs.Kinds.{node, nodeOf, countOf, nodes};
 ghost use Rattle.formula.specs.Rule.{IsUnary, IsBinary, brokenList};
 ghost use Rattle.formula.specs.Inner.{NodeJudged, AllJudged, LeafJudged, UnaryJudged, BinaryJudged};
 
@@ -32,28 +32,25 @@ pub fn count(codes: &[u8], lefts: &[u16], rights: &[u16], sizes: &[u8]) -> usize
     )
 }
 
-// The node at a place; where there is none, one whose numbers are all 0.
-pub fn node_at(codes: &[u8], lefts: &[u16], rights: &[u16], sizes: &[u8], at: usize) -> Node
-    ensures { λ r. ⌜ nodeOf r ≡ nodeAt (nodes (now (codes .entry)) (now (lefts .entry)) (now (rights .entry)) (now (sizes .entry))) at ⌝ }
+fn node_of(code: u8, left: u16, right: u16, size: u8) -> Node
+    ensures { λ r. ⌜ nodeOf r ≡ node code left right size ⌝ }
 {
-    if count(codes, lefts, rights, sizes) <= at {
-        return Node {
-            code: 0,
-            left: Place(0),
-            right: Place(0),
-            size: 0,
-        };
-    }
-    let code = codes[at];
-    let left = lefts[at];
-    let right = rights[at];
-    let size = sizes[at];
     Node {
         code,
         left: Place(left),
         right: Place(right),
         size,
     }
+}
+
+// The node at a place; where there is none, one whose numbers are all 0.
+pub fn node_at(codes: &[u8], lefts: &[u16], rights: &[u16], sizes: &[u8], at: usize) -> Node
+    ensures { λ r. ⌜ nodeOf r ≡ nodeAt (nodes (now (codes .entry)) (now (lefts .entry)) (now (rights .entry)) (now (sizes .entry))) at ⌝ }
+{
+    if count(codes, lefts, rights, sizes) <= at {
+        return node_of(0, 0, 0, 0);
+    }
+    node_of(codes[at], lefts[at], rights[at], sizes[at])
 }
 
 // The size of the node at a place; 0 where there is none.
