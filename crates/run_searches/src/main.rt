@@ -63,6 +63,27 @@ fn say_lent(
     stored::say_words(matrices);
 }
 
+// The numbers of a search.
+struct Head {
+    r: usize,
+    m: usize,
+    bound: usize,
+    room: usize,
+    constants: u8,
+}
+
+fn read_head(line: &[u8]) -> Head {
+    let mut head = [0u64; 5];
+    stored::words(line, 1, &mut head);
+    Head {
+        r: head[0] as usize,
+        m: head[1] as usize,
+        bound: head[2] as usize,
+        room: head[3] as usize,
+        constants: (head[4] % 256) as u8,
+    }
+}
+
 fn run(
     line: &[u8],
     marks: &[u8],
@@ -76,14 +97,13 @@ fn run(
     sizes: &mut [u8],
     matrices: &mut [u64],
 ) {
-    let mut head = [0u64; 5];
-    stored::words(line, 1, &mut head);
+    let head = read_head(line);
     let answer = search::search(
-        head[0] as usize,
-        head[1] as usize,
-        head[2] as usize,
-        head[3] as usize,
-        (head[4] % 256) as u8,
+        head.r,
+        head.m,
+        head.bound,
+        head.room,
+        head.constants,
         marks,
         lengths,
         words,
@@ -146,10 +166,14 @@ fn example(line: &[u8]) {
     say(b"\n");
 }
 
-fn main() {
-    let mut room = [0u8; 65536];
-    let text = stored::input(&mut room);
+fn examples(text: &[u8]) {
     for number in 0..stored::lines(text) {
         example(stored::line(text, number));
     }
+}
+
+fn main() {
+    let mut room = [0u8; 65536];
+    let text = stored::input(&mut room);
+    examples(text);
 }
