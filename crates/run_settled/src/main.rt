@@ -29,8 +29,9 @@ fn say_length(length: usize) {
     say(b": ");
 }
 
-fn unary_example(name: &[u8], code: u8, length: usize, x: u64) {
-    say(name);
+// The number is that of an example P1 to P10.
+fn unary_example(number: u64, code: u8, length: usize, x: u64) {
+    say_number(b"P", number);
     say(b", ");
     say_length(length);
     say_token(code);
@@ -40,8 +41,8 @@ fn unary_example(name: &[u8], code: u8, length: usize, x: u64) {
     say(b"\n");
 }
 
-fn binary_example(name: &[u8], code: u8, length: usize, x: u64, y: u64) {
-    say(name);
+fn binary_example(number: u64, code: u8, length: usize, x: u64, y: u64) {
+    say_number(b"P", number);
     say(b", ");
     say_length(length);
     say_number(b"", x);
@@ -57,40 +58,24 @@ fn binary_example(name: &[u8], code: u8, length: usize, x: u64, y: u64) {
     say(b"\n");
 }
 
-fn settled_unary() {
-    unary_example(b"P1", 0, 4, 6);
-    unary_example(b"P2", 2, 4, 6);
-    unary_example(b"P2", 1, 4, 6);
-    unary_example(b"P3", 3, 4, 6);
-    unary_example(b"P3", 4, 4, 6);
-}
-
-fn settled_binary() {
-    binary_example(b"P4", 7, 4, 3, 4);
-    binary_example(b"P5", 8, 4, 4, 7);
-    binary_example(b"P5", 8, 4, 0, 7);
-    binary_example(b"P6", 9, 4, 6, 3);
-    binary_example(b"P6", 10, 4, 6, 3);
-}
-
-fn settled_short() {
-    unary_example(b"P7", 1, 1, 0);
-    unary_example(b"P7", 2, 1, 1);
-    unary_example(b"P8", 0, 0, 0);
-    unary_example(b"P8", 1, 0, 0);
-}
-
-fn settled_long() {
-    unary_example(b"P9", 0, 64, 0);
-    unary_example(b"P9", 1, 64, 0);
-    binary_example(b"P10", 7, 64, 0x7fff_ffff_ffff_ffff, 0x8000_0000_0000_0000);
-}
-
 fn settled() {
-    settled_unary();
-    settled_binary();
-    settled_short();
-    settled_long();
+    unary_example(1, 0, 4, 6);
+    unary_example(2, 2, 4, 6);
+    unary_example(2, 1, 4, 6);
+    unary_example(3, 3, 4, 6);
+    unary_example(3, 4, 4, 6);
+    binary_example(4, 7, 4, 3, 4);
+    binary_example(5, 8, 4, 4, 7);
+    binary_example(5, 8, 4, 0, 7);
+    binary_example(6, 9, 4, 6, 3);
+    binary_example(6, 10, 4, 6, 3);
+    unary_example(7, 1, 1, 0);
+    unary_example(7, 2, 1, 1);
+    unary_example(8, 0, 0, 0);
+    unary_example(8, 1, 0, 0);
+    unary_example(9, 0, 64, 0);
+    unary_example(9, 1, 64, 0);
+    binary_example(10, 7, 64, 0x7fff_ffff_ffff_ffff, 0x8000_0000_0000_0000);
 }
 
 // How many words of that length there are, up to 4. A formula's word has the first place at length 0 too.
