@@ -30,32 +30,43 @@ fn say_length(length: usize) {
 }
 
 // The number is that of an example P1 to P10.
-fn unary_example(number: u64, code: u8, length: usize, x: u64) {
+fn say_name(number: u64) {
     say_number(b"P", number);
     say(b", ");
-    say_length(length);
-    say_token(code);
-    say_number(b" ", x);
+}
+
+fn say_equals() {
     say(b" =");
-    say_answer(operators::apply_unary(code, CharSeq { length, values: x }));
+}
+
+fn end_line() {
     say(b"\n");
 }
 
+fn unary_example(number: u64, code: u8, length: usize, x: u64) {
+    say_name(number);
+    say_length(length);
+    say_token(code);
+    say_number(b" ", x);
+    say_equals();
+    say_answer(operators::apply_unary(code, CharSeq { length, values: x }));
+    end_line();
+}
+
 fn binary_example(number: u64, code: u8, length: usize, x: u64, y: u64) {
-    say_number(b"P", number);
-    say(b", ");
+    say_name(number);
     say_length(length);
     say_number(b"", x);
     say(b" ");
     say_token(code);
     say_number(b" ", y);
-    say(b" =");
+    say_equals();
     say_answer(operators::apply_binary(
         code,
         CharSeq { length, values: x },
         CharSeq { length, values: y },
     ));
-    say(b"\n");
+    end_line();
 }
 
 fn settled() {
@@ -102,9 +113,9 @@ fn unary_cells(code: u8, length: usize) {
 fn unary_line(code: u8, length: usize) {
     say_length(length);
     say_token(code);
-    say(b" =");
+    say_equals();
     unary_cells(code, length);
-    say(b"\n");
+    end_line();
 }
 
 fn unary_lines(length: usize) {
@@ -132,9 +143,9 @@ fn binary_line(code: u8, length: usize, x: u64) {
     say_number(b"", x);
     say(b" ");
     say_token(code);
-    say(b" =");
+    say_equals();
     binary_cells(code, length, x);
-    say(b"\n");
+    end_line();
 }
 
 fn binary_rows(code: u8, length: usize) {
