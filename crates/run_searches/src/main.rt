@@ -16,11 +16,15 @@ fn say_counts(counts: Counts) {
     say_number(b" dropped ", counts.dropped);
 }
 
+fn say_next(x: u64) {
+    say_number(b" ", x);
+}
+
 fn say_node(node: Node) {
     say_number(b" root ", node.code as u64);
-    say_number(b" ", node.left.0 as u64);
-    say_number(b" ", node.right.0 as u64);
-    say_number(b" ", node.size as u64);
+    say_next(node.left.0 as u64);
+    say_next(node.right.0 as u64);
+    say_next(node.size as u64);
 }
 
 fn say_answer(answer: SearchAnswer) {

@@ -23,11 +23,15 @@ fn say_counts(counts: Counts) {
     say_number(b" dropped ", counts.dropped);
 }
 
+fn say_next(x: u64) {
+    say_number(b" ", x);
+}
+
 fn say_root(root: Node) {
     say_number(b" root ", root.code as u64);
-    say_number(b" ", root.left.0 as u64);
-    say_number(b" ", root.right.0 as u64);
-    say_number(b" ", root.size as u64);
+    say_next(root.left.0 as u64);
+    say_next(root.right.0 as u64);
+    say_next(root.size as u64);
 }
 
 // The end that a state tells.
