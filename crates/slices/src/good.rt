@@ -6,16 +6,7 @@ ghost use Rattle.slices.specs.Inner.{OneOrTwo, ThenState};
 pub(crate) fn one_or_two(r: usize, m: usize) -> u8
     ensures { λ k. ⌜ OneOrTwo r m k ⌝ }
 {
-    if r < 1 {
-        return 1;
-    }
-    if rules::SESSIONS < r {
-        return 1;
-    }
-    if m < 1 {
-        return 1;
-    }
-    if rules::PROPOSITIONS < m {
+    if session::data::outside(r, m) {
         return 1;
     }
     2
