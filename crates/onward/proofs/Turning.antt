@@ -4,14 +4,14 @@ use mathlib.Core.Path.{_≡_, refl}
 use Prim.Native.Nat.{ℕ}
 use native.Mathlib.Omega.{arith}
 use denote.Enum.Declared.{tagOf}
-use borrow.Author.Tests.{eq-eqb, ne-eqb}
+use borrow.Author.Tests.{ne-eqb}
 use Rattle.rules.specs.declared.kinds.Place.{Place}
 use Rattle.split.specs.declared.Cursor.{Cursor}
 use Rattle.split.specs.declared.Step.{Step}
 use Rattle.split.specs.declared.Step.the-variants.{Candidate as Told, End}
 use Rattle.split.proofs.Step.{the-type as step-type}
 use Rattle.onward.specs.declared.Seen.{Seen}
-use Rattle.onward.specs.Onward.{moreState, noneState, restTurn, tryTurn, stepTurn, turnOf}
+use Rattle.onward.specs.Onward.{moreState, noneState, restTurn, tryTurn, turnOf}
 
 pub told-end : (step : Step) → tagOf step-type step ≡ 1 → step ≡ End
 told-end (Told code l q next) e = absurd (omega (arith, e))

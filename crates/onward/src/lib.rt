@@ -45,7 +45,7 @@ fn place_of(n: usize) -> u16
 }
 
 // Where the sizes of the kept formulas begin.
-pub fn starts_at(sizes: &[u8], kept: usize) -> [u16; 33]
+pub fn starts_at(sizes: &[u8], kept: usize) -> [u16; starts::COUNT]
     ensures { λ r. ⌜ r ≡ startsAt (now (sizes .entry)) kept ⌝ }
 {
     of_table(sizes, place_of(kept))
@@ -70,7 +70,7 @@ pub fn seek(
     unary: &[u8],
     binary: &[u8],
     from: State,
-    starts: &mut [u16; 33],
+    starts: &mut [u16; starts::COUNT],
 ) -> Seen
     ensures { λ seen. ⌜ Seeks (upTo 255 m) bound constants (now (sizes .entry)) (now (unary .entry)) (now (binary .entry)) from (now (starts .entry)) (now (starts .exit)) seen ⌝ }
 {

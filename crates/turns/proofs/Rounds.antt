@@ -23,7 +23,7 @@ use Rattle.split.specs.declared.Cursor.{Cursor}
 use Rattle.split.specs.declared.Step.{Step}
 use Rattle.split.specs.declared.Step.the-variants.{Candidate as Told, End}
 use Rattle.split.specs.Split.{cand}
-use Rattle.order.specs.Size.{Layer, firstPlace}
+use Rattle.order.specs.Size.{firstPlace}
 use Rattle.order.specs.Ahead.{ahead, rest, first, cursorAfter}
 use Rattle.starts.specs.Starts.{startsOf}
 use Rattle.order.specs.Steps.{listLong, Steps, CursorWithin}

@@ -19,13 +19,12 @@ use Rattle.rows.specs.Formulas.{Masks}
 use Rattle.table.specs.Slices.{Cols}
 use Rattle.counting.specs.declared.Fate.{Fate}
 use Rattle.candidate.specs.Judge.{Judged}
-use Rattle.counting.specs.Counting.{countedBy}
 use Rattle.state.specs.declared.State.{State}
 use Rattle.onward.specs.declared.Seen.{Seen}
 use Rattle.onward.specs.declared.Turn.{Turn}
 use Rattle.turns.specs.Standing.{layerAt}
 use Rattle.turns.specs.Turns.{GoAsks}
-use Rattle.onward.specs.Onward.{moreState, overState, endAfter, afterState, upTo, startsAt, Over, Seeks, restTurn, turnOf}
+use Rattle.onward.specs.Onward.{endAfter, afterState, upTo, startsAt, Over, Seeks, restTurn, turnOf}
 use Rattle.onward.proofs.Fates.{after-more, after-over}
 use Rattle.onward.proofs.Seeking.{up-to-fits, starts-fit}
 use Rattle.onward.proofs.Turning.{turn-stays, turn-none, turn-spent, turn-tries}

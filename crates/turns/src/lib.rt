@@ -1,6 +1,5 @@
 // The search as one loop (enum_aux in aux.rs): the next candidate, over the ends of sizes, what becomes of it, the counts.
 use state::State;
-ghost use mathlib.Core.Path.{_≡_};
 ghost use mathlib.Core.Bool.{not};
 ghost use lib.ListN.{length};
 ghost use Rattle.walk.specs.Input.{inputOf};

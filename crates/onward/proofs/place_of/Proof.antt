@@ -1,6 +1,5 @@
 -- `place_of` meets its contract.
 -- Assumes nothing.
-use mathlib.Core.Path.{sym}
 use native.Mathlib.Omega.{arith}
 use borrow.Author.Tests.{lt-ltb, le-ltb}
 use Rattle.onward.proofs.place_of.Statement.{statement}

@@ -1,7 +1,6 @@
 -- `turn_of` meets its contract: by whether the walk has ended, by the step, and by what is left of the budget.
 -- Assumes nothing.
 use mathlib.Core.Path.{sym, _∙_}
-use native.Mathlib.Omega.{arith}
 use borrow.Author.Needs.{needs}
 use Rattle.onward.proofs.Turning.{told-end, turn-stays, turn-none, turn-spent, turn-tries}
 use Rattle.onward.proofs.turn_of.Statement.{statement}
