@@ -1,12 +1,15 @@
 -- From what the bench's function, the report, the search and the reader answer to the output.
 -- Assumes nothing.
 use mathlib.Core.Path.{_≡_, refl, sym, ap, _∙_, subst}
+use mathlib.Core.Logic.{inl, inr}
 use mathlib.Core.List.{List, [], _∷_, _++_, head-eq-of-cons-eq, nil≢cons}
 use Prim.Native.Nat.{ℕ, _+_, _≤_}
 use native.Mathlib.Omega.{arith}
 use lib.ListN.{length, take, drop}
 use lib.Dec.{lit<}
 use lib.Seq.{sets-eq}
+use denote.Enum.Declared.{tagOf}
+use types.Run.{OneOf}
 use Rattle.rules.specs.Answers.{Said}
 use Rattle.rules.specs.Refusals.{Decided}
 use Rattle.rules.proofs.Refusals.{decided-unique, decided-both, decided-not}
@@ -14,7 +17,8 @@ use Rattle.session.specs.Recording.{Recording, recording}
 use Rattle.session.specs.Data.{dataRows}
 use Rattle.reading.specs.Reading.{Got, bad}
 use Rattle.file.specs.declared.ReadAnswer.{ReadAnswer}
-use Rattle.file.specs.declared.ReadAnswer.the-variants.{Broken as FileBroken}
+use Rattle.file.specs.declared.ReadAnswer.the-variants.{Parts as AllParts, Broken as FileBroken, Room}
+use Rattle.file.proofs.ReadAnswer.{the-type as read-type}
 use Rattle.file.specs.Format.{Parts, Good}
 use Rattle.file.specs.Offence.{wholeFile}
 use Rattle.file.specs.Reading.{saidRead, Lent, readAfter, marksOf, lengthsOf, wordsOf, readOf}
@@ -31,13 +35,14 @@ use Rattle.writing.specs.Writing.{Wrote}
 use Rattle.counting.specs.declared.Counts.{Counts}
 use Rattle.search.specs.declared.SearchAnswer.{SearchAnswer}
 use Rattle.search.specs.declared.SearchAnswer.the-variants.{Found, None, Full, Refused}
+use Rattle.search.proofs.SearchAnswer.{the-type as search-type}
 use Rattle.search.specs.Table.{Cols}
 use Rattle.search.specs.Search.{tallyOf, walkSaid, Searched}
 use Rattle.checks.specs.Refusals.{searchRows}
 use Rattle.lines.specs.Bench.{benchRoom, fileInput, Says, LinesOf}
 use Rattle.lines.proofs.Searching.{Roomy, FoundAt, found-at, data-pass, in-room}
 use Rattle.lines.proofs.Answered.{lent, kept-nodes, part-is}
-use Rattle.lines.proofs.Handed.{Wide, Handed, broken-at, same, input}
+use Rattle.lines.proofs.Handed.{Wide, Handed, broken-at, never-room, same, input}
 use Rattle.report.specs.declared.Reported.{Reported}
 use Rattle.report.specs.declared.Reported.the-variants.{Text, Refused as NotReported}
 use Rattle.report.specs.Lines.{ReportText}
@@ -109,52 +114,55 @@ module _ (file : List ℕ) (j : Input) (p : Parts) (g : Good p) (s : j ≡ fileI
     wrote = b .wrote;
   }
 
-  pub none-stands : {c : Counts} {old new : List ℕ} {n : ℕ} → a ≡ None c → Stands (BenchSays file) old n new → Stands (ToldOf file j) old n new
-  none-stands {c} e b = other (none-finds j t u (subst (λ (x : SearchAnswer). Searched j t x u) e w)) b
+  -- none of the other answers is a formula found; a good file's search with the bench's room is not refused
+  pub unfound-stands : {old new : List ℕ} {n : ℕ} → OneOf (1 ∷ 2 ∷ 3 ∷ []) (tagOf search-type a) → Stands (BenchSays file) old n new → Stands (ToldOf file j) old n new
+  unfound-stands {old} {new} {n} k b = go a refl k
+    where
+      go : (x : SearchAnswer) → a ≡ x → OneOf (1 ∷ 2 ∷ 3 ∷ []) (tagOf search-type x) → Stands (ToldOf file j) old n new
+      go (Found root c) e (inl q) = absurd (omega (arith, q))
+      go (Found root c) e (inr (inl q)) = absurd (omega (arith, q))
+      go (Found root c) e (inr (inr q)) = absurd (omega (arith, q))
+      go (None c) e q = other (none-finds j t u (subst (λ (x : SearchAnswer). Searched j t x u) e w)) b
+      go (Full z c) e q = other (full-finds j t u (subst (λ (x : SearchAnswer). Searched j t x u) e w)) b
+      go (Refused z) e q =
+          let v = moved (Refused z) e in
+          let d = decided-unique (searchRows (fileInput p benchRoom) t) z 0 (v .decided) (in-room p g benchRoom t roomy (omega arith) (omega arith)) in
+          absurd (omega (arith, v .outcome .0))
 
-  pub full-stands : {z : ℕ} {c : Counts} {old new : List ℕ} {n : ℕ} → a ≡ Full z c → Stands (BenchSays file) old n new → Stands (ToldOf file j) old n new
-  full-stands {z} {c} e b = other (full-finds j t u (subst (λ (x : SearchAnswer). Searched j t x u) e w)) b
+  pub this : {root : declared.Node} {c : Counts} → a ≡ Found root c → FoundAt p g benchRoom t roomy u root c
+  this {root} {c} e = found-at p g benchRoom t roomy u root c (moved (Found root c) e)
 
-  -- a good file's search with the bench's room is not refused
-  pub refused-stands : {z : ℕ} {old new : List ℕ} {n : ℕ} → a ≡ Refused z → Stands (BenchSays file) old n new → Stands (ToldOf file j) old n new
-  refused-stands {z} e b =
-      let v = moved (Refused z) e in
-      let q = decided-unique (searchRows (fileInput p benchRoom) t) z 0 (v .decided) (in-room p g benchRoom t roomy (omega arith) (omega arith)) in
-      absurd (omega (arith, v .outcome .0))
+module _ (file : List ℕ) (j : Input) (p : Parts) (g : Good p) (s : j ≡ fileInput p benchRoom) {t : Cols} {roomy : Roomy t} {u : Cols} {root : declared.Node} {c : Counts}
+    (this : FoundAt p g benchRoom t roomy u root c) where
+  -- the formula found passes the check
+  pub found-passes : Decided (checkRows (j .recording) (lent this) (nodeOf root)) 0
+  found-passes =
+      let r = fileInput p benchRoom .recording in
+      let d : Decided (checkRows r (tableNodes (this .table)) (nodeOf root)) 0 =
+      decided-both (dataRows (recording (length (p .sessions)) (length (p .names)) (marksOf p) (lengthsOf p) (wordsOf p)))
+      (brokenList (length (p .names)) (tableNodes (this .table)) (nodeOf root) ∷ []) 0 0 (lit< tt, (lit< tt, (lit< tt, (lit< tt, (lit< tt, tt)))))
+      (data-pass p g benchRoom t roomy) (decided-not (brokenList (length (p .names)) (tableNodes (this .table)) (nodeOf root)) (this .whole)) in
+      subst (λ (i : Input). Decided (checkRows (i .recording) (lent this) (nodeOf root)) 0) (sym s)
+      (subst (λ (k : List Node). Decided (checkRows r k (nodeOf root)) 0) (sym (kept-nodes this)) d)
 
-  module _ {root : declared.Node} {c : Counts} (e : a ≡ Found root c) where
-    pub this : FoundAt p g benchRoom t roomy u root c
-    this = found-at p g benchRoom t roomy u root c (moved (Found root c) e)
-
-    -- the formula found passes the check
-    pub found-passes : Decided (checkRows (j .recording) (lent this) (nodeOf root)) 0
-    found-passes =
-        let r = fileInput p benchRoom .recording in
-        let d : Decided (checkRows r (tableNodes (this .table)) (nodeOf root)) 0 =
-        decided-both (dataRows (recording (length (p .sessions)) (length (p .names)) (marksOf p) (lengthsOf p) (wordsOf p)))
-        (brokenList (length (p .names)) (tableNodes (this .table)) (nodeOf root) ∷ []) 0 0 (lit< tt, (lit< tt, (lit< tt, (lit< tt, (lit< tt, tt)))))
-        (data-pass p g benchRoom t roomy) (decided-not (brokenList (length (p .names)) (tableNodes (this .table)) (nodeOf root)) (this .whole)) in
-        subst (λ (i : Input). Decided (checkRows (i .recording) (lent this) (nodeOf root)) 0) (sym s)
-        (subst (λ (k : List Node). Decided (checkRows r k (nodeOf root)) 0) (sym (kept-nodes this)) d)
-
-    pub found-stands : {old new : List ℕ} {n : ℕ} → Stands (ReportOf (j .recording) (lent this) (nodeOf root)) old n new → Stands (ToldOf file j) old n new
-    found-stands b =
-        let is : search j ≡ ended (found (nodeOf root)) (this .table) (tallyOf c) = ap search s ∙ this .is in
-        let text : ReportText (j .recording) (tableNodes (this .table)) (nodeOf root) (b .output) =
-        subst (λ (k : List Node). ReportText (j .recording) k (nodeOf root) (b .output)) (kept-nodes this) (b .said) in
-        record {
-          output = b .output;
-          said = record {
-            report = λ root′ k (n, q).
-                let z = sym is ∙ q in
-                let x : nodeOf root ≡ root′ = cc z in
-                let y : this .table ≡ k = cc z in
-                subst (λ (l : Table). ReportText (j .recording) (tableNodes l) root′ (b .output)) y
-                (subst (λ (m : Node). ReportText (j .recording) (tableNodes (this .table)) m (b .output)) x text);
-            else = λ f. absurd (f (nodeOf root) (this .table) (tallyOf c, is));
-          };
-          wrote = b .wrote;
-        }
+  pub found-stands : {old new : List ℕ} {n : ℕ} → Stands (ReportOf (j .recording) (lent this) (nodeOf root)) old n new → Stands (ToldOf file j) old n new
+  found-stands b =
+      let is : search j ≡ ended (found (nodeOf root)) (this .table) (tallyOf c) = ap search s ∙ this .is in
+      let text : ReportText (j .recording) (tableNodes (this .table)) (nodeOf root) (b .output) =
+      subst (λ (k : List Node). ReportText (j .recording) k (nodeOf root) (b .output)) (kept-nodes this) (b .said) in
+      record {
+        output = b .output;
+        said = record {
+          report = λ root′ k (n, q).
+              let z = sym is ∙ q in
+              let x : nodeOf root ≡ root′ = cc z in
+              let y : this .table ≡ k = cc z in
+              subst (λ (l : Table). ReportText (j .recording) (tableNodes l) root′ (b .output)) y
+              (subst (λ (m : Node). ReportText (j .recording) (tableNodes (this .table)) m (b .output)) x text);
+          else = λ f. absurd (f (nodeOf root) (this .table) (tallyOf c, is));
+        };
+        wrote = b .wrote;
+      }
 
 -- ---- the file
 
@@ -171,11 +179,18 @@ module _ (file : List ℕ) (bytes : Bytes file) (l : Lent) (wide : Wide l) (a : 
         wrote = v .wrote;
       }
 
-  pub broken-explained : {o : ℕ} → a ≡ FileBroken o → Stands (BenchSays file) old x new → ExplanationOf file old x new
-  broken-explained {o} q v =
-      let is : wholeFile file ≡ bad o = broken-at file bytes l wide a marks lengths words unary binary e q in
-      record {
-        output = v .output;
-        explains = subst (λ (g : Got Parts). Explains g (v .output)) (sym is) (subst (λ (g : Got Parts). Says g benchRoom (v .output)) is (v .said));
-        wrote = v .wrote;
-      }
+  -- any other answer than a good file's parts is that of a broken file: there is always room
+  pub broken-explained : OneOf (1 ∷ 2 ∷ []) (tagOf read-type a) → Stands (BenchSays file) old x new → ExplanationOf file old x new
+  broken-explained k v = go a refl k
+    where
+      go : (b : ReadAnswer) → a ≡ b → OneOf (1 ∷ 2 ∷ []) (tagOf read-type b) → ExplanationOf file old x new
+      go (AllParts r m n u b constants bound) q (inl z) = absurd (omega (arith, z))
+      go (AllParts r m n u b constants bound) q (inr z) = absurd (omega (arith, z))
+      go (FileBroken o) q z =
+          let is : wholeFile file ≡ bad o = broken-at file bytes l wide a marks lengths words unary binary e q in
+          record {
+            output = v .output;
+            explains = subst (λ (g : Got Parts). Explains g (v .output)) (sym is) (subst (λ (g : Got Parts). Says g benchRoom (v .output)) is (v .said));
+            wrote = v .wrote;
+          }
+      go Room q z = absurd (never-room file bytes l wide a marks lengths words unary binary e q)

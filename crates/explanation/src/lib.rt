@@ -118,9 +118,7 @@ fn searched(
             root,
             text,
         ),
-        SearchAnswer::None(_) => bench(file, text),
-        SearchAnswer::Full { size: _, counts: _ } => bench(file, text),
-        SearchAnswer::Refused(_) => bench(file, text),
+        _ => bench(file, text),
     }
 }
 
@@ -163,7 +161,6 @@ pub fn of_file(file: &[u8], text: &mut [u8; report::LONGEST]) -> usize
             &binary[..b],
             text,
         ),
-        ReadAnswer::Broken(_) => bench(file, text),
-        ReadAnswer::Room => bench(file, text),
+        _ => bench(file, text),
     }
 }

@@ -2,14 +2,13 @@
 // writes.
 mod fill;
 
-use fill::fill_bytes;
-use fill::fill_words;
+use fill::fill_codes;
+use fill::fill_sessions;
 use reading::ReadStep;
 use reading::byte_within;
 use sections::codes::codes_section;
 use sections::sessions::sessions_section;
 ghost use mathlib.Core.Path.{_≡_};
-ghost use Prim.Native.Nat.{_+_, _<_};
 ghost use Rattle.file.specs.Reading.{saidRead, readAfter, lent, readOf};
 ghost use Rattle.file.specs.Inner.{tailOf, tailAt, readAnswerOf, Enough};
 
@@ -133,22 +132,7 @@ fn enough(
 ) -> bool
     ensures { λ b. ⌜ Enough marks lengths words unary binary r n u v b ⌝ }
 {
-    if marks < r {
-        return false;
-    }
-    if lengths < r {
-        return false;
-    }
-    if words < n {
-        return false;
-    }
-    if unary < u {
-        return false;
-    }
-    if binary < v {
-        return false;
-    }
-    true
+    (r <= marks) & ((r <= lengths) & ((n <= words) & ((u <= unary) & (v <= binary))))
 }
 
 // Reads a session file into lent slices: marks and lengths, one a session; words, m a session; the codes of each group. The whole file is judged before
@@ -186,14 +170,8 @@ pub fn read(
                 u,
                 v,
             ) {
-                let stride = 2 + 8 * m;
-                let at = names + 1;
-                let codes = at + r * stride;
-                fill_bytes(marks, file, at, stride, r);
-                fill_bytes(lengths, file, at + 1, stride, r);
-                fill_words(words, file, at, m, r);
-                fill_bytes(unary, file, codes + 1, 1, u);
-                fill_bytes(binary, file, codes + u + 2, 1, v);
+                let codes = fill_sessions(marks, lengths, words, file, names, m, r);
+                fill_codes(unary, binary, file, codes, u, v);
                 return answer;
             }
             ReadAnswer::Room

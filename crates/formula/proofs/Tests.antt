@@ -1,9 +1,9 @@
 -- What the tests of nodes, one after the other, say of the list.
 -- Assumes nothing.
 use mathlib.Core.Path.{_≡_, sym, subst}
-use mathlib.Core.Logic.{inl, inr, ⊎-elim}
-use mathlib.Core.Bool.{Bool, true, false}
-use mathlib.Core.List.{List, [], _∷_, _++_}
+use mathlib.Core.Logic.{⊎-elim}
+use mathlib.Core.Bool.{Bool, true, false, _&&_, true≢false}
+use mathlib.Core.List.{List, [], _∷_}
 use Prim.Native.Nat.{ℕ, _+_, _≤_, _<_}
 use native.Mathlib.Nat.{eq-or-lt-of-le}
 use native.Mathlib.Omega.{arith}
@@ -33,17 +33,13 @@ module _ (m : ℕ) (k : List Node) where
     pub too-many : mostRoom < n → Decided (brokenList m k root ∷ []) 9
     too-many h = decided-given (brokenList m k root) (tooMany (omega arith))
 
-    pub list-fails : {a : Bool} → AllJudged m k n a → a ≡ false → Decided (brokenList m k root ∷ []) 9
-    list-fails j q = let f : (p : ℕ) × (p < n) × Fault m k p (nodeAt k p) = subst (AllJudged m k n) q j in decided-given (brokenList m k root) (listed (f .0) (omega (arith, f .1)) (f .2))
+    pub one-fails : (a b : Bool) → AllJudged m k n a → NodeJudged m k n root b → (a && b) ≡ false → Decided (brokenList m k root ∷ []) 9
+    one-fails false b j i q = decided-given (brokenList m k root) (listed (j .0) (omega (arith, j .1)) (j .2))
+    one-fails true false j i q = decided-given (brokenList m k root) (rooted (subst (λ (x : ℕ). Fault m k x root) (sym e) i))
+    one-fails true true j i q = absurd (true≢false q)
 
-    pub root-fails : {b : Bool} → NodeJudged m k n root b → b ≡ false → Decided (brokenList m k root ∷ []) 9
-    root-fails j q =
-        let f : Fault m k n root = subst (NodeJudged m k n root) q j in
-        decided-given (brokenList m k root) (rooted (subst (λ (x : ℕ). Fault m k x root) (sym e) f))
-
-    pub all-pass : {a b : Bool} → n ≤ mostRoom → AllJudged m k n a → a ≡ true → NodeJudged m k n root b → b ≡ true → Decided (brokenList m k root ∷ []) 0
-    all-pass h j q i r =
-        let f : AllFit m k n = subst (AllJudged m k n) q j in
-        let g : Fits m k n root = subst (NodeJudged m k n root) r i in
-        decided-not (brokenList m k root)
-        (fits-whole m k root (omega arith) (subst (AllFit m k) (sym e) f) (subst (λ (x : ℕ). Fits m k x root) (sym e) g))
+    pub all-pass : (a b : Bool) → n ≤ mostRoom → AllJudged m k n a → NodeJudged m k n root b → (a && b) ≡ true → Decided (brokenList m k root ∷ []) 0
+    all-pass true true h j i q =
+        decided-not (brokenList m k root) (fits-whole m k root (omega arith) (subst (AllFit m k) (sym e) j) (subst (λ (x : ℕ). Fits m k x root) (sym e) i))
+    all-pass false b h j i q = absurd (true≢false (sym q))
+    all-pass true false h j i q = absurd (true≢false (sym q))

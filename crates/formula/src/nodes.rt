@@ -6,27 +6,41 @@ use operators::Group;
 use rules::kinds::Place;
 ghost use mathlib.Core.Path.{_≡_};
 ghost use mathlib.Core.List.{[], _∷_};
+ghost use Prim.Native.Nat.{min};
 ghost use Rattle.formula.specs.Nodes.{nodeAt};
 ghost use Rattle.rules.specs.Refusals.{Decided};
-ghost use Rattle.formula.specs.Kinds.{nodeOf, countOf, nodes};
+ghost use Rattle.formula.specs.Kinds.{node, nodeOf, countOf, nodes};
 ghost use Rattle.formula.specs.Rule.{IsUnary, IsBinary, brokenList};
 ghost use Rattle.formula.specs.Inner.{NodeJudged, AllJudged, LeafJudged, UnaryJudged, BinaryJudged};
+
+fn smaller(a: usize, b: usize) -> usize
+    ensures { λ r. ⌜ r ≡ min a b ⌝ }
+{
+    if b < a {
+        return b;
+    }
+    a
+}
 
 // How many nodes four slices have: as many as the shortest.
 pub fn count(codes: &[u8], lefts: &[u16], rights: &[u16], sizes: &[u8]) -> usize
     ensures { λ r. ⌜ r ≡ countOf (now (codes .entry)) (now (lefts .entry)) (now (rights .entry)) (now (sizes .entry)) ⌝ }
 {
-    let mut n = codes.len();
-    if lefts.len() < n {
-        n = lefts.len();
+    smaller(
+        codes.len(),
+        smaller(lefts.len(), smaller(rights.len(), sizes.len())),
+    )
+}
+
+fn node_of(code: u8, left: u16, right: u16, size: u8) -> Node
+    ensures { λ r. ⌜ nodeOf r ≡ node code left right size ⌝ }
+{
+    Node {
+        code,
+        left: Place(left),
+        right: Place(right),
+        size,
     }
-    if rights.len() < n {
-        n = rights.len();
-    }
-    if sizes.len() < n {
-        n = sizes.len();
-    }
-    n
 }
 
 // The node at a place; where there is none, one whose numbers are all 0.
@@ -34,23 +48,9 @@ pub fn node_at(codes: &[u8], lefts: &[u16], rights: &[u16], sizes: &[u8], at: us
     ensures { λ r. ⌜ nodeOf r ≡ nodeAt (nodes (now (codes .entry)) (now (lefts .entry)) (now (rights .entry)) (now (sizes .entry))) at ⌝ }
 {
     if count(codes, lefts, rights, sizes) <= at {
-        return Node {
-            code: 0,
-            left: Place(0),
-            right: Place(0),
-            size: 0,
-        };
+        return node_of(0, 0, 0, 0);
     }
-    let code = codes[at];
-    let left = lefts[at];
-    let right = rights[at];
-    let size = sizes[at];
-    Node {
-        code,
-        left: Place(left),
-        right: Place(right),
-        size,
-    }
+    node_of(codes[at], lefts[at], rights[at], sizes[at])
 }
 
 // The size of the node at a place; 0 where there is none.
@@ -65,28 +65,14 @@ fn leaf_good(m: usize, node: Node) -> bool
     requires { ⌜ (IsUnary (node .code) → ⊥) × (IsBinary (node .code) → ⊥) ⌝ }
     ensures { λ r. ⌜ LeafJudged m (nodeOf node) r ⌝ }
 {
-    if node.code < PROPOSITION {
-        return false;
-    }
-    if TRUE < node.code {
-        return false;
-    }
-    if node.right.0 != 0 {
-        return false;
-    }
-    if node.size != 1 {
-        return false;
-    }
-    if node.code == PROPOSITION {
-        if (node.left.0 as usize) < m {
-            return true;
-        }
-        return false;
-    }
-    if node.left.0 != 0 {
-        return false;
-    }
-    true
+    let code = node.code;
+    let known = (PROPOSITION <= code) & (code <= TRUE);
+    let unused = node.right.0 == 0;
+    let single = node.size == 1;
+    let proposition = code == PROPOSITION;
+    let listed = (node.left.0 as usize) < m;
+    let nothing = node.left.0 == 0;
+    known & unused & single & ((proposition & listed) | (!proposition & nothing))
 }
 
 // A unary operator's node, whose child has size l.
@@ -94,20 +80,12 @@ fn unary_good(below: usize, node: Node, l: u8) -> bool
     requires { ⌜ IsUnary (node .code) ⌝ }
     ensures { λ r. ⌜ UnaryJudged below (nodeOf node) l r ⌝ }
 {
-    if below <= node.left.0 as usize {
-        return false;
-    }
-    if node.right.0 != 0 {
-        return false;
-    }
     let size = node.size as usize;
-    if size != 1 + l as usize {
-        return false;
-    }
-    if rules::BOUND < size {
-        return false;
-    }
-    true
+    let placed = (node.left.0 as usize) < below;
+    let unused = node.right.0 == 0;
+    let sum = size == 1 + l as usize;
+    let small = size <= rules::BOUND;
+    placed & unused & sum & small
 }
 
 // A binary operator's node, whose children have the sizes l and r.
@@ -115,20 +93,12 @@ fn binary_good(below: usize, node: Node, l: u8, r: u8) -> bool
     requires { ⌜ IsBinary (node .code) ⌝ }
     ensures { λ a. ⌜ BinaryJudged below (nodeOf node) l r a ⌝ }
 {
-    if below <= node.left.0 as usize {
-        return false;
-    }
-    if below <= node.right.0 as usize {
-        return false;
-    }
     let size = node.size as usize;
-    if size != 1 + l as usize + r as usize {
-        return false;
-    }
-    if rules::BOUND < size {
-        return false;
-    }
-    true
+    let left = (node.left.0 as usize) < below;
+    let right = (node.right.0 as usize) < below;
+    let sum = size == 1 + l as usize + r as usize;
+    let small = size <= rules::BOUND;
+    left & right & sum & small
 }
 
 // One node, whose children have to stand below a place.
@@ -187,11 +157,10 @@ pub fn refusal(
     if rules::ROOM < n {
         return 9;
     }
-    if nodes_good(m, codes, lefts, rights, sizes, n) {
-        if node_good(m, codes, lefts, rights, sizes, n, root) {
-            return 0;
-        }
-        return 9;
+    let listed = nodes_good(m, codes, lefts, rights, sizes, n);
+    let rooted = node_good(m, codes, lefts, rights, sizes, n, root);
+    if listed & rooted {
+        return 0;
     }
     9
 }

@@ -1,4 +1,4 @@
--- The search in slices at the boundary: with no session lent the core refuses at 3 at the latest, and rows that are not given may stand in a list.
+-- The search in slices at the boundary: with no session lent the core's tests refuse at 3 at the latest, and rows that are not given may stand in a list.
 -- Assumes nothing.
 use mathlib.Core.Path.{_≡_, refl, sym, ap, _∙_, subst}
 use mathlib.Core.Bool.{Bool, cond}
@@ -10,15 +10,17 @@ use native.Mathlib.Omega.{arith}
 use borrow.Author.Tests.{eq-eqb, ne-eqb}
 use lib.Dec.{eqb}
 use lib.ListN.{length, set, length-set}
+use Rattle.rules.specs.Limits.{mostBudget}
 use Rattle.rules.specs.Refusals.{Decided}
 use Rattle.rules.proofs.Refusals.{decided-unique, decided-not}
 use Rattle.walk.specs.Input.{Input, inputOf}
-use Rattle.table.specs.Slices.{Cols}
+use Rattle.checks.specs.Refusals.{searchRows}
+use Rattle.table.specs.Slices.{Cols, cols}
 use Rattle.slices.specs.declared.Resumed.{Resumed}
 use Rattle.slices.specs.declared.Resumed.the-variants.{Goes, Refused}
 use Rattle.state.specs.declared.State.{State}
 use Rattle.slices.specs.Slices as core
-use Rattle.slices.specs.Resume.{resumedNumber, Called}
+use Rattle.slices.specs.Resume.{Called}
 use Rattle.out.specs.Out.{longWords, OutWord, wordFrom, written}
 use Rattle.state_words.specs.Words.{stateWords, stateRead}
 use Rattle.state_words.specs.Written.{stateShort, StateDone}
@@ -28,19 +30,33 @@ use Rattle.out_resume.specs.Inner.{ResumeUnanswered, ResumePut}
 -- ---- `out` or the state is too short
 
 module _ (r m bound room constants budget : ℕ) where
-  -- r is at least 1 where 1 is not given, so that no marks are too few
-  unanswered-rows : (t : Cols) (st : State) (k : ℕ) → Decided (core.resumeRows (inputOf r m bound room constants [] [] [] [] []) t budget st) k
-      → ResumeUnanswered r m bound room constants budget k
-  unfolding Decided
-  unanswered-rows t st k (inl p) = inl p
-  unanswered-rows t st k (inr (p, inl q)) = inr (p, inl q)
-  unanswered-rows t st k (inr (p, inr (q, inl b))) = inr (p, inr (q, inl b))
-  unanswered-rows t st k (inr (p, inr (q, inr (b, inl s)))) = inr (p, inr (q, inr (b, inl (tt, s .1))))
-  unanswered-rows t st k (inr (p, inr (q, inr (b, inr (s, u))))) = absurd (p (inl (inl (lt-of-not-le λ g. s (inl g)))))
+  -- the numbers that the core's tests give with nothing lent
+  abbrev Tests : ℕ → Type 0
+  Tests k = Decided (searchRows (inputOf r m bound room constants [] [] [] [] []) (cols [] [] [] [] [])) k
 
-  pub unanswered : (t u : Cols) (st : State) (a : Resumed) → Called (inputOf r m bound room constants [] [] [] [] []) t budget st a u
-      → ResumeUnanswered r m bound room constants budget (resumedNumber a)
-  unanswered t u st a s = unanswered-rows t st (resumedNumber a) (s .decided)
+  abbrev Gives : ℕ → Type 0
+  Gives k = ResumeUnanswered r m bound room constants budget k
+
+  pub unanswered-over : (k : ℕ) → k ≡ 3 → mostBudget < budget → Tests k → Gives 2
+  unfolding Decided
+  unanswered-over k e h (inl p) = absurd (omega (arith, p .1))
+  unanswered-over k e h (inr (p, inl q)) = absurd (omega (arith, q .1))
+  unanswered-over k e h (inr (p, inr (q, s))) = inr (p, inr (q, inl (h, refl)))
+
+  -- r is at least 1 where 1 is not given, so that no marks are too few
+  pub unanswered-within : (k : ℕ) → budget ≤ mostBudget → Tests k → Gives k
+  unfolding Decided
+  unanswered-within k h (inl p) = inl p
+  unanswered-within k h (inr (p, inl q)) = inr (p, inl q)
+  unanswered-within k h (inr (p, inr (q, inl s))) = inr (p, inr (q, inr (λ g. omega arith, inl (tt, s .1))))
+  unanswered-within k h (inr (p, inr (q, inr (s, u)))) = absurd (p (inl (inl (lt-of-not-le λ g. s (inl g)))))
+
+  pub unanswered-before : (k : ℕ) → (k ≡ 3 → ⊥) → Tests k → Gives k
+  unfolding Decided
+  unanswered-before k f (inl p) = inl p
+  unanswered-before k f (inr (p, inl q)) = inr (p, inl q)
+  unanswered-before k f (inr (p, inr (q, inl s))) = absurd (f (s .1))
+  unanswered-before k f (inr (p, inr (q, inr (s, u)))) = absurd (p (inl (inl (lt-of-not-le λ g. s (inl g)))))
 
   module _ (marks lengths words unary binary : List ℕ) (t : Cols) (state old : List ℕ) where
     abbrev i : Input

@@ -3,11 +3,13 @@ use formula::kinds::Node;
 use slices::Resumed;
 use state::State;
 ghost use mathlib.Core.Path.{_≡_};
+ghost use mathlib.Core.List.{[]};
 ghost use Prim.Native.Nat.{_≤_};
 ghost use lib.ListN.{length};
+ghost use Rattle.rules.specs.Refusals.{Decided};
+ghost use Rattle.checks.specs.Refusals.{searchRows};
 ghost use Rattle.walk.specs.Input.{inputOf};
 ghost use Rattle.table.specs.Slices.{cols};
-ghost use Rattle.slices.specs.Resume.{resumedNumber};
 ghost use Rattle.out.specs.Out.{longWords, written};
 ghost use Rattle.state_words.specs.Words.{stateWords};
 ghost use Rattle.out_resume.specs.Resume.{foundWords, toldWords, ResumeDone};
@@ -45,10 +47,7 @@ pub fn resume(
         (now (state .exit))
         (now (out .exit)) ⌝ }
 {
-    if out.len() < out::LONG_WORDS {
-        return unanswered(r, m, bound, room, constants, budget);
-    }
-    if state.len() < state_words::STATE_WORDS {
+    if out.len() < out::LONG_WORDS || state.len() < state_words::STATE_WORDS {
         return unanswered(r, m, bound, room, constants, budget);
     }
     let from = state_words::read(state);
@@ -74,41 +73,43 @@ pub fn resume(
     put(answer, state, out)
 }
 
-// Where `out` or the state is too short: the number that the core gives when nothing is lent to it. It has to refuse then, with 3 at the latest, and in its own
-// order, so that none of its tests is repeated here.
+// Where `out` or the state is too short: the number that the core's tests give when nothing is lent. They have to refuse then, with 3 at the latest, and in
+// their own order; the budget's 2 comes before 3.
 fn unanswered(r: usize, m: usize, bound: usize, room: usize, constants: u8, budget: u64) -> u64
     ensures { λ k. ⌜ ResumeUnanswered r m bound room constants budget k ⌝ }
 {
-    let fresh = slices::fresh();
-    let answer = slices::resume(
+    let number = refusal(r, m, bound, room, constants);
+    if number == 3 {
+        if rules::BUDGET < budget {
+            return 2;
+        }
+    }
+    number
+}
+
+fn refusal(r: usize, m: usize, bound: usize, room: usize, constants: u8) -> u64
+    ensures { λ k. ⌜ Decided (searchRows (inputOf r m bound room constants [] [] [] [] []) (cols [] [] [] [] [])) k ⌝ }
+{
+    let bytes: &[u8] = &[];
+    let places: &[u16] = &[];
+    let words: &[u64] = &[];
+    checks::refusal(
         r,
         m,
         bound,
         room,
         constants,
-        &[],
-        &[],
-        &[],
-        &[],
-        &[],
-        budget,
-        fresh,
-        &mut [],
-        &mut [],
-        &mut [],
-        &mut [],
-        &mut [],
-    );
-    number(answer)
-}
-
-fn number(answer: Resumed) -> u64
-    ensures { λ k. ⌜ k ≡ resumedNumber answer ⌝ }
-{
-    match answer {
-        Resumed::Goes(_) => 0,
-        Resumed::Refused(number) => number as u64,
-    }
+        bytes,
+        bytes,
+        words,
+        bytes,
+        bytes,
+        bytes,
+        places,
+        places,
+        bytes,
+        words,
+    ) as u64
 }
 
 fn tell_found(root: Node, out: &mut [u64])

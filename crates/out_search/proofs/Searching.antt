@@ -1,4 +1,4 @@
--- The search at the boundary: with no session lent the core refuses at 3 at the latest, and a row that is not given may stand in a list.
+-- The search at the boundary: with no session lent the core's tests refuse at 3 at the latest, and a row that is not given may stand in a list.
 -- Assumes nothing.
 use mathlib.Core.Path.{_≡_, refl}
 use mathlib.Core.Logic.{inl, inr}
@@ -11,7 +11,7 @@ use Rattle.rules.specs.Refusals.{Decided}
 use Rattle.walk.specs.Input.{Input, inputOf}
 use Rattle.search.specs.declared.SearchAnswer.{SearchAnswer}
 use Rattle.search.specs.declared.SearchAnswer.the-variants.{Found, None, Full, Refused}
-use Rattle.table.specs.Slices.{Cols}
+use Rattle.table.specs.Slices.{Cols, cols}
 use Rattle.checks.specs.Refusals as core
 use Rattle.search.specs.Search.{saidSearch, Searched}
 use Rattle.out.specs.Out.{longWords, written}
@@ -22,15 +22,12 @@ use Rattle.out_search.specs.Inner.{SearchUnanswered}
 
 module _ (r m bound room constants : ℕ) where
   -- r is at least 1 where 1 is not given, so that no marks are too few
-  unanswered-rows : (t : Cols) (k : ℕ) → Decided (core.searchRows (inputOf r m bound room constants [] [] [] [] []) t) k → SearchUnanswered r m bound room constants k
+  pub unanswered : (k : ℕ) → Decided (core.searchRows (inputOf r m bound room constants [] [] [] [] []) (cols [] [] [] [] [])) k → SearchUnanswered r m bound room constants k
   unfolding Decided
-  unanswered-rows t k (inl p) = inl p
-  unanswered-rows t k (inr (p, inl q)) = inr (p, inl q)
-  unanswered-rows t k (inr (p, inr (q, inl s))) = inr (p, inr (q, inl (tt, s .1)))
-  unanswered-rows t k (inr (p, inr (q, inr (s, u)))) = absurd (p (inl (inl (lt-of-not-le λ g. s (inl g)))))
-
-  pub unanswered : (t u : Cols) (a : SearchAnswer) → Searched (inputOf r m bound room constants [] [] [] [] []) t a u → SearchUnanswered r m bound room constants (saidSearch a .number)
-  unanswered t u a s = unanswered-rows t (saidSearch a .number) (s .decided)
+  unanswered k (inl p) = inl p
+  unanswered k (inr (p, inl q)) = inr (p, inl q)
+  unanswered k (inr (p, inr (q, inl s))) = inr (p, inr (q, inl (tt, s .1)))
+  unanswered k (inr (p, inr (q, inr (s, u)))) = absurd (p (inl (inl (lt-of-not-le λ g. s (inl g)))))
 
   module _ (marks lengths words unary binary : List ℕ) (t : Cols) (old : List ℕ) where
     abbrev i : Input

@@ -1,14 +1,16 @@
 // The search at the C boundary: FOUND, NONE or FULL in the words of `out`, or a refusal's number.
+use counting::Counts;
+use formula::kinds::Node;
 use search::SearchAnswer;
 ghost use mathlib.Core.Path.{_≡_};
 ghost use Prim.Native.Nat.{_≤_};
 ghost use lib.ListN.{length};
 ghost use Rattle.walk.specs.Input.{inputOf};
 ghost use Rattle.table.specs.Slices.{cols};
-ghost use Rattle.search.specs.Search.{saidSearch};
+ghost use Rattle.search.specs.declared.SearchAnswer.the-variants.{Found, None, Full};
 ghost use Rattle.out.specs.Out.{longWords, written};
 ghost use Rattle.out_search.specs.Search.{searchWords, SearchDone};
-ghost use Rattle.out_search.specs.Inner.{SearchUnanswered};
+ghost use Rattle.out_search.specs.Inner.{SearchUnanswered, SearchPut};
 
 // FOUND, NONE or FULL, with the kept formulas in the lent slices.
 pub fn search(
@@ -57,75 +59,84 @@ pub fn search(
         sizes,
         matrices,
     );
-    put(answer, out);
-    number(answer)
+    put(answer, out)
 }
 
-// Where `out` is too short for an answer: the number that the core gives when nothing is lent to it. It has to refuse then, with 3 at the latest, and in
-// its own order, so that none of its tests is repeated here.
+// Where `out` is too short for an answer: the number that the core's tests give when nothing is lent. They have to refuse then, with 3 at the latest, and in
+// their own order, so that none of them is repeated here.
 fn unanswered(r: usize, m: usize, bound: usize, room: usize, constants: u8) -> u64
     ensures { λ k. ⌜ SearchUnanswered r m bound room constants k ⌝ }
 {
-    let answer = search::search(
+    let bytes: &[u8] = &[];
+    let places: &[u16] = &[];
+    let words: &[u64] = &[];
+    checks::refusal(
         r,
         m,
         bound,
         room,
         constants,
-        &[],
-        &[],
-        &[],
-        &[],
-        &[],
-        &mut [],
-        &mut [],
-        &mut [],
-        &mut [],
-        &mut [],
-    );
-    number(answer)
+        bytes,
+        bytes,
+        words,
+        bytes,
+        bytes,
+        bytes,
+        places,
+        places,
+        bytes,
+        words,
+    ) as u64
 }
 
-fn number(answer: SearchAnswer) -> u64
-    ensures { λ k. ⌜ k ≡ saidSearch answer .number ⌝ }
-{
-    match answer {
-        SearchAnswer::Found { root: _, counts: _ } => 0,
-        SearchAnswer::None(_) => 0,
-        SearchAnswer::Full { size: _, counts: _ } => 0,
-        SearchAnswer::Refused(number) => number as u64,
-    }
-}
-
-fn put(answer: SearchAnswer, out: &mut [u64])
+fn put_found(root: Node, counts: Counts, out: &mut [u64])
     requires { ⌜ longWords ≤ length (now out) ⌝ }
-    ensures { λ u. ⌜ now (out .exit) ≡ written (searchWords answer) (now (out .entry)) ⌝ }
+    ensures { λ u. ⌜ now (out .exit) ≡ written (searchWords (Found root counts)) (now (out .entry)) ⌝ }
+{
+    out[0] = 1;
+    out[1] = root.size as u64;
+    out[2] = counts.tried;
+    out[3] = counts.kept as u64;
+    out[4] = root.code as u64;
+    out[5] = root.left.0 as u64;
+    out[6] = root.right.0 as u64;
+    out[7] = root.size as u64;
+    out[8] = counts.dropped;
+}
+
+fn put_none(counts: Counts, out: &mut [u64])
+    requires { ⌜ longWords ≤ length (now out) ⌝ }
+    ensures { λ u. ⌜ now (out .exit) ≡ written (searchWords (None counts)) (now (out .entry)) ⌝ }
+{
+    out[0] = 2;
+    out[2] = counts.tried;
+    out[3] = counts.kept as u64;
+    out[8] = counts.dropped;
+}
+
+fn put_full(size: u8, counts: Counts, out: &mut [u64])
+    requires { ⌜ longWords ≤ length (now out) ⌝ }
+    ensures { λ u. ⌜ now (out .exit) ≡ written (searchWords (Full size counts)) (now (out .entry)) ⌝ }
+{
+    out[0] = 3;
+    out[1] = size as u64;
+    out[2] = counts.tried;
+    out[3] = counts.kept as u64;
+    out[8] = counts.dropped;
+}
+
+// The answer's words, and its number.
+fn put(answer: SearchAnswer, out: &mut [u64]) -> u64
+    requires { ⌜ longWords ≤ length (now out) ⌝ }
+    ensures { λ k. ⌜ SearchPut answer (now (out .entry)) k (now (out .exit)) ⌝ }
 {
     match answer {
-        SearchAnswer::Found { root, counts } => {
-            out[0] = 1;
-            out[1] = root.size as u64;
-            out[2] = counts.tried;
-            out[3] = counts.kept as u64;
-            out[4] = root.code as u64;
-            out[5] = root.left.0 as u64;
-            out[6] = root.right.0 as u64;
-            out[7] = root.size as u64;
-            out[8] = counts.dropped;
+        SearchAnswer::Found { root, counts } => put_found(root, counts, out),
+        SearchAnswer::None(counts) => put_none(counts, out),
+        SearchAnswer::Full { size, counts } => put_full(size, counts, out),
+        SearchAnswer::Refused(number) => {
+            return number as u64;
         }
-        SearchAnswer::None(counts) => {
-            out[0] = 2;
-            out[2] = counts.tried;
-            out[3] = counts.kept as u64;
-            out[8] = counts.dropped;
-        }
-        SearchAnswer::Full { size, counts } => {
-            out[0] = 3;
-            out[1] = size as u64;
-            out[2] = counts.tried;
-            out[3] = counts.kept as u64;
-            out[8] = counts.dropped;
-        }
-        SearchAnswer::Refused(_) => {}
     }
+    0
 }

@@ -1,11 +1,12 @@
 -- The report put together: what is said of a node by its sequence, line after line as they are written, and the answers.
 -- Assumes nothing.
 use mathlib.Core.Path.{_≡_, refl, sym, ap, _∙_, subst}
-use mathlib.Core.Logic.{_↔_, _⊎_, inl, inr, ⊎-elim}
+use mathlib.Core.Logic.{_↔_, _⊎_, ⊎-elim}
 use mathlib.Core.List.{List, [], _∷_, _++_, nil≢cons}
 use Prim.Native.Nat.{ℕ, zero, suc, _+_, _≤_, _<_, min}
 use native.Mathlib.Numerals.{add-one}
 use native.Mathlib.Omega.{arith}
+use denote.Enum.Declared.{tagOf}
 use lib.Dec.{lit<}
 use lib.ListN.{length, take, drop, replicate, length-replicate}
 use lib.Seq.{sets, sets-eq}
@@ -23,9 +24,10 @@ use Rattle.verdict.specs.Check.{checkRows, saidVerdict, CheckAnswer}
 use Rattle.verdict.specs.Sequences.{SequenceAnswer}
 use Rattle.verdict.specs.declared.Sequenced.{Sequenced}
 use Rattle.verdict.specs.declared.Sequenced.the-variants as sequenced
-use Rattle.rules.specs.declared.kinds.Session.{Session}
 use Rattle.verdict.specs.declared.Verdict.{Verdict}
 use Rattle.verdict.specs.declared.Verdict.the-variants as verdict
+use Rattle.verdict.proofs.Sequenced.{the-type as sequenced-type}
+use Rattle.verdict.proofs.Verdict.{the-type as verdict-type}
 use Rattle.summary.specs.declared.values.Summary.{Summary}
 use Rattle.report.specs.declared.Reported.the-variants.{Text, Refused}
 use Rattle.summary.specs.Values.{Summed}
@@ -52,14 +54,14 @@ module _ (i : Recording) (k : List Node) (j : ℕ) (n : Node) where
         says = summed-same (λ p h. w .holds p (omega arith)) (subst (λ (x : ℕ). Summed x (At (q .values)) s) l m);
       }
 
-  pub never-past : {A : Type 0} (a : Sequenced) → a ≡ sequenced.NoSession → SequenceAnswer i k n j a → j < i .sessions → A
-  never-past a e b h = let c : i .sessions ≤ j = subst (SequenceAnswer i k n j) e b .carries in absurd (omega arith)
-
-  pub never-refused : {A : Type 0} {r : ℕ} (a : Sequenced) → a ≡ sequenced.Refused r → SequenceAnswer i k n j a → Decided (checkRows i k n) 0 → A
-  never-refused {A} {r} a e b d =
-      let f = subst (SequenceAnswer i k n j) e b in
-      let c : 0 < r = f .carries in
-      let z : r ≡ 0 = decided-unique (checkRows i k n) r 0 (f .number) d in
+  -- what has passed the check has a sequence
+  pub never-none : {A : Type 0} (a : Sequenced) → (tagOf sequenced-type a ≡ 1) ⊎ (tagOf sequenced-type a ≡ 2) → SequenceAnswer i k n j a → j < i .sessions
+      → Decided (checkRows i k n) 0 → A
+  never-none (sequenced.Sequence q) t b h d = absurd (⊎-elim (λ e. omega (arith, e)) (λ e. omega (arith, e)) t)
+  never-none sequenced.NoSession t b h d = let c : i .sessions ≤ j = b .carries in absurd (omega arith)
+  never-none (sequenced.Refused r) t b h d =
+      let c : 0 < r = b .carries in
+      let z : r ≡ 0 = decided-unique (checkRows i k n) r 0 (b .number) d in
       absurd (omega arith)
 
 -- ---- line after line
@@ -161,8 +163,7 @@ module _ (i : Recording) (k : List Node) (root : Node) (old : List ℕ) where
         passed = λ z. absurd (not-none z);
       }
 
-  pub passed-accepted : (v : Verdict) → v ≡ verdict.Accepted → CheckAnswer i k root (saidVerdict v) → Decided (checkRows i k root) 0
-  passed-accepted v e a = subst (λ (x : Verdict). CheckAnswer i k root (saidVerdict x)) e a .number
-
-  pub passed-disagrees : {j : Session} (v : Verdict) → v ≡ verdict.Disagrees j → CheckAnswer i k root (saidVerdict v) → Decided (checkRows i k root) 0
-  passed-disagrees v e a = subst (λ (x : Verdict). CheckAnswer i k root (saidVerdict x)) e a .number
+  pub passed-check : (v : Verdict) → (tagOf verdict-type v ≡ 0) ⊎ (tagOf verdict-type v ≡ 1) → CheckAnswer i k root (saidVerdict v) → Decided (checkRows i k root) 0
+  passed-check verdict.Accepted t a = a .number
+  passed-check (verdict.Disagrees j) t a = a .number
+  passed-check (verdict.Refused n) t a = absurd (⊎-elim (λ e. omega (arith, e)) (λ e. omega (arith, e)) t)

@@ -94,33 +94,20 @@ pub fn report(
         sizes,
         root,
     );
-    match verdict {
-        Verdict::Refused(number) => Reported::Refused(number),
-        Verdict::Accepted => write(
-            r,
-            m,
-            marks,
-            lengths,
-            words,
-            codes,
-            lefts,
-            rights,
-            sizes,
-            root,
-            text,
-        ),
-        Verdict::Disagrees(_) => write(
-            r,
-            m,
-            marks,
-            lengths,
-            words,
-            codes,
-            lefts,
-            rights,
-            sizes,
-            root,
-            text,
-        ),
+    if let Verdict::Refused(number) = verdict {
+        return Reported::Refused(number);
     }
+    write(
+        r,
+        m,
+        marks,
+        lengths,
+        words,
+        codes,
+        lefts,
+        rights,
+        sizes,
+        root,
+        text,
+    )
 }

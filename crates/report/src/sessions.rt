@@ -51,12 +51,11 @@ fn summary_at(
         node,
         on,
     );
-    match sequenced {
-        Sequenced::Sequence(seq) => summary_of(seq),
-        // Neither can come up: what is reported has passed the check.
-        Sequenced::NoSession => nothing(),
-        Sequenced::Refused(_) => nothing(),
-    }
+    let Sequenced::Sequence(seq) = sequenced else {
+        // This can't come up: what is reported has passed the check.
+        return nothing();
+    };
+    summary_of(seq)
 }
 
 fn nothing() -> Summary {

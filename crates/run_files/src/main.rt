@@ -7,6 +7,19 @@ use file::ReadAnswer;
 use stored::say;
 use stored::say_number;
 
+fn say_counts(sessions: u64, propositions: u64, names: u64) {
+    say_number(b"r ", sessions);
+    say_number(b" m ", propositions);
+    say_number(b" names ", names);
+}
+
+fn say_settings(unary: u64, binary: u64, constants: u64, bound: u64) {
+    say_number(b" unary ", unary);
+    say_number(b" binary ", binary);
+    say_number(b" constants ", constants);
+    say_number(b" bound ", bound);
+}
+
 fn say_answer(answer: ReadAnswer) {
     match answer {
         ReadAnswer::Parts {
@@ -18,13 +31,8 @@ fn say_answer(answer: ReadAnswer) {
             constants,
             bound,
         } => {
-            say_number(b"r ", sessions as u64);
-            say_number(b" m ", propositions as u64);
-            say_number(b" names ", names as u64);
-            say_number(b" unary ", unary as u64);
-            say_number(b" binary ", binary as u64);
-            say_number(b" constants ", constants as u64);
-            say_number(b" bound ", bound as u64);
+            say_counts(sessions as u64, propositions as u64, names as u64);
+            say_settings(unary as u64, binary as u64, constants as u64, bound as u64);
         }
         ReadAnswer::Broken(o) => {
             say_number(b"refused 8 at ", o as u64);
@@ -47,7 +55,21 @@ fn say_lent(line: &[u8], marks: &[u8], lengths: &[u8], words: &[u64], unary: &[u
     stored::say_bytes(binary);
 }
 
-fn read(line: &[u8], file: &[u8]) {
+fn read(
+    line: &[u8],
+    file: &[u8],
+    marks: &mut [u8],
+    lengths: &mut [u8],
+    words: &mut [u64],
+    unary: &mut [u8],
+    binary: &mut [u8],
+) {
+    say_answer(file::read(file, marks, lengths, words, unary, binary));
+    say_lent(line, marks, lengths, words, unary, binary);
+    say(b"\n");
+}
+
+fn lend(line: &[u8], file: &[u8]) {
     let mut marks = [0u8; 32];
     let mut lengths = [0u8; 32];
     let mut words = [0u64; 512];
@@ -58,9 +80,7 @@ fn read(line: &[u8], file: &[u8]) {
     let words = stored::words(line, 3, &mut words);
     let unary = stored::bytes(line, 4, &mut unary);
     let binary = stored::bytes(line, 5, &mut binary);
-    say_answer(file::read(file, marks, lengths, words, unary, binary));
-    say_lent(line, marks, lengths, words, unary, binary);
-    say(b"\n");
+    read(line, file, marks, lengths, words, unary, binary);
 }
 
 fn example(line: &[u8]) {
@@ -74,13 +94,17 @@ fn example(line: &[u8]) {
     }
     let mut file = [0u8; 4500];
     let file = stored::hex(line, 0, &mut file);
-    read(line, file);
+    lend(line, file);
+}
+
+fn examples(text: &[u8]) {
+    for number in 0..stored::lines(text) {
+        example(stored::line(text, number));
+    }
 }
 
 fn main() {
     let mut room = [0u8; 65536];
     let text = stored::input(&mut room);
-    for number in 0..stored::lines(text) {
-        example(stored::line(text, number));
-    }
+    examples(text);
 }

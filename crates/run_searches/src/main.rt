@@ -16,11 +16,15 @@ fn say_counts(counts: Counts) {
     say_number(b" dropped ", counts.dropped);
 }
 
+fn say_next(x: u64) {
+    say_number(b" ", x);
+}
+
 fn say_node(node: Node) {
     say_number(b" root ", node.code as u64);
-    say_number(b" ", node.left.0 as u64);
-    say_number(b" ", node.right.0 as u64);
-    say_number(b" ", node.size as u64);
+    say_next(node.left.0 as u64);
+    say_next(node.right.0 as u64);
+    say_next(node.size as u64);
 }
 
 fn say_answer(answer: SearchAnswer) {
@@ -63,6 +67,27 @@ fn say_lent(
     stored::say_words(matrices);
 }
 
+// The numbers of a search.
+struct Head {
+    r: usize,
+    m: usize,
+    bound: usize,
+    room: usize,
+    constants: u8,
+}
+
+fn read_head(line: &[u8]) -> Head {
+    let mut head = [0u64; 5];
+    stored::words(line, 1, &mut head);
+    Head {
+        r: head[0] as usize,
+        m: head[1] as usize,
+        bound: head[2] as usize,
+        room: head[3] as usize,
+        constants: (head[4] % 256) as u8,
+    }
+}
+
 fn run(
     line: &[u8],
     marks: &[u8],
@@ -76,14 +101,13 @@ fn run(
     sizes: &mut [u8],
     matrices: &mut [u64],
 ) {
-    let mut head = [0u64; 5];
-    stored::words(line, 1, &mut head);
+    let head = read_head(line);
     let answer = search::search(
-        head[0] as usize,
-        head[1] as usize,
-        head[2] as usize,
-        head[3] as usize,
-        (head[4] % 256) as u8,
+        head.r,
+        head.m,
+        head.bound,
+        head.room,
+        head.constants,
         marks,
         lengths,
         words,
@@ -146,10 +170,14 @@ fn example(line: &[u8]) {
     say(b"\n");
 }
 
-fn main() {
-    let mut room = [0u8; 65536];
-    let text = stored::input(&mut room);
+fn examples(text: &[u8]) {
     for number in 0..stored::lines(text) {
         example(stored::line(text, number));
     }
+}
+
+fn main() {
+    let mut room = [0u8; 65536];
+    let text = stored::input(&mut room);
+    examples(text);
 }

@@ -29,52 +29,64 @@ fn say_length(length: usize) {
     say(b": ");
 }
 
-fn unary_example(name: &[u8], code: u8, length: usize, x: u64) {
-    say(name);
+// The number is that of an example P1 to P10.
+fn say_name(number: u64) {
+    say_number(b"P", number);
     say(b", ");
-    say_length(length);
-    say_token(code);
-    say_number(b" ", x);
+}
+
+fn say_equals() {
     say(b" =");
-    say_answer(operators::apply_unary(code, CharSeq { length, values: x }));
+}
+
+fn end_line() {
     say(b"\n");
 }
 
-fn binary_example(name: &[u8], code: u8, length: usize, x: u64, y: u64) {
-    say(name);
-    say(b", ");
+fn unary_example(number: u64, code: u8, length: usize, x: u64) {
+    say_name(number);
+    say_length(length);
+    say_token(code);
+    say_number(b" ", x);
+    say_equals();
+    say_answer(operators::apply_unary(code, CharSeq { length, values: x }));
+    end_line();
+}
+
+fn binary_example(number: u64, code: u8, length: usize, x: u64, y: u64) {
+    say_name(number);
     say_length(length);
     say_number(b"", x);
     say(b" ");
     say_token(code);
     say_number(b" ", y);
-    say(b" =");
+    say_equals();
     say_answer(operators::apply_binary(
         code,
         CharSeq { length, values: x },
         CharSeq { length, values: y },
     ));
-    say(b"\n");
+    end_line();
 }
 
 fn settled() {
-    unary_example(b"P1", 0, 4, 6);
-    unary_example(b"P2", 2, 4, 6);
-    unary_example(b"P2", 1, 4, 6);
-    unary_example(b"P3", 3, 4, 6);
-    unary_example(b"P3", 4, 4, 6);
-    binary_example(b"P4", 7, 4, 3, 4);
-    binary_example(b"P5", 8, 4, 4, 7);
-    binary_example(b"P5", 8, 4, 0, 7);
-    binary_example(b"P6", 9, 4, 6, 3);
-    binary_example(b"P6", 10, 4, 6, 3);
-    unary_example(b"P7", 1, 1, 0);
-    unary_example(b"P7", 2, 1, 1);
-    unary_example(b"P8", 0, 0, 0);
-    unary_example(b"P8", 1, 0, 0);
-    unary_example(b"P9", 0, 64, 0);
-    unary_example(b"P9", 1, 64, 0);
-    binary_example(b"P10", 7, 64, 0x7fff_ffff_ffff_ffff, 0x8000_0000_0000_0000);
+    unary_example(1, 0, 4, 6);
+    unary_example(2, 2, 4, 6);
+    unary_example(2, 1, 4, 6);
+    unary_example(3, 3, 4, 6);
+    unary_example(3, 4, 4, 6);
+    binary_example(4, 7, 4, 3, 4);
+    binary_example(5, 8, 4, 4, 7);
+    binary_example(5, 8, 4, 0, 7);
+    binary_example(6, 9, 4, 6, 3);
+    binary_example(6, 10, 4, 6, 3);
+    unary_example(7, 1, 1, 0);
+    unary_example(7, 2, 1, 1);
+    unary_example(8, 0, 0, 0);
+    unary_example(8, 1, 0, 0);
+    unary_example(9, 0, 64, 0);
+    unary_example(9, 1, 64, 0);
+    binary_example(10, 7, 64, 0x7fff_ffff_ffff_ffff, 0x8000_0000_0000_0000);
 }
 
 // How many words of that length there are, up to 4. A formula's word has the first place at length 0 too.
@@ -101,9 +113,9 @@ fn unary_cells(code: u8, length: usize) {
 fn unary_line(code: u8, length: usize) {
     say_length(length);
     say_token(code);
-    say(b" =");
+    say_equals();
     unary_cells(code, length);
-    say(b"\n");
+    end_line();
 }
 
 fn unary_lines(length: usize) {
@@ -131,9 +143,9 @@ fn binary_line(code: u8, length: usize, x: u64) {
     say_number(b"", x);
     say(b" ");
     say_token(code);
-    say(b" =");
+    say_equals();
     binary_cells(code, length, x);
-    say(b"\n");
+    end_line();
 }
 
 fn binary_rows(code: u8, length: usize) {

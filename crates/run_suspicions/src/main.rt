@@ -21,10 +21,14 @@ fn example(line: &[u8]) {
     answer(typed, file);
 }
 
-fn main() {
-    let mut room = [0u8; 65536];
-    let text = stored::input(&mut room);
+fn examples(text: &[u8]) {
     for number in 0..stored::lines(text) {
         example(stored::line(text, number));
     }
+}
+
+fn main() {
+    let mut room = [0u8; 65536];
+    let text = stored::input(&mut room);
+    examples(text);
 }

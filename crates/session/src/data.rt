@@ -2,11 +2,13 @@
 use sequence::Answer;
 use sequence::CharSeq;
 ghost use mathlib.Core.Bool.{true};
+ghost use mathlib.Core.Logic.{_⊎_};
 ghost use Prim.Native.Nat.{_+_, _*_, _≤_, _<_};
 ghost use lib.ListN.{length};
 ghost use Rattle.words.specs.Word.{width};
+ghost use Rattle.rules.specs.Answers.{Tested};
 ghost use Rattle.rules.specs.Refusals.{Decided};
-ghost use Rattle.session.specs.Data.{dataRows};
+ghost use Rattle.session.specs.Data.{outsideNumbers, dataRows};
 ghost use Rattle.session.specs.Recording.{recording};
 ghost use Rattle.session.specs.Inner.{AllUpTo, Clear, AllClear};
 
@@ -61,30 +63,32 @@ fn all_clear(lengths: &[u8], words: &[u64], r: usize, m: usize) -> bool
     true
 }
 
+// Whether r or m is outside its numbers.
+pub fn outside(r: usize, m: usize) -> bool
+    ensures { λ b. ⌜ Tested (outsideNumbers r m .given) b ⌝ }
+{
+    let sessions = (r < 1) | (rules::SESSIONS < r);
+    let propositions = (m < 1) | (rules::PROPOSITIONS < m);
+    sessions | propositions
+}
+
+// Whether one of the slices, by its length, is too short.
+fn short(r: usize, m: usize, marks: usize, lengths: usize, words: usize) -> bool
+    requires { ⌜ (outsideNumbers r m .given → ⊥) ⌝ }
+    ensures { λ b. ⌜ Tested ((marks < r) ⊎ (lengths < r) ⊎ (words < m * r)) b ⌝ }
+{
+    (marks < r) | ((lengths < r) | (words < m * r))
+}
+
 // 0 where the data are good, or the number of the first row that refuses them. A caller with rows of its own puts them between these by the number
 // alone: 1 comes before all of them; then its 2; then its own rooms, which are 3 before any other number here; then this number; then its 7.
 pub fn test(r: usize, m: usize, marks: &[u8], lengths: &[u8], words: &[u64]) -> u8
     ensures { λ k. ⌜ Decided (dataRows (recording r m (now (marks .entry)) (now (lengths .entry)) (now (words .entry)))) k ⌝ }
 {
-    if r < 1 {
+    if outside(r, m) {
         return 1;
     }
-    if rules::SESSIONS < r {
-        return 1;
-    }
-    if m < 1 {
-        return 1;
-    }
-    if rules::PROPOSITIONS < m {
-        return 1;
-    }
-    if marks.len() < r {
-        return 3;
-    }
-    if lengths.len() < r {
-        return 3;
-    }
-    if words.len() < m * r {
+    if short(r, m, marks.len(), lengths.len(), words.len()) {
         return 3;
     }
     if all_up_to(lengths, r, LENGTH) {

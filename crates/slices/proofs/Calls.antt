@@ -3,16 +3,16 @@
 -- Assumes nothing.
 use mathlib.Core.Path.{_≡_, refl, sym, ap, _∙_, subst}
 use mathlib.Core.Logic.{_⊎_, inl, inr}
-use mathlib.Core.List.{List, [], _∷_, _++_, map, flatMap}
-use Prim.Native.Nat.{ℕ, _+_, _≤_, _<_}
+use mathlib.Core.List.{List, [], _∷_, map, flatMap}
+use Prim.Native.Nat.{ℕ, zero, suc, _+_, _≤_, _<_}
 use native.Mathlib.Omega.{arith}
 use native.Mathlib.Decide.{decLe}
 use lib.ListN.{length, drop, length-append}
 use lib.Dec.{eqb}
 use Rattle.rules.specs.Limits.{mostSize, mostRoom}
 use Rattle.rules.specs.Lists.{count}
-use Rattle.rules.specs.Refusals.{Row, Decided}
-use Rattle.rules.proofs.Refusals.{Numbered, decided-both}
+use Rattle.rules.specs.Refusals.{Decided, firstOf}
+use Rattle.rules.proofs.Refusals.{Numbered, decided-both, decided-none}
 use Rattle.formula.specs.Formula.{proposition}
 use Rattle.walk.specs.Walk.{tally, layer, seed}
 use Rattle.walk.specs.Input as walk
@@ -34,17 +34,10 @@ use Rattle.turns.proofs.Settling.{settled-more, turn-none, turn-over, begun-is}
 use Rattle.rules.specs.Limits.{mostBudget}
 use Rattle.slices.specs.Slices.{freshState, StandsAt, stateWrong, resumeRows, advanceRows}
 use Rattle.slices.specs.Resume.{Went}
-use Rattle.slices.specs.Inner.{OneOrTwo}
+use Rattle.slices.specs.Inner.{OneOrTwo, ThenState}
 use Rattle.slices.proofs.Checks.{unary-few, binary-few}
 
 -- ---- the refusals
-
--- a list that decides a number decides it with more after it
-decided-more : (rows later : List Row) (k : ℕ) → (k ≡ 0 → ⊥) → Decided rows k → Decided (rows ++ later) k
-unfolding Decided
-decided-more [] later k h e = absurd (h e)
-decided-more (row ∷ rows) later k h (inl d) = inl d
-decided-more (row ∷ rows) later k h (inr d) = inr (d .0, decided-more rows later k h (d .1))
 
 pub one-or-two-some : (r m k : ℕ) → OneOrTwo r m k → 0 < k
 unfolding Decided
@@ -74,13 +67,26 @@ settings i = elim (decLe 1 (i .bound)) [
   ]
 ]
 
+abbrev pub Then : Input → State → ℕ → ℕ → Type 0
+Then i state refused k = ThenState refused (i .recording .propositions) (i .bound) (i .room) (i .constants) (length (i .unary)) (length (i .binary)) state k
+
+first-none : (a b : ℕ) → firstOf a b ≡ 0 → (a ≡ 0) × (b ≡ 0)
+first-none zero b e = (refl, e)
+first-none (suc a) b e = absurd (omega (arith, e))
+
+-- where nothing is refused the search refuses nothing and the state passes
+pub none-refused : (i : Input) (state : State) {refused k : ℕ} → Then i state refused k → k ≡ 0 → (refused ≡ 0) × (stateWrong i state .given → ⊥)
+none-refused i state {refused} w e =
+    let (a, b) = first-none refused (w .own) (sym (w .is) ∙ e) in
+    (a, decided-none (stateWrong i state) [] (omega arith, tt) (subst (Decided (stateWrong i state ∷ [])) b (w .decided)) .0)
+
 module _ (i : Input) (t : Cols) (state : State) where
   numbered : Numbered (searchRows i t)
   numbered = (omega arith, (omega arith, (omega arith, (omega arith, (omega arith, (omega arith, (omega arith, (omega arith, tt))))))))
 
-  -- the search refuses, or the state decides
-  pub rows-search : (k : ℕ) → Decided (searchRows i t) k → (k ≡ 0 → ⊥) → Decided (advanceRows i t state) k
-  rows-search k d z = decided-more (searchRows i t) (stateWrong i state ∷ []) k z d
+  -- what the search refuses comes first, and then the state
+  pub rows-all : (refused k : ℕ) → Decided (searchRows i t) refused → Then i state refused k → Decided (advanceRows i t state) k
+  rows-all refused k d w = subst (Decided (advanceRows i t state)) (sym (w .is)) (decided-both (searchRows i t) (stateWrong i state ∷ []) refused (w .own) numbered d (w .decided))
 
   pub rows-state : (k : ℕ) → Decided (searchRows i t) k → k ≡ 0 → (m : ℕ) → Decided (stateWrong i state ∷ []) m → Decided (advanceRows i t state) m
   rows-state k d z m s = decided-both (searchRows i t) (stateWrong i state ∷ []) 0 m numbered (subst (Decided (searchRows i t)) z d) s
@@ -106,20 +112,19 @@ module _ (i : Input) (t : Cols) (ok : Passes i) (budget : ℕ) (state : State) w
   stays t₀ (more s j k n) e w = absurd (e (ap (λ (x : State). x .end) (w .is)))
   stays t₀ (over f k n) e w = subst (λ (c : Cut (List ℕ)). StandsIn i t₀ c state t) (sym (turn-over i budget f k n)) w
 
-  pub went-on : (after : State) {t′ : Cols} → state .end ≡ 0 → GoDoes i budget state t t′ after → Went i t budget state after t′
-  went-on after {t′} e v = record {
+  pub went : (after : State) {t′ : Cols} → GoDoes i budget state t t′ after → Went i t budget state after t′
+  went after {t′} v = record {
     passes = v .state-in;
     spends = v .spends;
     keeps = v .keeps;
-    runs = λ t₀ r n w. subst (λ (c : Cut (List ℕ)). StandsIn i t₀ c after t′) (turns-add i n budget (begun i)) (v .runs t₀ (goOn i n (begun i)) ok r e w);
-  }
-
-  pub went-ended : (state .end ≡ 0 → ⊥) → StateIn i state → Went i t budget state state t
-  went-ended e w = record {
-    passes = w;
-    spends = omega arith;
-    keeps = omega arith;
-    runs = λ t₀ r n z. subst (λ (c : Cut (List ℕ)). StandsIn i t₀ c state t) (turns-add i n budget (begun i)) (stays t₀ (goOn i n (begun i)) e z);
+    runs = λ t₀ r n w. subst (λ (c : Cut (List ℕ)). StandsIn i t₀ c after t′) (turns-add i n budget (begun i)) (elim (decLe (state .end) 0) [
+      | yes e ↦ v .runs t₀ (goOn i n (begun i)) ok r (omega arith) w
+      | no e ↦
+          let o : state .end ≡ 0 → ⊥ = λ z. e (omega arith) in
+          let (a, b) = v .ended o in
+          subst (λ (x : State). StandsIn i t₀ (goOn i budget (goOn i n (begun i))) x t′) (sym a)
+          (subst (λ (x : Cols). StandsIn i t₀ (goOn i budget (goOn i n (begun i))) state x) (sym b) (stays t₀ (goOn i n (begun i)) o w))
+    ]);
   }
 
 -- what is asked of it

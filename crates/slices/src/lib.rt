@@ -90,14 +90,18 @@ pub fn advance(
         sizes,
         matrices,
     );
-    if refused != 0 {
-        return Resumed::Refused(refused);
-    }
-    if state::wrong(m, bound, room, constants, unary.len(), binary.len(), state) {
-        return Resumed::Refused(14);
-    }
-    if state.end != 0 {
-        return Resumed::Goes(state);
+    let number = good::then_state(
+        refused,
+        m,
+        bound,
+        room,
+        constants,
+        unary.len(),
+        binary.len(),
+        state,
+    );
+    if number != 0 {
+        return Resumed::Refused(number);
     }
     let after = turns::go_on(
         r,

@@ -4,7 +4,7 @@
 // digit, colon or space is passed over. Lines and fields are counted from 0.
 use libc::STDIN_FILENO;
 use libc::STDOUT_FILENO;
-ghost use Prim.Native.Nat.{_-_, _<_, _≤_};
+ghost use Prim.Native.Nat.{_-_, _<_, _≤_, _/_};
 ghost use mathlib.Core.Path.{_≡_};
 ghost use lib.ListN.{length};
 ghost use Rattle.io.specs.Digits.{Fewest};
@@ -87,12 +87,18 @@ pub fn field(line: &[u8], number: usize) -> &[u8]
     part(line, number, b'/')
 }
 
-// A number, or a number and how often, of which some digits were read.
+// The smaller of two numbers.
+fn least(a: usize, b: usize) -> usize
+    ensures { λ r. ⌜ (r ≤ a) × (r ≤ b) ⌝ }
+{
+    if a < b { a } else { b }
+}
+
+// A number and how often, of which some digits were read; the count is 1 from the first digit on, until a colon.
 struct Partly {
     value: u64,
-    base: u64,
+    count: u64,
     repeats: bool,
-    started: bool,
 }
 
 fn wide(x: u8) -> u64 {
@@ -102,43 +108,48 @@ fn wide(x: u8) -> u64 {
 fn nothing() -> Partly {
     Partly {
         value: 0,
-        base: 0,
+        count: 0,
         repeats: false,
-        started: false,
+    }
+}
+
+// The number with one digit more.
+fn more(x: u64, digit: u64) -> u64 {
+    let tens = std::num::wrapping_add_u64(x << 3, x << 1);
+    std::num::wrapping_add_u64(tens, digit)
+}
+
+fn with_digit(p: Partly, digit: u64) -> Partly {
+    if p.repeats {
+        return Partly {
+            value: p.value,
+            count: more(p.count, digit),
+            repeats: true,
+        };
+    }
+    Partly {
+        value: more(p.value, digit),
+        count: 1,
+        repeats: false,
     }
 }
 
 // One byte more. A space begins anew.
 fn with(p: Partly, b: u8) -> Partly {
-    if b == b' ' {
-        return nothing();
-    }
-    if b == b':' {
-        return Partly {
-            value: 0,
-            base: p.value,
+    match b {
+        b' ' => nothing(),
+        b':' => Partly {
+            value: p.value,
+            count: 0,
             repeats: true,
-            started: true,
-        };
-    }
-    if b < b'0' || b > b'9' {
-        return p;
-    }
-    let d = wide(b - b'0');
-    let tens = std::num::wrapping_add_u64(p.value << 3, p.value << 1);
-    Partly {
-        value: std::num::wrapping_add_u64(tens, d),
-        base: p.base,
-        repeats: p.repeats,
-        started: true,
+        },
+        b'0'..=b'9' => with_digit(p, wide(b - b'0')),
+        _ => p,
     }
 }
 
 // A number goes into a list, `times` times, as long as there is room.
-fn push(to: &mut [u64], n: usize, value: u64, times: u64) -> usize
-    requires { ⌜ n ≤ length (now to) ⌝ }
-    ensures { λ r. ⌜ r ≤ length (now (to .entry)) ⌝ }
-{
+fn push(to: &mut [u64], n: usize, value: u64, times: u64) -> usize {
     let mut k: u64 = 0;
     let mut at = n;
     while k < times {
@@ -152,44 +163,23 @@ fn push(to: &mut [u64], n: usize, value: u64, times: u64) -> usize
     at
 }
 
-fn flush(to: &mut [u64], n: usize, p: Partly) -> usize
-    requires { ⌜ n ≤ length (now to) ⌝ }
-    ensures { λ r. ⌜ r ≤ length (now (to .entry)) ⌝ }
-{
-    if p.started {
-        if p.repeats {
-            return push(to, n, p.base, p.value);
-        }
-        return push(to, n, p.value, 1);
-    }
-    n
-}
-
-// A space ends a number.
-fn flush_at(to: &mut [u64], n: usize, p: Partly, b: u8) -> usize
-    requires { ⌜ n ≤ length (now to) ⌝ }
-    ensures { λ r. ⌜ r ≤ length (now (to .entry)) ⌝ }
-{
-    if b == b' ' {
-        return flush(to, n, p);
-    }
-    n
+// A space ends a number: how often it is to be pushed at a byte.
+fn due(p: Partly, b: u8) -> u64 {
+    if b == b' ' { p.count } else { 0 }
 }
 
 // The numbers of a field, as many as there is room for, and how many these are.
-fn numbers(field: &[u8], to: &mut [u64]) -> usize
-    ensures { λ r. ⌜ r ≤ length (now (to .entry)) ⌝ }
-{
+fn numbers(field: &[u8], to: &mut [u64]) -> usize {
     let mut i: usize = 0;
     let mut n: usize = 0;
     let mut p = nothing();
     while i < field.len() {
         let b = field[i];
-        n = flush_at(to, n, p, b);
+        n = push(to, n, p.value, due(p, b));
         p = with(p, b);
         i += 1;
     }
-    flush(to, n, p)
+    push(to, n, p.value, p.count)
 }
 
 fn low8(x: u64) -> u8 {
@@ -203,46 +193,57 @@ fn low16(x: u64) -> u16 {
 fn narrow8(from: &[u64], to: &mut [u8]) -> usize
     ensures { λ r. ⌜ r ≤ length (now (to .entry)) ⌝ }
 {
+    let n = least(from.len(), to.len());
     let mut i: usize = 0;
-    while i < from.len() {
-        if i >= to.len() {
-            return i;
-        }
+    while i < n {
         to[i] = low8(from[i]);
         i += 1;
     }
-    i
+    n
 }
 
 fn narrow16(from: &[u64], to: &mut [u16]) -> usize
     ensures { λ r. ⌜ r ≤ length (now (to .entry)) ⌝ }
 {
+    let n = least(from.len(), to.len());
     let mut i: usize = 0;
-    while i < from.len() {
-        if i >= to.len() {
-            return i;
-        }
+    while i < n {
         to[i] = low16(from[i]);
         i += 1;
     }
-    i
+    n
 }
 
 // A line's list of words by its field: the part of the room that holds it.
 pub fn words<'a>(line: &[u8], number: usize, to: &'a mut [u64]) -> &'a mut [u64]
     ensures { λ r. ⌜ length (now r) ≤ length (now (to .entry)) ⌝ }
 {
-    let n = numbers(field(line, number), to);
+    let all = numbers(field(line, number), to);
+    let n = least(all, to.len());
     &mut to[..n]
+}
+
+fn read8(line: &[u8], number: usize, to: &mut [u8]) -> usize
+    ensures { λ r. ⌜ r ≤ length (now (to .entry)) ⌝ }
+{
+    let mut list = [0u64; 4200];
+    let all = words(line, number, &mut list);
+    narrow8(all, to)
+}
+
+fn read16(line: &[u8], number: usize, to: &mut [u16]) -> usize
+    ensures { λ r. ⌜ r ≤ length (now (to .entry)) ⌝ }
+{
+    let mut list = [0u64; 4200];
+    let all = words(line, number, &mut list);
+    narrow16(all, to)
 }
 
 // A list of bytes, at most 4,200; what is above 255 is 255.
 pub fn bytes<'a>(line: &[u8], number: usize, to: &'a mut [u8]) -> &'a mut [u8]
     ensures { λ r. ⌜ length (now r) ≤ length (now (to .entry)) ⌝ }
 {
-    let mut list = [0u64; 4200];
-    let all = numbers(field(line, number), &mut list);
-    let n = narrow8(&list[..all], to);
+    let n = read8(line, number, to);
     &mut to[..n]
 }
 
@@ -250,9 +251,7 @@ pub fn bytes<'a>(line: &[u8], number: usize, to: &'a mut [u8]) -> &'a mut [u8]
 pub fn places<'a>(line: &[u8], number: usize, to: &'a mut [u16]) -> &'a mut [u16]
     ensures { λ r. ⌜ length (now r) ≤ length (now (to .entry)) ⌝ }
 {
-    let mut list = [0u64; 4200];
-    let all = numbers(field(line, number), &mut list);
-    let n = narrow16(&list[..all], to);
+    let n = read16(line, number, to);
     &mut to[..n]
 }
 
@@ -273,19 +272,22 @@ fn digit(b: u8) -> u8
     0
 }
 
-// The bytes that the hex digits spell, and how many there are.
+// The byte that the two hex digits at a place spell.
+fn pair(text: &[u8], i: usize) -> u8
+    requires { ⌜ i < length (now text) / 2 ⌝ }
+{
+    digit(text[i * 2]) * 16 + digit(text[i * 2 + 1])
+}
+
+// The bytes that the hex digits spell, as many as there is room for, and how many these are.
 fn decode(text: &[u8], out: &mut [u8]) -> usize
     ensures { λ r. ⌜ r ≤ length (now (out .entry)) ⌝ }
 {
-    let mut n: usize = 0;
+    let n = least(text.len() / 2, out.len());
     let mut i: usize = 0;
-    while i + 1 < text.len() {
-        if out.len() <= n {
-            return n;
-        }
-        out[n] = digit(text[i]) * 16 + digit(text[i + 1]);
-        n += 1;
-        i += 2;
+    while i < n {
+        out[i] = pair(text, i);
+        i += 1;
     }
     n
 }
@@ -298,16 +300,18 @@ pub fn hex<'a>(line: &[u8], number: usize, to: &'a mut [u8]) -> &'a mut [u8]
     &mut to[..n]
 }
 
+// The one number of a field.
+fn asked(line: &[u8], number: usize) -> usize {
+    let mut one = [0u64; 1];
+    words(line, number, &mut one);
+    one[0] as usize
+}
+
 // The first bytes of a room, as many as the line's field says, if there are so many.
 pub fn room<'a>(line: &[u8], number: usize, to: &'a mut [u8]) -> &'a mut [u8]
     ensures { λ r. ⌜ length (now r) ≤ length (now (to .entry)) ⌝ }
 {
-    let mut asked = [0u64; 1];
-    words(line, number, &mut asked);
-    let n = asked[0] as usize;
-    if to.len() <= n {
-        return to;
-    }
+    let n = least(asked(line, number), to.len());
     &mut to[..n]
 }
 
@@ -334,14 +338,23 @@ fn wide16(x: u16) -> u64 {
     x as u64
 }
 
+// A bar comes before a list, and a space before each of its numbers.
+fn say_bar() {
+    say(b" |");
+}
+
+fn say_next(x: u64) {
+    say_number(b" ", x);
+}
+
 // A bar, and a list's numbers with a space before each; how many they are is answered.
 pub fn say_bytes(list: &[u8]) -> usize
     ensures { λ r. ⌜ r ≡ length (now (list .entry)) ⌝ }
 {
-    say(b" |");
+    say_bar();
     let mut i: usize = 0;
     while i < list.len() {
-        say_number(b" ", wide(list[i]));
+        say_next(wide(list[i]));
         i += 1;
     }
     i
@@ -350,10 +363,10 @@ pub fn say_bytes(list: &[u8]) -> usize
 pub fn say_places(list: &[u16]) -> usize
     ensures { λ r. ⌜ r ≡ length (now (list .entry)) ⌝ }
 {
-    say(b" |");
+    say_bar();
     let mut i: usize = 0;
     while i < list.len() {
-        say_number(b" ", wide16(list[i]));
+        say_next(wide16(list[i]));
         i += 1;
     }
     i
@@ -362,10 +375,10 @@ pub fn say_places(list: &[u16]) -> usize
 pub fn say_words(list: &[u64]) -> usize
     ensures { λ r. ⌜ r ≡ length (now (list .entry)) ⌝ }
 {
-    say(b" |");
+    say_bar();
     let mut i: usize = 0;
     while i < list.len() {
-        say_number(b" ", list[i]);
+        say_next(list[i]);
         i += 1;
     }
     i

@@ -1,9 +1,11 @@
 -- From the answers of the readers and the check to the lines that are written.
 -- Assumes nothing.
 use mathlib.Core.Path.{_≡_, refl, sym, ap, _∙_, subst}
-use mathlib.Core.List.{List}
+use mathlib.Core.List.{List, [], _∷_}
 use Prim.Native.Nat.{ℕ, _*_, _-_}
 use lib.ListN.{length, take}
+use denote.Enum.Declared.{tagOf}
+use types.Run.{OneOf}
 use Rattle.reading.specs.Reading.{Got, got, section}
 use Rattle.names.specs.Names.{nameBytes}
 use Rattle.names.proofs.Theorems.{names-accepts}
@@ -17,13 +19,16 @@ use Rattle.formula.specs.Nodes.{Node, nodeAt}
 use Rattle.verdict.specs.Check.{saidVerdict, CheckAnswer}
 use Rattle.verdict.specs.declared.Verdict.{Verdict}
 use Rattle.reader.specs.declared.Parsed.{Parsed}
-use Rattle.reader.specs.declared.Parsed.the-variants.{Nodes}
+use Rattle.reader.specs.declared.Parsed.the-variants.{Nodes, Stops, Unknown}
+use Rattle.reader.specs.declared.Parsed.the-variants as parsed
+use Rattle.reader.proofs.Parsed.{the-type as parsed-type}
 use Rattle.reader.specs.Parsing.{Columns, saidParsed, Parses}
 use Rattle.writing.specs.Writing.{Wrote}
 use Rattle.lines.proofs.Handed.{Wide, Handed, broken-at}
 use Rattle.line.specs.Line.{refusedAtLine}
 use Rattle.suspicion.specs.Suspicion.{roomy, firstNodes, verdictLine, Shows, TypedSays, FileSays, TypedLinesOf, recordingOf}
-use Rattle.suspicion.specs.Inner.{Checked, JudgedBy}
+use Rattle.suspicion.specs.Inner.{Checked, unreadLines, JudgedBy}
+use Rattle.suspicion.proofs.Typed.{none-read}
 
 -- a verdict has its line
 pub check-line : (i : Recording) (k : List Node) (at : ℕ) {root : Node} {v w : Verdict} {old new : List ℕ} {r : ℕ} → root ≡ nodeAt k at
@@ -40,6 +45,21 @@ module _ (typed names : List ℕ) (i : Recording) {left : Columns} {p : Parsed} 
   pub nodes-judged : {n : ℕ} → p ≡ Nodes n → Parses names typed roomy left (saidParsed p) → Checked i (firstNodes n left) (n - 1) old new r
       → JudgedBy typed names i old new r
   nodes-judged {n} e a c = shown-judged {q = Nodes n} {lines = verdictLine (c .0)} e a (c .0, c .1, refl) (c .2)
+
+-- what is not read has its own lines
+pub unread-judged : (typed names : List ℕ) (i : Recording) {left : Columns} (p : Parsed) {old new : List ℕ} {r : ℕ} → OneOf (1 ∷ 2 ∷ 3 ∷ 4 ∷ []) (tagOf parsed-type p)
+    → Parses names typed roomy left (saidParsed p) → Wrote old 0 (unreadLines typed p) new r → JudgedBy typed names i old new r
+unread-judged typed names i {left} p k a x = (unreadLines typed p, record { answer = p; left = left; parses = a; shows = go p k }, x)
+  where
+    go : (q : Parsed) → OneOf (1 ∷ 2 ∷ 3 ∷ 4 ∷ []) (tagOf parsed-type q) → Shows i typed left q (unreadLines typed q)
+    go (Nodes n) z = absurd (none-read z)
+    go (parsed.Broken o) z = refl
+    go (Stops o) z = refl
+    go (Unknown o) z = refl
+    go (parsed.Refused c) z = refl
+
+pub unread-wrote : (typed : List ℕ) {p q : Parsed} {old new : List ℕ} {r : ℕ} → p ≡ q → Wrote old 0 (unreadLines typed q) new r → Wrote old 0 (unreadLines typed p) new r
+unread-wrote typed {p} {q} {old} {new} {r} e x = subst (λ (z : Parsed). Wrote old 0 (unreadLines typed z) new r) (sym e) x
 
 module _ (file : List ℕ) (bytes : Bytes file) (l : Lent) (wide : Wide l) (a : ReadAnswer) (marks lengths words unary binary : List ℕ)
     (e : readAfter (saidRead a) marks lengths words unary binary ≡ readOf file l) (typed : List ℕ) {old new : List ℕ} {k : ℕ} where

@@ -4,9 +4,11 @@
 use mathlib.Core.Path.{_≡_, refl, sym, ap, _∙_, subst}
 use mathlib.Core.Logic.{_⊎_, inl, inr}
 use mathlib.Core.List.{List, [], _∷_, map, head-eq-of-cons-eq}
-use Prim.Native.Nat.{ℕ, zero, suc, _≤_, _<_}
+use Prim.Native.Nat.{ℕ, zero, suc, _≤_}
 use native.Mathlib.Omega.{arith}
 use lib.ListN.{length, take, drop, replicate, length-append, length-map}
+use denote.Enum.Declared.{tagOf}
+use types.Run.{OneOf}
 use Rattle.rules.specs.Answers.{Said, over}
 use Rattle.rules.specs.Limits.{mostSize}
 use Rattle.formula.specs.Formula.{Formula, size}
@@ -16,10 +18,19 @@ use Rattle.grammar.specs.Nodes.{nodesOf}
 use Rattle.reader.specs.Words.{mostBytes}
 use Rattle.reader.specs.declared.Parsed.{Parsed}
 use Rattle.reader.specs.declared.Parsed.the-variants.{Nodes, Stops, Unknown}
+use Rattle.reader.proofs.Parsed.{the-type as parsed-type}
 use Rattle.reader.specs.Parsing.{Decides, Columns, saidParsed, parseRows, Taken, Parses}
 use Rattle.reader.proofs.Scratch.{nodes-length}
 use Rattle.reader.proofs.Offsets.{within-11, within-13, at-most}
 use Rattle.round_trip.proofs.Contracts.{parse-passed}
+use Rattle.suspicion.specs.Inner.{Unread}
+
+-- the nodes are the first of the reader's answers
+pub none-read : OneOf (1 ∷ 2 ∷ 3 ∷ 4 ∷ []) 0 → ⊥
+none-read (inl e) = omega (arith, e)
+none-read (inr (inl e)) = omega (arith, e)
+none-read (inr (inr (inl e))) = omega (arith, e)
+none-read (inr (inr (inr e))) = omega (arith, e)
 
 module _ (names text : List ℕ) (old left : Columns) where
   -- an offset carried by a refusal is within the text
@@ -51,6 +62,13 @@ module _ (names text : List ℕ) (old left : Columns) where
   pub unknown-within : {p : Parsed} {o : ℕ} → p ≡ Unknown o → Parses names text old left (saidParsed p) → (o ≤ mostBytes) × (length text ≤ mostBytes)
   unfolding Within
   unknown-within {p} {o} e a = within (saidParsed p) (a .answer) o (ap (λ (q : Parsed). saidParsed q .values) e) (inr (ap (λ (q : Parsed). saidParsed q .number) e))
+
+  pub unread : {p : Parsed} → OneOf (1 ∷ 2 ∷ 3 ∷ 4 ∷ []) (tagOf parsed-type p) → Parses names text old left (saidParsed p) → Unread p
+  unread {p} k a = record {
+    no-nodes = λ n e. none-read (subst (λ (q : Parsed). OneOf (1 ∷ 2 ∷ 3 ∷ 4 ∷ []) (tagOf parsed-type q)) e k);
+    stops = λ o e. stops-within e a .0;
+    unknown = λ o e. unknown-within e a .0;
+  }
 
   -- what is read: from 1 to 31 nodes, within each slice
   pub record Few (n : ℕ) : Type 0 where

@@ -7,8 +7,9 @@ use reader::Parsed;
 use verdict::Verdict;
 ghost use Rattle.session.specs.Recording.{recording};
 ghost use Rattle.formula.specs.Kinds.{nodes};
+ghost use Rattle.writing.specs.Writing.{Wrote};
 ghost use Rattle.suspicion.specs.Suspicion.{TypedLinesOf};
-ghost use Rattle.suspicion.specs.Inner.{Checked, JudgedBy};
+ghost use Rattle.suspicion.specs.Inner.{Checked, Unread, unreadLines, JudgedBy};
 
 // So many bytes hold every answer.
 pub const LONGEST: usize = 8248;
@@ -47,6 +48,21 @@ fn checked(
         Verdict::Accepted => line::separates(text),
         Verdict::Disagrees(session) => line::disagrees(text, session.0),
         Verdict::Refused(number) => line::refused(text, number),
+    }
+}
+
+// The lines for what is typed and is not read.
+fn unread(typed: &[u8], parsed: Parsed, text: &mut [u8]) -> usize
+    requires { ⌜ Unread parsed ⌝ }
+    ensures { λ k. ⌜ Wrote (now (text .entry)) 0 (unreadLines (now (typed .entry)) parsed) (now (text .exit)) k ⌝ }
+{
+    match parsed {
+        // Can't come up: it is read.
+        Parsed::Nodes(_) => 0,
+        Parsed::Broken(at) => line::refused_at(text, 0, 8, at),
+        Parsed::Stops(at) => caret::pointed(text, typed, at, 11),
+        Parsed::Unknown(at) => caret::pointed(text, typed, at, 13),
+        Parsed::Refused(number) => line::refused(text, number),
     }
 }
 
@@ -90,10 +106,7 @@ fn judged(
             n - 1,
             text,
         ),
-        Parsed::Broken(at) => line::refused_at(text, 0, 8, at),
-        Parsed::Stops(at) => caret::pointed(text, typed, at, 11),
-        Parsed::Unknown(at) => caret::pointed(text, typed, at, 13),
-        Parsed::Refused(number) => line::refused(text, number),
+        _ => unread(typed, parsed, text),
     }
 }
 

@@ -67,15 +67,17 @@ module _ (i : Input) (t : Cols) (ok : Passes i) (budget : ℕ) (state : State) w
       let q = w .sound in
       let g = subst (λ (x : State). Ran i budget x t t′ after) (w .is) v in
       subst (λ (c : Cut (List ℕ)). StandsIn i t₀ (goOn i budget c) after t′) (settled-more i s j k n (q .size-in .1) (q .next))
-      (g .runs t₀ k j ok r (ongoing-point i t₀ t s j k n q ok (w .holds)))
+      (g .runs refl t₀ k j ok r (ongoing-point i t₀ t s j k n q ok (w .holds)))
 
-pub gone : {i : Input} {budget : ℕ} {from : State} {t t′ : Cols} {state : State} → GoAsks i from → Ran i budget from t t′ state → Gone i budget from t t′ state
-gone {i} {budget} {from} {t} {t′} {state} a v = record {
+pub gone : {i : Input} {budget : ℕ} {from : State} {t t′ : Cols} {state : State} → GoAsks i from → Ran i budget from t t′ state
+    → ((from .end ≡ 0 → ⊥) → (state ≡ from) × (t′ ≡ t)) → Gone i budget from t t′ state
+gone {i} {budget} {from} {t} {t′} {state} a v e = record {
   goes = λ _. record {
     state-in = v .state-in;
     spends = v .spends;
     keeps = v .keeps;
-    runs = λ t₀ c ok r e w. on i t ok budget from state t₀ r c e w v;
+    ended = e;
+    runs = λ t₀ c ok r z w. on i t ok budget from state t₀ r c z w v;
   };
   stays = λ h. absurd (h a);
 }

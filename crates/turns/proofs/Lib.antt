@@ -1,9 +1,9 @@
 -- The laws behind the proofs, by subject.
 pub mod Fitting
-pub mod Fates
 pub mod Making
 pub mod Settling
 pub mod Points
 pub mod Positions
 pub mod Rounds
+pub mod Taken
 pub mod Cuts

@@ -34,7 +34,7 @@ use Rattle.counting.specs.Counting.{tallyOf, countedBy}
 use Rattle.counting.proofs.Tallies.{counts-are-walks}
 use Rattle.turns.specs.Costs.{inAll}
 use Rattle.turns.specs.Standing.{layerAt, sizeAt, todo}
-use Rattle.turns.specs.Inner.{endAfter}
+use Rattle.onward.specs.Onward.{endAfter}
 use Rattle.turns.proofs.Making.{make, made-written, safe-makes, offered}
 
 -- ---- where the walk is

@@ -9,7 +9,6 @@ use native.Mathlib.Numerals.{add-one}
 use native.Mathlib.Decide.{decLe}
 use lib.ListN.{length, take, drop, replicate, length-replicate, List·getD-eq-default}
 use lib.Seq.{take-at, take-all}
-use denote.Enum.Declared.{tagOf}
 use Rattle.rules.specs.Limits.{mostSessions, mostSize, mostRoom}
 use Rattle.rules.specs.declared.kinds.Place.{Place}
 use Rattle.formula.specs.declared.kinds.Node.{Node}
@@ -23,9 +22,8 @@ use Rattle.walk.proofs.Places.{Split}
 use Rattle.split.specs.declared.Cursor.{Cursor}
 use Rattle.split.specs.declared.Step.{Step}
 use Rattle.split.specs.declared.Step.the-variants.{Candidate as Told, End}
-use Rattle.split.proofs.Step.{the-type as step-type}
 use Rattle.split.specs.Split.{cand}
-use Rattle.order.specs.Size.{Layer, firstPlace}
+use Rattle.order.specs.Size.{firstPlace}
 use Rattle.order.specs.Ahead.{ahead, rest, first, cursorAfter}
 use Rattle.starts.specs.Starts.{startsOf}
 use Rattle.order.specs.Steps.{listLong, Steps, CursorWithin}
@@ -51,7 +49,8 @@ use Rattle.state.specs.declared.State as value
 use Rattle.turns.specs.Costs.{operators, perSize, inAll}
 use Rattle.turns.specs.Standing.{counts, startsIn, layerAt, todo, StandsIn}
 use Rattle.turns.specs.Turns.{StateIn, GoAsks}
-use Rattle.turns.specs.Inner.{moreState, endState, noneState, endAfter, overState, Masked}
+use Rattle.onward.specs.Onward.{moreState, endState, noneState, endAfter, overState}
+use Rattle.turns.specs.Inner.{Masked}
 use Rattle.turns.proofs.Making.{make}
 use Rattle.turns.proofs.Settling.{settledCut, settled-over, settled-more, settled-next, settled-none, one-step, turn-one, turn-none, turn-over}
 use Rattle.turns.proofs.Points.{Standing, PointAt, comes-going, none-left, some-left, next-is, posed, turn-stands}
@@ -134,7 +133,7 @@ pub record Ran (i : Input) (budget : ℕ) (from : value.State) (t t′ : Cols) (
   pub state-in : StateIn i state
   pub spends : state .counts .tried ≤ from .counts .tried + budget
   pub keeps : state .counts .kept ≤ from .counts .kept + budget
-  pub runs : (t₀ : Cols) (k : Table) (j : ℕ) → Passes i → RoomThere i t₀ → PointAt i t₀ t (startsOf (t .sizes) (from .counts .kept)) (from .size) (from .at) (from .counts) k j
+  pub runs : from .end ≡ 0 → (t₀ : Cols) (k : Table) (j : ℕ) → Passes i → RoomThere i t₀ → PointAt i t₀ t (startsOf (t .sizes) (from .counts .kept)) (from .size) (from .at) (from .counts) k j
       → StandsIn i t₀ (goOn i budget (settledCut i (from .size) j (going k (tallyOf (from .counts))))) state t′
 
 -- a size has few candidates
@@ -266,7 +265,7 @@ module _ {r m bound room constants : ℕ} {marks lengths words unary binary : Li
       };
       spends = omega (arith, v .spent);
       keeps = omega (arith, v .gained);
-      runs = λ t₀ k j ok there w.
+      runs = λ _ t₀ k j ok there w.
           let z = v .runs t₀ k j ok there w in
           stands-none i t₀ _ s (z .position) left (z .table) n (z .point .stands .counted) (z .point .stands .holds) (omega (arith, v .high))
           (none-left ok (z .point) (v .low) reached step) (z .is);
@@ -300,7 +299,7 @@ module _ {r m bound room constants : ℕ} {marks lengths words unary binary : Li
       starts-at-first = refl
 
       -- less is to be tried
-      pub less-size : todo i (startsOf (t′ .sizes) (n .kept)) (s + 1) (first (startsOf (t′ .sizes) (n .kept)) (s + 1)) < todo i starts s at
+      less-size : todo i (startsOf (t′ .sizes) (n .kept)) (s + 1) (first (startsOf (t′ .sizes) (n .kept)) (s + 1)) < todo i starts s at
       less-size = omega (arith, few-left i a next-starts (s + 1) (first next-starts (s + 1)) next-began (omega arith))
 
       pub turn-size : Loop i budget from t t′ (startsOf (t′ .sizes) (n .kept)) (s + 1) (first (startsOf (t′ .sizes) (n .kept)) (s + 1)) n left
@@ -340,9 +339,6 @@ module _ {r m bound room constants : ℕ} {marks lengths words unary binary : Li
     shorter : length (rest (layerAt i s starts) at) ≡ 1 + length (rest (layerAt i s starts) next)
     shorter = ap length (step-left step) ∙ omega arith
 
-    pub less-one : todo i starts s next < todo i starts s at
-    less-one = omega (arith, shorter)
-
     -- the budget is spent
     pub stops-more : left ≡ 0 → Ran i budget from t t′ (moreState s at n)
     stops-more e = record {
@@ -356,7 +352,7 @@ module _ {r m bound room constants : ℕ} {marks lengths words unary binary : Li
       };
       spends = omega (arith, v .spent);
       keeps = omega (arith, v .gained);
-      runs = λ t₀ k j ok there w.
+      runs = λ _ t₀ k j ok there w.
           let z = v .runs t₀ k j ok there w in
           let p = z .point in
           let k′ = z .table in
@@ -469,19 +465,13 @@ module _ {r m bound room constants : ℕ} {marks lengths words unary binary : Li
               };
               spends = omega (arith, v .spent, g .tried, v .left-in);
               keeps = omega (arith, v .gained, g .kept-one, v .left-in);
-              runs = λ t₀ k j ok there y.
+              runs = λ _ t₀ k j ok there y.
                   let z = v .runs t₀ k j ok there y in
                   let x = make i (z .table) s (cand code (l .0) (q .0)) in
                   let b = does (z .table) (z .position) ok there (z .point) in
                   stands-over i t₀ _ s (suc (z .position)) (left - 1) (z .table) n (z .point .stands .counted) (fits (z .point)) node x refl refl d e b _ (b .is (tallyOf n))
                   (z .is ∙ tries (z .position) (z .table) ok (z .point));
             }
-
--- ---- what the callees answered, by the case that was taken
-
-pub ended-step : {y : Layer} {at : Cursor} (step : Step) → tagOf step-type step ≡ 1 → Steps y at step → Steps y at End
-ended-step (Told code l q next) e w = absurd (omega (arith, e))
-ended-step End e w = w
 
 -- the masks are those of the sessions
 pub masked : (i : Input) (masks : List ℕ) → Masked (i .recording .sessions) (i .recording .lengths) masks → Passes i → Masks i masks

@@ -32,11 +32,12 @@ abbrev pub GoAsks : Input → State → Type 0
 GoAsks i from = LoopFits (i .recording .propositions) (i .bound) (i .room) (i .constants) (length (i .unary)) (length (i .binary)) from
 
 -- it leaves a state that 14 lets pass, with at most `budget` more tried and kept; and from a state that stood at a cut of the walk and has not ended it goes
--- on by `budget` candidates
+-- on by `budget` candidates; one that has ended stays, and nothing is written
 pub record GoDoes (i : Input) (budget : ℕ) (from : State) (t t′ : Cols) (state : State) : Type 0 where
   pub state-in : StateIn i state
   pub spends : state .counts .tried ≤ from .counts .tried + budget
   pub keeps : state .counts .kept ≤ from .counts .kept + budget
+  pub ended : (from .end ≡ 0 → ⊥) → (state ≡ from) × (t′ ≡ t)
   pub runs : (t₀ : Cols) (c : Cut (List ℕ)) → Passes i → RoomThere i t₀ → from .end ≡ 0 → StandsIn i t₀ c from t → StandsIn i t₀ (goOn i budget c) state t′
 
 -- where it isn't given what it asks, the state comes back and nothing is written

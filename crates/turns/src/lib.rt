@@ -1,32 +1,15 @@
-// The search as one loop (enum_aux in aux.rs): the next candidate, what becomes of it, the counts; a size's end and the next size's start.
-mod ends;
-
-use formula::kinds::Node;
-use split::Step;
-use starts::of_table;
+// The search as one loop (enum_aux in aux.rs): the next candidate, over the ends of sizes, what becomes of it, the counts.
 use state::State;
-ghost use mathlib.Core.Path.{_≡_};
 ghost use mathlib.Core.Bool.{not};
-ghost use Prim.Native.Nat.{_^_, _<_};
 ghost use lib.ListN.{length};
 ghost use Rattle.walk.specs.Input.{inputOf};
 ghost use Rattle.table.specs.Slices.{cols};
 ghost use Rattle.rules.specs.Answers.{Tested};
 ghost use Rattle.turns.specs.Turns.{LoopFits, Gone};
-ghost use Rattle.turns.specs.Inner.{beginState, Masked};
+ghost use Rattle.turns.specs.Inner.{Masked};
 
 // At most so many operators of a group are offered, none twice.
 const GROUP_MOST: usize = 6;
-
-// The state before the first candidate of the next size, by where the sizes begin.
-fn begin(starts: &[u16], before: State) -> State
-    requires { ⌜ before .size < 2 ^ 16 ⌝ }
-    ensures { λ r. ⌜ r ≡ beginState (now (starts .entry)) before ⌝ }
-{
-    let size = before.size + 1;
-    let at = order::first(starts, size);
-    ends::more(size, at, before.counts)
-}
 
 // The masks of the sessions, once for a call.
 fn masks_for(r: usize, lengths: &[u8]) -> [u64; rules::SESSIONS]
@@ -99,43 +82,25 @@ pub fn go_on(
     }
     let masks = masks_for(r, lengths);
     let mut rows = [0u64; rules::SESSIONS];
+    let mut starts = onward::starts_at(sizes, from.counts.kept);
     let mut state = from;
     let mut left = budget;
-    let mut starts = of_table(sizes, state.counts.kept as u16);
     loop {
-        let step = order::next(
-            state.at,
-            &starts,
-            state.size,
-            m as u8,
+        let seen = onward::seek(
+            m,
+            bound,
             constants,
+            sizes,
             unary,
             binary,
+            state,
+            &mut starts,
         );
-        let Step::Candidate {
-            code,
-            left: l,
-            right: q,
-            next,
-        } = step
-        else {
-            if bound <= state.size {
-                return ends::none(state.size, state.counts);
-            }
-            starts = of_table(sizes, state.counts.kept as u16);
-            state = begin(&starts, state);
-            continue;
-        };
-        if left == 0 {
-            return ends::more(state.size, state.at, state.counts);
+        let turn = onward::turn_of(seen, left);
+        if turn.rests {
+            return turn.state;
         }
         left -= 1;
-        let node = Node {
-            code,
-            left: l,
-            right: q,
-            size: state.size as u8,
-        };
         let fate = candidate::judge(
             r,
             m,
@@ -143,8 +108,8 @@ pub fn go_on(
             marks,
             words,
             &masks,
-            node,
-            state.counts.kept,
+            turn.node,
+            turn.state.counts.kept,
             &mut rows,
             codes,
             lefts,
@@ -152,9 +117,12 @@ pub fn go_on(
             sizes,
             matrices,
         );
-        state = ends::after(state.size, state.counts, next, fate, node);
-        if state.end != 0 {
-            return state;
-        }
+        state = onward::ends::after(
+            turn.state.size,
+            turn.state.counts,
+            turn.next,
+            fate,
+            turn.node,
+        );
     }
 }

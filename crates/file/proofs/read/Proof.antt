@@ -17,105 +17,33 @@ told c =
     (c .before .before .before .judge .ensures) (c .before .answer .given .1)
 
 mul-enough : tie.Need-mul-enough
-mul-enough c = let k = told c in omega (arith, product _ k)
+mul-enough c = omega (arith, product _ (told c))
 
-mul-stride : tie.Need-mul-stride
-mul-stride c = let k = told (c .before .before) in omega (arith, k .narrow)
-
-add-stride : tie.Need-add-stride
-add-stride c = let k = told (c .before .before) in omega (arith, k .narrow)
-
-add-at : tie.Need-add-at
-add-at c =
-    let at-told = c .before .before in
-    let at-start = at-told .before .before .before .before .before .before .before .before .before .before in
-    let k = told at-told in
-    omega (arith, k .room, at-start .good)
-
-mul-codes : tie.Need-mul-codes
-mul-codes c =
-    let at-told = c .before .before in
-    let at-start = at-told .before .before .before .before .before .before .before .before .before .before in
-    let k = told at-told in
-    omega (arith, k .room, at-start .good)
-
-add-codes : tie.Need-add-codes
-add-codes c =
-    let at-told = c .before .before in
-    let at-start = at-told .before .before .before .before .before .before .before .before .before .before in
-    let k = told at-told in
-    omega (arith, k .room, at-start .good)
-
-fill-bytes-requires : tie.Need-fill-bytes-requires
-fill-bytes-requires c κs =
-    let at-if1 = c .before in
+fill-sessions-requires : tie.Need-fill-sessions-requires
+fill-sessions-requires c κs =
+    let at-if1 = c .before .before .before in
+    let f = at-if1 .before .enough .ensures .fits (at-if1 .if1 .taken) in
     let k = told (at-if1 .before .before) in
-    (omega arith, at-if1 .before .enough .ensures .fits (at-if1 .if1 .taken) .0, omega (arith, k .room))
+    (k .narrow, f .0, f .1, f .2, omega (arith, k .room))
 
-add-fill-bytes : tie.Need-add-fill-bytes
-add-fill-bytes c =
-    let at-told = c .before .before .before .before .before .before .before in
-    let at-start = at-told .before .before .before .before .before .before .before .before .before .before in
-    let k = told at-told in
-    omega (arith, k .room, at-start .good)
-
-fill-bytes-requires-2 : tie.Need-fill-bytes-requires-2
-fill-bytes-requires-2 c κs =
-    let at-if1 = c .before .before .before .before .before in
+fill-codes-requires : tie.Need-fill-codes-requires
+fill-codes-requires c κs =
+    let at-sessions = c .before .before .before .before .before .before .before .before in
+    let at-if1 = at-sessions .before .before .before .before in
+    let f = at-if1 .before .enough .ensures .fits (at-if1 .if1 .taken) in
     let k = told (at-if1 .before .before) in
-    (omega arith, at-if1 .before .enough .ensures .fits (at-if1 .if1 .taken) .1, omega (arith, k .room))
-
-fill-words-requires : tie.Need-fill-words-requires
-fill-words-requires c κs =
-    let at-if1 = c .before .before .before .before .before .before .before .before .before in
-    let k = told (at-if1 .before .before) in
-    (at-if1 .before .enough .ensures .fits (at-if1 .if1 .taken) .2, omega (arith, k .room))
-
-add-fill-bytes-2 : tie.Need-add-fill-bytes-2
-add-fill-bytes-2 c =
-    let at-told = c .before .before .before .before .before .before .before .before .before .before .before .before .before .before .before in
-    let at-start = at-told .before .before .before .before .before .before .before .before .before .before in
-    let k = told at-told in
-    omega (arith, k .room, at-start .good)
-
-fill-bytes-requires-3 : tie.Need-fill-bytes-requires-3
-fill-bytes-requires-3 c κs =
-    let at-if1 = c .before .before .before .before .before .before .before .before .before .before .before .before .before in
-    let k = told (at-if1 .before .before) in
-    (omega arith, at-if1 .before .enough .ensures .fits (at-if1 .if1 .taken) .3, omega (arith, k .room))
-
-add-fill-bytes-3 : tie.Need-add-fill-bytes-3
-add-fill-bytes-3 c =
-    let at-told = c .before .before .before .before .before .before .before .before .before .before .before .before .before .before .before .before .before .before .before in
-    let at-start = at-told .before .before .before .before .before .before .before .before .before .before in
-    let k = told at-told in
-    omega (arith, k .room, at-start .good)
-
-add-fill-bytes-4 : tie.Need-add-fill-bytes-4
-add-fill-bytes-4 c =
-    let at-told = c .before .before .before .before .before .before .before .before .before .before .before .before .before .before .before .before .before .before .before in
-    let at-start = at-told .before .before .before .before .before .before .before .before .before .before in
-    let k = told at-told in
-    omega (arith, k .room, at-start .good)
-
-fill-bytes-requires-4 : tie.Need-fill-bytes-requires-4
-fill-bytes-requires-4 c κs =
-    let at-if1 = c .before .before .before .before .before .before .before .before .before .before .before .before .before .before .before .before .before in
-    let k = told (at-if1 .before .before) in
-    (omega arith, at-if1 .before .enough .ensures .fits (at-if1 .if1 .taken) .4, omega (arith, k .room))
+    (f .3, f .4, omega (arith, k .room, at-sessions .fill-sessions .ensures .0))
 
 returns : tie.Need-returns
 returns c =
-    let at-fill-bytes4 = c .before .before in
-    let at-fill-bytes3 = at-fill-bytes4 .before .before .before .before in
-    let at-fill-words = at-fill-bytes3 .before .before .before .before in
-    let at-fill-bytes2 = at-fill-words .before .before .before .before in
-    let at-fill-bytes = at-fill-bytes2 .before .before .before .before in
-    let at-if1 = at-fill-bytes .before .before in
+    let at-codes = c .before .before .before .before in
+    let at-sessions = at-codes .before .before .before .before .before .before .before .before .before in
+    let at-if1 = at-sessions .before .before .before .before in
+    let s = at-sessions .fill-sessions .ensures in
+    let q = at-codes .fill-codes .ensures in
     let f = at-if1 .before .enough .ensures .fits (at-if1 .if1 .taken) in
     let k = told (at-if1 .before .before) in
-    rw (at-fill-bytes .fill-bytes .ensures, at-fill-bytes2 .fill-bytes2 .ensures, at-fill-words .fill-words .ensures, at-fill-bytes3 .fill-bytes3 .ensures, at-fill-bytes4 .fill-bytes4 .ensures)
-    (written _ _ _ _ _ _ k (f .0) (f .1) (f .2) (f .3) (f .4))
+    rw (s .1, s .2, s .3, q .0, q .1, s .0) (written _ _ _ _ _ _ k (f .0) (f .1) (f .2) (f .3) (f .4))
 
 returns-2 : tie.Need-returns-2
 returns-2 c = let k = told (c .before .before) in no-room _ _ _ _ _ _ k (c .before .enough .ensures) (c .if1 .left)
@@ -137,7 +65,6 @@ returns-4 c =
 
 pub read-spec : {M : Type 1} → statement M
 read-spec = tie.close (tie.spec
-    (λ c κs. search needs) (λ c. search needs) mul-enough (λ c κs. search needs) mul-stride add-stride add-at mul-codes add-codes fill-bytes-requires
-    add-fill-bytes fill-bytes-requires-2 fill-words-requires add-fill-bytes-2 fill-bytes-requires-3 add-fill-bytes-3 add-fill-bytes-4
-    fill-bytes-requires-4 (λ c. search needs) (λ c. search needs) (λ c. search needs) (λ c. search needs) (λ c. search needs) returns
+    (λ c κs. search needs) (λ c. search needs) mul-enough (λ c κs. search needs) fill-sessions-requires fill-codes-requires
+    (λ c. search needs) (λ c. search needs) (λ c. search needs) (λ c. search needs) (λ c. search needs) returns
     (λ c. search needs) (λ c. search needs) returns-2 returns-3 returns-4)

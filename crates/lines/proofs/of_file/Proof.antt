@@ -1,16 +1,22 @@
 -- `of_file` meets its contract: the reader hands out a good file's parts, there is room for all of them, and the search has its lines.
 -- Assumes nothing.
+use mathlib.Core.Path.{_≡_}
 use Prim.Native.Nat.{ℕ}
 use native.Mathlib.Omega.{arith}
 use lib.ListN.{length-replicate, replicate}
-use Rattle.file.specs.Reading.{lent}
-use Rattle.lines.proofs.Handed.{Wide, handed, given-by, good-lines, broken-lines, never-room}
+use Rattle.file.specs.Reading.{Lent, lent, saidRead, readAfter, readOf}
+use Rattle.file.proofs.Numbers.{Bytes}
+use Rattle.lines.proofs.Handed.{Wide, Handed, handed, given-by, good-lines, broken-lines, never-room}
 use borrow.Author.Needs.{needs}
 use Rattle.lines.proofs.of_file.Statement.{statement}
 use Rattle.lines.proofs.of_file.Tie as tie
 
 -- the arrays that are lent to the reader
-wide : Wide (lent (replicate 32 0) (replicate 32 0) (replicate 512 0) (replicate 5 0) (replicate 6 0))
+blank : Lent
+blank = lent (replicate 32 0) (replicate 32 0) (replicate 512 0) (replicate 5 0) (replicate 6 0)
+
+wide : Wide blank
+unfolding blank
 wide = record {
   marks = length-replicate {A = ℕ} 32 0;
   lengths = length-replicate {A = ℕ} 32 0;
@@ -19,164 +25,112 @@ wide = record {
   binary = length-replicate {A = ℕ} 6 0;
 }
 
+-- the file is one of bytes
+bytes : (c : tie.After-shared-slice-known) → Bytes (c .before .args .file .now)
+bytes c i = omega (arith, c .shared-slice-known .given i)
+
+-- what the reader leaves in the arrays
+left : tie.After-read → Lent
+left d = let l = d .read .last .1 in lent (l .0) (l .1 .0) (l .1 .1 .0) (l .1 .1 .1 .0) (l .1 .1 .1 .1 .0)
+
+ran : (d : tie.After-read)
+    → readAfter (saidRead (d .read .result)) (left d .marks) (left d .lengths) (left d .words) (left d .unary) (left d .binary)
+    ≡ readOf (d .before .before .before .before .before .before .before .args .file .now) blank
+unfolding blank left
+ran d = d .read .ensures
+
+-- a good file's parts, and where they are
+abbrev Parted : tie.After-read → ℕ → ℕ → ℕ → ℕ → ℕ → ℕ → ℕ → Type 0
+Parted d = Handed (d .before .before .before .before .before .before .before .args .file .now) (bytes (d .before .before .before .before .before .before)) blank wide
+    (d .read .result) (left d .marks) (left d .lengths) (left d .words) (left d .unary) (left d .binary) (ran d)
+
+here : (c : tie.After-read2) → (let v = c .read2 .given .0 in
+    Parted (c .before .before .before .before .before .before .before) (v .0) (v .1 .0) (v .1 .1 .0) (v .1 .1 .1 .0) (v .1 .1 .1 .1 .0) (v .1 .1 .1 .1 .1 .0) (v .1 .1 .1 .1 .1 .1 .0))
+here c =
+    let d = c .before .before .before .before .before .before .before in
+    handed (d .before .before .before .before .before .before .before .args .file .now) (bytes (d .before .before .before .before .before .before)) blank wide
+    (d .read .result) (left d .marks) (left d .lengths) (left d .words) (left d .unary) (left d .binary) (ran d) (c .read2 .given .1)
+
 slice-aggregate-searched : tie.Need-slice-aggregate-searched
-slice-aggregate-searched c =
-    let c₂ = c .before .before in
-    let c₉ = c₂ .before .before .before .before .before .before .before in
-    let c₁₅ = c₉ .before .before .before .before .before .before in
-    let c₁₆ = c₁₅ .before in
-    handed (c₁₆ .args .file .now) (λ i. omega (arith, c₁₅ .shared-slice-known .given i)) _ wide (c₉ .read .result) _ _ _ _ _ (c₉ .read .ensures)
-    (c₂ .read2 .given .1) .names-long
+slice-aggregate-searched c = here (c .before .before) .names-long
 
 array-share-prefix-marks : tie.Need-array-share-prefix-marks
-array-share-prefix-marks c =
-    let c₂ = c .before .before in
-    let c₉ = c₂ .before .before .before .before .before .before .before in
-    let c₁₅ = c₉ .before .before .before .before .before .before in
-    let c₁₆ = c₁₅ .before in
-    handed (c₁₆ .args .file .now) (λ i. omega (arith, c₁₅ .shared-slice-known .given i)) _ wide (c₉ .read .result) _ _ _ _ _ (c₉ .read .ensures)
-    (c₂ .read2 .given .1) .all-marks .there
+unfolding left
+array-share-prefix-marks c = here (c .before .before) .all-marks .there
 
 slice-aggregate-searched-2 : tie.Need-slice-aggregate-searched-2
-slice-aggregate-searched-2 c =
-    let c₃ = c .before .before .before in
-    let c₁₀ = c₃ .before .before .before .before .before .before .before in
-    let c₁₆ = c₁₀ .before .before .before .before .before .before in
-    let c₁₇ = c₁₆ .before in
-    handed (c₁₇ .args .file .now) (λ i. omega (arith, c₁₆ .shared-slice-known .given i)) _ wide (c₁₀ .read .result) _ _ _ _ _ (c₁₀ .read .ensures)
-    (c₃ .read2 .given .1) .all-marks .long
+unfolding left
+slice-aggregate-searched-2 c = here (c .before .before .before) .all-marks .long
 
 array-share-prefix-lengths : tie.Need-array-share-prefix-lengths
-array-share-prefix-lengths c =
-    let c₃ = c .before .before .before in
-    let c₁₀ = c₃ .before .before .before .before .before .before .before in
-    let c₁₆ = c₁₀ .before .before .before .before .before .before in
-    let c₁₇ = c₁₆ .before in
-    handed (c₁₇ .args .file .now) (λ i. omega (arith, c₁₆ .shared-slice-known .given i)) _ wide (c₁₀ .read .result) _ _ _ _ _ (c₁₀ .read .ensures)
-    (c₃ .read2 .given .1) .all-lengths .there
+unfolding left
+array-share-prefix-lengths c = here (c .before .before .before) .all-lengths .there
 
 slice-aggregate-searched-3 : tie.Need-slice-aggregate-searched-3
-slice-aggregate-searched-3 c =
-    let c₄ = c .before .before .before .before in
-    let c₁₁ = c₄ .before .before .before .before .before .before .before in
-    let c₁₇ = c₁₁ .before .before .before .before .before .before in
-    let c₁₈ = c₁₇ .before in
-    handed (c₁₈ .args .file .now) (λ i. omega (arith, c₁₇ .shared-slice-known .given i)) _ wide (c₁₁ .read .result) _ _ _ _ _ (c₁₁ .read .ensures)
-    (c₄ .read2 .given .1) .all-lengths .long
+unfolding left
+slice-aggregate-searched-3 c = here (c .before .before .before .before) .all-lengths .long
 
 mul-words : tie.Need-mul-words
-mul-words c =
-    let c₄ = c .before .before .before .before in
-    let c₁₁ = c₄ .before .before .before .before .before .before .before in
-    let c₁₇ = c₁₁ .before .before .before .before .before .before in
-    let c₁₈ = c₁₇ .before in
-    let h = handed (c₁₈ .args .file .now) (λ i. omega (arith, c₁₇ .shared-slice-known .given i)) _ wide (c₁₁ .read .result) _ _ _ _ _
-    (c₁₁ .read .ensures) (c₄ .read2 .given .1) in
-    omega (arith, h .small)
+mul-words c = omega (arith, here (c .before .before .before .before) .small)
 
 array-share-prefix-words : tie.Need-array-share-prefix-words
-array-share-prefix-words c =
-    let c₄ = c .before .before .before .before in
-    let c₁₁ = c₄ .before .before .before .before .before .before .before in
-    let c₁₇ = c₁₁ .before .before .before .before .before .before in
-    let c₁₈ = c₁₇ .before in
-    handed (c₁₈ .args .file .now) (λ i. omega (arith, c₁₇ .shared-slice-known .given i)) _ wide (c₁₁ .read .result) _ _ _ _ _ (c₁₁ .read .ensures)
-    (c₄ .read2 .given .1) .all-words .there
+unfolding left
+array-share-prefix-words c = here (c .before .before .before .before) .all-words .there
 
 slice-aggregate-searched-4 : tie.Need-slice-aggregate-searched-4
-slice-aggregate-searched-4 c =
-    let c₅ = c .before .before .before .before .before in
-    let c₁₂ = c₅ .before .before .before .before .before .before .before in
-    let c₁₈ = c₁₂ .before .before .before .before .before .before in
-    let c₁₉ = c₁₈ .before in
-    handed (c₁₉ .args .file .now) (λ i. omega (arith, c₁₈ .shared-slice-known .given i)) _ wide (c₁₂ .read .result) _ _ _ _ _ (c₁₂ .read .ensures)
-    (c₅ .read2 .given .1) .all-words .long
+unfolding left
+slice-aggregate-searched-4 c = here (c .before .before .before .before .before) .all-words .long
 
 array-share-prefix-unary : tie.Need-array-share-prefix-unary
-array-share-prefix-unary c =
-    let c₅ = c .before .before .before .before .before in
-    let c₁₂ = c₅ .before .before .before .before .before .before .before in
-    let c₁₈ = c₁₂ .before .before .before .before .before .before in
-    let c₁₉ = c₁₈ .before in
-    handed (c₁₉ .args .file .now) (λ i. omega (arith, c₁₈ .shared-slice-known .given i)) _ wide (c₁₂ .read .result) _ _ _ _ _ (c₁₂ .read .ensures)
-    (c₅ .read2 .given .1) .all-unary .there
+unfolding left
+array-share-prefix-unary c = here (c .before .before .before .before .before) .all-unary .there
 
 slice-aggregate-searched-5 : tie.Need-slice-aggregate-searched-5
-slice-aggregate-searched-5 c =
-    let c₆ = c .before .before .before .before .before .before in
-    let c₁₃ = c₆ .before .before .before .before .before .before .before in
-    let c₁₉ = c₁₃ .before .before .before .before .before .before in
-    let c₂₀ = c₁₉ .before in
-    handed (c₂₀ .args .file .now) (λ i. omega (arith, c₁₉ .shared-slice-known .given i)) _ wide (c₁₃ .read .result) _ _ _ _ _ (c₁₃ .read .ensures)
-    (c₆ .read2 .given .1) .all-unary .long
+unfolding left
+slice-aggregate-searched-5 c = here (c .before .before .before .before .before .before) .all-unary .long
 
 array-share-prefix-binary : tie.Need-array-share-prefix-binary
-array-share-prefix-binary c =
-    let c₆ = c .before .before .before .before .before .before in
-    let c₁₃ = c₆ .before .before .before .before .before .before .before in
-    let c₁₉ = c₁₃ .before .before .before .before .before .before in
-    let c₂₀ = c₁₉ .before in
-    handed (c₂₀ .args .file .now) (λ i. omega (arith, c₁₉ .shared-slice-known .given i)) _ wide (c₁₃ .read .result) _ _ _ _ _ (c₁₃ .read .ensures)
-    (c₆ .read2 .given .1) .all-binary .there
+unfolding left
+array-share-prefix-binary c = here (c .before .before .before .before .before .before) .all-binary .there
 
 slice-aggregate-searched-6 : tie.Need-slice-aggregate-searched-6
-slice-aggregate-searched-6 c =
-    let c₇ = c .before .before .before .before .before .before .before in
-    let c₁₄ = c₇ .before .before .before .before .before .before .before in
-    let c₂₀ = c₁₄ .before .before .before .before .before .before in
-    let c₂₁ = c₂₀ .before in
-    handed (c₂₁ .args .file .now) (λ i. omega (arith, c₂₀ .shared-slice-known .given i)) _ wide (c₁₄ .read .result) _ _ _ _ _ (c₁₄ .read .ensures)
-    (c₇ .read2 .given .1) .all-binary .long
+unfolding left
+slice-aggregate-searched-6 c = here (c .before .before .before .before .before .before .before) .all-binary .long
 
 searched-requires : tie.Need-searched-requires
-searched-requires c κs = (
-  given-by (c .before .before .before .before .before .before .before .before .before .before .before .before .before .before .before .before
-      .before .before .before .before .before .before .args .file .now) (λ i. omega (
-        arith,
-        c .before .before .before .before .before .before .before .before .before .before .before .before .before .before .before .before .before .before .before
-            .before .before .shared-slice-known .given i,
-      )) _ wide (c .before .before .before .before .before .before .before .before .before .before .before .before .before
-      .before .before .read .result) _ _ _ _ _ (c .before .before .before .before .before .before .before .before .before .before .before .before .before .before
-      .before .read .ensures) (handed (c .before .before .before .before .before .before .before .before .before .before .before .before .before .before .before .before
-      .before .before .before .before .before .before .args .file .now) (λ i. omega (
-        arith,
-        c .before .before .before .before .before .before .before .before .before .before .before .before .before .before .before .before .before .before .before
-            .before .before .shared-slice-known .given i,
-      )) _ wide (c .before .before .before .before .before .before .before .before .before .before .before .before .before
-      .before .before .read .result) _ _ _ _ _ (c .before .before .before .before .before .before .before .before .before .before .before .before .before .before
-      .before .read .ensures) (c .before .before .before .before .before .before .before .before .read2 .given .1))
-      (c .before .before .before .before .before .before .before .before .before .before .before .before .before .before .before .before .before .before .before .before
-      .before .before .args .room),
-  omega arith,
-)
+unfolding left
+searched-requires c κs =
+    let k = c .before .before .before .before .before .before .before .before in
+    let d = k .before .before .before .before .before .before .before in (
+      given-by (d .before .before .before .before .before .before .before .args .file .now) (bytes (d .before .before .before .before .before .before)) blank wide
+          (d .read .result) (left d .marks) (left d .lengths) (left d .words) (left d .unary) (left d .binary)
+          (ran d) (here k) (d .before .before .before .before .before .before .before .args .room),
+      omega arith,
+    )
 
 returns : tie.Need-returns
+unfolding left
 returns c =
-    let c₉ = c .before .before .before .before .before .before .before .before .before in
-    let c₁₆ = c₉ .before .before .before .before .before .before .before in
-    let c₂₂ = c₁₆ .before .before .before .before .before .before in
-    let c₂₃ = c₂₂ .before in
-    good-lines (c₂₃ .args .file .now) (λ i. omega (arith, c₂₂ .shared-slice-known .given i)) _ wide (c₁₆ .read .result) _ _ _ _ _ (c₁₆ .read .ensures)
-    (handed (c₂₃ .args .file .now) (λ i. omega (arith, c₂₂ .shared-slice-known .given i)) _ wide (c₁₆ .read .result) _ _ _ _ _ (c₁₆ .read .ensures)
-    (c₉ .read2 .given .1)) (c₂₃ .args .room) (c .searched .ensures)
+    let k = c .before .before .before .before .before .before .before .before .before in
+    let d = k .before .before .before .before .before .before .before in
+    good-lines (d .before .before .before .before .before .before .before .args .file .now) (bytes (d .before .before .before .before .before .before)) blank wide
+    (d .read .result) (left d .marks) (left d .lengths) (left d .words) (left d .unary) (left d .binary)
+    (ran d) (here k) (d .before .before .before .before .before .before .before .args .room) (c .searched .ensures)
 
 returns-2 : tie.Need-returns-2
 returns-2 c =
-    let c₃ = c .before .before .before in
-    let c₁₀ = c₃ .before .before .before .before .before .before .before in
-    let c₁₆ = c₁₀ .before .before .before .before .before .before in
-    let c₁₇ = c₁₆ .before in
-    broken-lines (c₁₇ .args .file .now) (λ i. omega (arith, c₁₆ .shared-slice-known .given i)) _ wide (c₁₀ .read .result) _ _ _ _ _
-    (c₁₀ .read .ensures) (c₁₇ .args .room) (c₃ .read3 .given .1) (omega arith) (c .broken .ensures)
+    let k = c .before .before .before in
+    let d = k .before .before .before .before .before .before .before in
+    broken-lines (d .before .before .before .before .before .before .before .args .file .now) (bytes (d .before .before .before .before .before .before)) blank wide
+    (d .read .result) (left d .marks) (left d .lengths) (left d .words) (left d .unary) (left d .binary)
+    (ran d) (d .before .before .before .before .before .before .before .args .room) (k .read3 .given .1) (omega arith) (c .broken .ensures)
 
 returns-3 : tie.Need-returns-3
 returns-3 c =
-    let c₂ = c .before .before in
-    let c₉ = c₂ .before .before .before .before .before .before .before in
-    let c₁₅ = c₉ .before .before .before .before .before .before in
-    let c₁₆ = c₁₅ .before in
-    absurd (never-room (c₁₆ .args .file .now) (λ i. omega (arith, c₁₅ .shared-slice-known .given i)) _ wide (c₉ .read .result) _ _ _ _ _
-    (c₉ .read .ensures) (c₂ .enum-told .given .1))
+    let k = c .before .before in
+    let d = k .before .before .before .before .before .before .before in
+    absurd (never-room (d .before .before .before .before .before .before .before .args .file .now) (bytes (d .before .before .before .before .before .before)) blank wide
+    (d .read .result) (left d .marks) (left d .lengths) (left d .words) (left d .unary) (left d .binary) (ran d) (k .enum-told .given .1))
 
 pub of-file-spec : {M : Type 1} → statement M
 of-file-spec = tie.close (tie.spec

@@ -9,12 +9,12 @@ returns : tie.Need-returns
 returns c = search-short _ _ _ _ _ _ _ _ _ _ _ _ (c .before .if1 .taken) _ (c .unanswered .ensures)
 
 returns-2 : tie.Need-returns-2
-returns-2 c = rw (c .number .ensures) (search-long _ _ _
-    (c .before .before .before .before .before .before .before .before .before .before .before .before .before .before .before .before .before .before .before .before .before .if1 .left)
-    _ _ _ (c .before .before .before .before .before .before .before .before .before .before .before .before .before .before .before .search .ensures)
-    (c .before .before .before .put .ensures))
+returns-2 c =
+    let p = c .before .before .put .ensures in
+    let c₁₄ = c .before .before .before .before .before .before .before .before .before .before .before .before .before .before in
+    rw (p .0) (search-long _ _ _ (c₁₄ .before .before .before .before .before .before .if1 .left) _ _ _ (c₁₄ .search .ensures) (p .1))
 
 pub search-spec : {M : Type 1} → statement M
 search-spec = tie.close (tie.spec
-    (λ c κs. search needs) returns (λ c κs. search needs) (λ c κs. search needs) (λ c κs. search needs) (λ c. search needs) (λ c. search needs)
+    (λ c κs. search needs) returns (λ c κs. search needs) (λ c κs. search needs) (λ c. search needs) (λ c. search needs)
     (λ c. search needs) (λ c. search needs) (λ c. search needs) (λ c. search needs) returns-2)

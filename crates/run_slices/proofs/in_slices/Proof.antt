@@ -9,15 +9,14 @@ use Rattle.run_slices.proofs.in_slices.Statement.{statement}
 use Rattle.run_slices.proofs.in_slices.Tie as tie
 
 abbrev Inv-loop : tie.InvT-loop
-Inv-loop budget r m bound room marks lengths words unary binary codes₀ lefts₀ rights₀ sizes₀ matrices₀ state₀ turn₀ t a b d e codes lefts rights sizes matrices state turn =
+Inv-loop budget r m bound room marks lengths words unary binary codes₀ lefts₀ rights₀ sizes₀ matrices₀ state₀ turn₀ codes lefts rights sizes matrices state turn =
     (turn ≤ 100000) × (length codes ≡ 200) × (length lefts ≡ 200) × (length rights ≡ 200) × (length sizes ≡ 200) × (length matrices ≡ 400)
-    × (length t ≡ 8) × (length a ≡ 10) × (length b ≡ 8) × (length d ≡ 1) × (length e ≡ 5)
 
 abbrev μ-loop : tie.MeasureT-loop
-μ-loop budget r m bound room marks lengths words unary binary codes₀ lefts₀ rights₀ sizes₀ matrices₀ state₀ turn₀ t a b d e codes lefts rights sizes matrices state turn = 100000 - turn
+μ-loop budget r m bound room marks lengths words unary binary codes₀ lefts₀ rights₀ sizes₀ matrices₀ state₀ turn₀ codes lefts rights sizes matrices state turn = 100000 - turn
 
 loop-holds : tie.Need-loop-holds Inv-loop μ-loop
-loop-holds c = (omega arith, refl, refl, refl, refl, refl, refl, refl, refl, refl, refl)
+loop-holds c = (omega arith, refl, refl, refl, refl, refl)
 
 slice-aggregate-resume : tie.Need-slice-aggregate-resume Inv-loop μ-loop
 slice-aggregate-resume c =
@@ -49,28 +48,6 @@ add-turn c =
     let c₁₂ = c .before .before .before .before .before .before .before .before .before .before .before .before in
     omega (arith, c₁₂ .loop .inv .0)
 
-slice-aggregate-say : tie.Need-slice-aggregate-say Inv-loop μ-loop
-slice-aggregate-say c =
-    let c₁₅ = c .before .before .before .before .before .before .before .before .before .before .before .before .before .before .before in
-    sym (c₁₅ .loop .inv .6)
-
-slice-aggregate-say-number : tie.Need-slice-aggregate-say-number Inv-loop μ-loop
-slice-aggregate-say-number c =
-    let c₁₈ = c .before .before .before .before .before .before .before .before .before .before .before .before .before .before .before .before .before .before in
-    sym (c₁₈ .loop .inv .7)
-
-slice-aggregate-say-number-2 : tie.Need-slice-aggregate-say-number-2 Inv-loop μ-loop
-slice-aggregate-say-number-2 c =
-    let c₂₀ = c .before .before .before .before .before .before .before .before .before .before .before .before .before .before .before .before .before .before .before .before in
-    sym (c₂₀ .loop .inv .8)
-
-slice-aggregate-say-2 : tie.Need-slice-aggregate-say-2 Inv-loop μ-loop
-slice-aggregate-say-2 c =
-    let c₂₃ =
-    c .before .before .before .before .before .before .before .before .before .before .before .before .before .before .before .before .before .before .before .before .before .before
-    .before in
-    sym (c₂₃ .loop .inv .9)
-
 loop-less : tie.Need-loop-less Inv-loop μ-loop
 loop-less c =
     let c₁₆ = c .before .before .before .before .before .before .before .before .before .before .before .before .before .before .before .before in
@@ -87,22 +64,10 @@ loop-again c =
       (c₁₀ .resume .kept .1 .1 .1 .1 .1 .1 .1 .1 .1 .1 .1 .1 .1 .1 .0 ∙ c₁₇ .loop .inv .3),
       (c₁₀ .resume .kept .1 .1 .1 .1 .1 .1 .1 .1 .1 .1 .1 .1 .1 .1 .1 .0 ∙ c₁₇ .loop .inv .4),
       (c₁₀ .resume .kept .1 .1 .1 .1 .1 .1 .1 .1 .1 .1 .1 .1 .1 .1 .1 .1 .0 ∙ c₁₇ .loop .inv .5),
-      c₁₇ .loop .inv .6,
-      c₁₇ .loop .inv .7,
-      c₁₇ .loop .inv .8,
-      c₁₇ .loop .inv .9,
-      c₁₇ .loop .inv .10,
     )
-
-slice-aggregate-say-3 : tie.Need-slice-aggregate-say-3 Inv-loop μ-loop
-slice-aggregate-say-3 c =
-    let c₂ = c .before .before in
-    sym (c₂ .loop .inv .10)
 
 pub in-slices-spec : {M : Type 1} → statement M
 in-slices-spec = tie.close (tie.spec
     Inv-loop μ-loop (λ c κs. search needs) loop-holds slice-aggregate-resume slice-aggregate-resume-2 slice-aggregate-resume-3
-    slice-aggregate-resume-4 slice-aggregate-resume-5 (λ c κs. search needs) add-turn (λ c. search needs) (λ c. search needs) slice-aggregate-say
-    (λ c κs. search needs) (λ c. search needs) slice-aggregate-say-number (λ c κs. search needs) slice-aggregate-say-number-2 (λ c κs. search needs)
-    (λ c κs. search needs) slice-aggregate-say-2 (λ c κs. search needs) (λ c. search needs) loop-less loop-again slice-aggregate-say-3
-    (λ c κs. search needs) (λ c. search needs))
+    slice-aggregate-resume-4 slice-aggregate-resume-5 (λ c κs. search needs) add-turn (λ c. search needs) (λ c. search needs) (λ c κs. search needs)
+    (λ c. search needs) (λ c κs. search needs) (λ c. search needs) loop-less loop-again (λ c κs. search needs) (λ c. search needs))

@@ -1,4 +1,4 @@
--- `bytes` gives what was read.
+-- `bytes` gives a first part of what was lent.
 -- Assumes nothing.
 use mathlib.Core.Path.{sym}
 use native.Mathlib.Omega.{arith}
@@ -10,5 +10,4 @@ use Rattle.stored.proofs.bytes.Tie as tie
 
 pub bytes-spec : {M : Type 1} → statement M
 bytes-spec = tie.close (tie.spec
-    (λ c κs. search needs) (λ c. search needs) (λ c κs. search needs) (λ c. search needs) (λ c. sym (length-take-le _ _ (search needs)))
     (λ c κs. search needs) (λ c. sym (length-take-le _ _ (search needs))) (λ c. simp length-take (omega arith)))

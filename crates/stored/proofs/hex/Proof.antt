@@ -1,4 +1,4 @@
--- `hex` gives what was read.
+-- `hex` gives a first part of what was lent.
 -- Assumes nothing.
 use mathlib.Core.Path.{sym}
 use native.Mathlib.Omega.{arith}
@@ -9,4 +9,5 @@ use Rattle.stored.proofs.hex.Statement.{statement}
 use Rattle.stored.proofs.hex.Tie as tie
 
 pub hex-spec : {M : Type 1} → statement M
-hex-spec = tie.close (tie.spec (λ c κs. search needs) (λ c κs. search needs) (λ c. sym (length-take-le _ _ (search needs))) (λ c. simp length-take (omega arith)))
+hex-spec = tie.close (tie.spec
+    (λ c κs. search needs) (λ c κs. search needs) (λ c. sym (length-take-le _ _ (search needs))) (λ c. simp length-take (omega arith)))

@@ -1,4 +1,4 @@
--- `places` gives what was read.
+-- `places` gives a first part of what was lent.
 -- Assumes nothing.
 use mathlib.Core.Path.{sym}
 use native.Mathlib.Omega.{arith}
@@ -10,5 +10,4 @@ use Rattle.stored.proofs.places.Tie as tie
 
 pub places-spec : {M : Type 1} → statement M
 places-spec = tie.close (tie.spec
-    (λ c κs. search needs) (λ c. search needs) (λ c κs. search needs) (λ c. search needs) (λ c. sym (length-take-le _ _ (search needs)))
     (λ c κs. search needs) (λ c. sym (length-take-le _ _ (search needs))) (λ c. simp length-take (omega arith)))

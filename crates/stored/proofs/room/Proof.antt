@@ -10,5 +10,4 @@ use Rattle.stored.proofs.room.Tie as tie
 
 pub room-spec : {M : Type 1} → statement M
 room-spec = tie.close (tie.spec
-    (λ c. search needs) (λ c κs. search needs) (λ c. search needs) (λ c. search needs) (λ c. sym (length-take-le _ _ (search needs)))
-    (λ c. simp length-take (omega arith)))
+    (λ c κs. search needs) (λ c κs. search needs) (λ c. sym (length-take-le _ _ (search needs))) (λ c. simp length-take (omega arith)))

@@ -1,4 +1,4 @@
--- `words` gives what was read.
+-- `words` gives a first part of what was lent.
 -- Assumes nothing.
 use mathlib.Core.Path.{sym}
 use native.Mathlib.Omega.{arith}
@@ -9,4 +9,5 @@ use Rattle.stored.proofs.words.Statement.{statement}
 use Rattle.stored.proofs.words.Tie as tie
 
 pub words-spec : {M : Type 1} → statement M
-words-spec = tie.close (tie.spec (λ c κs. search needs) (λ c κs. search needs) (λ c. sym (length-take-le _ _ (search needs))) (λ c. simp length-take (omega arith)))
+words-spec = tie.close (tie.spec
+    (λ c κs. search needs) (λ c κs. search needs) (λ c κs. search needs) (λ c. sym (length-take-le _ _ (search needs))) (λ c. simp length-take (omega arith)))

@@ -1,17 +1,23 @@
 -- `of_typed` meets its contract: the reader of files hands out a good file's parts, and what is typed has its lines over them.
 -- Assumes nothing.
-use borrow.Author.Needs.{needs}
+use mathlib.Core.Path.{_≡_}
 use Prim.Native.Nat.{ℕ}
 use native.Mathlib.Omega.{arith}
 use lib.ListN.{length-replicate, replicate}
-use Rattle.file.specs.Reading.{lent}
-use Rattle.lines.proofs.Handed.{Wide, handed, never-room}
+use Rattle.file.specs.Reading.{Lent, lent, saidRead, readAfter, readOf}
+use Rattle.file.proofs.Numbers.{Bytes}
+use Rattle.lines.proofs.Handed.{Wide, Handed, handed, never-room}
 use Rattle.suspicion.proofs.Answered.{good-said, broken-said}
+use borrow.Author.Needs.{needs}
 use Rattle.suspicion.proofs.of_typed.Statement.{statement}
 use Rattle.suspicion.proofs.of_typed.Tie as tie
 
 -- the arrays that are lent to the reader
-wide : Wide (lent (replicate 32 0) (replicate 32 0) (replicate 512 0) (replicate 5 0) (replicate 6 0))
+blank : Lent
+blank = lent (replicate 32 0) (replicate 32 0) (replicate 512 0) (replicate 5 0) (replicate 6 0)
+
+wide : Wide blank
+unfolding blank
 wide = record {
   marks = length-replicate {A = ℕ} 32 0;
   lengths = length-replicate {A = ℕ} 32 0;
@@ -20,108 +26,87 @@ wide = record {
   binary = length-replicate {A = ℕ} 6 0;
 }
 
+-- the file is one of bytes
+bytes : (c : tie.After-shared-slice-known2) → Bytes (c .before .before .args .file .now)
+bytes c i = omega (arith, c .shared-slice-known2 .given i)
+
+-- what the reader leaves in the arrays
+left : tie.After-read → Lent
+left d = let l = d .read .last .1 in lent (l .0) (l .1 .0) (l .1 .1 .0) (l .1 .1 .1 .0) (l .1 .1 .1 .1 .0)
+
+ran : (d : tie.After-read)
+    → readAfter (saidRead (d .read .result)) (left d .marks) (left d .lengths) (left d .words) (left d .unary) (left d .binary)
+    ≡ readOf (d .before .before .before .before .before .before .before .before .before .args .file .now) blank
+unfolding blank left
+ran d = d .read .ensures
+
+-- a good file's parts, and where they are
+abbrev Parted : tie.After-read → ℕ → ℕ → ℕ → ℕ → ℕ → ℕ → ℕ → Type 0
+Parted d = Handed (d .before .before .before .before .before .before .before .before .before .args .file .now) (bytes (d .before .before .before .before .before .before .before)) blank wide
+    (d .read .result) (left d .marks) (left d .lengths) (left d .words) (left d .unary) (left d .binary) (ran d)
+
+here : (c : tie.After-read2) → (let v = c .read2 .given .0 in
+    Parted (c .before .before .before .before .before .before .before) (v .0) (v .1 .0) (v .1 .1 .0) (v .1 .1 .1 .0) (v .1 .1 .1 .1 .0) (v .1 .1 .1 .1 .1 .0) (v .1 .1 .1 .1 .1 .1 .0))
+here c =
+    let d = c .before .before .before .before .before .before .before in
+    handed (d .before .before .before .before .before .before .before .before .before .args .file .now) (bytes (d .before .before .before .before .before .before .before)) blank wide
+    (d .read .result) (left d .marks) (left d .lengths) (left d .words) (left d .unary) (left d .binary) (ran d) (c .read2 .given .1)
+
 slice-aggregate-judged : tie.Need-slice-aggregate-judged
-slice-aggregate-judged c =
-    let c₂ = c .before .before in
-    let c₉ = c₂ .before .before .before .before .before .before .before in
-    let c₁₆ = c₉ .before .before .before .before .before .before .before in
-    let c₁₈ = c₁₆ .before .before in
-    handed (c₁₈ .args .file .now) (λ i. omega (arith, c₁₆ .shared-slice-known2 .given i)) _ wide (c₉ .read .result) _ _ _ _ _ (c₉ .read .ensures)
-    (c₂ .read2 .given .1) .names-long
+slice-aggregate-judged c = here (c .before .before) .names-long
 
 array-share-prefix-marks : tie.Need-array-share-prefix-marks
-array-share-prefix-marks c =
-    let c₂ = c .before .before in
-    let c₉ = c₂ .before .before .before .before .before .before .before in
-    let c₁₆ = c₉ .before .before .before .before .before .before .before in
-    let c₁₈ = c₁₆ .before .before in
-    handed (c₁₈ .args .file .now) (λ i. omega (arith, c₁₆ .shared-slice-known2 .given i)) _ wide (c₉ .read .result) _ _ _ _ _ (c₉ .read .ensures)
-    (c₂ .read2 .given .1) .all-marks .there
+unfolding left
+array-share-prefix-marks c = here (c .before .before) .all-marks .there
 
 slice-aggregate-judged-2 : tie.Need-slice-aggregate-judged-2
-slice-aggregate-judged-2 c =
-    let c₃ = c .before .before .before in
-    let c₁₀ = c₃ .before .before .before .before .before .before .before in
-    let c₁₇ = c₁₀ .before .before .before .before .before .before .before in
-    let c₁₉ = c₁₇ .before .before in
-    handed (c₁₉ .args .file .now) (λ i. omega (arith, c₁₇ .shared-slice-known2 .given i)) _ wide (c₁₀ .read .result) _ _ _ _ _ (c₁₀ .read .ensures)
-    (c₃ .read2 .given .1) .all-marks .long
+unfolding left
+slice-aggregate-judged-2 c = here (c .before .before .before) .all-marks .long
 
 array-share-prefix-lengths : tie.Need-array-share-prefix-lengths
-array-share-prefix-lengths c =
-    let c₃ = c .before .before .before in
-    let c₁₀ = c₃ .before .before .before .before .before .before .before in
-    let c₁₇ = c₁₀ .before .before .before .before .before .before .before in
-    let c₁₉ = c₁₇ .before .before in
-    handed (c₁₉ .args .file .now) (λ i. omega (arith, c₁₇ .shared-slice-known2 .given i)) _ wide (c₁₀ .read .result) _ _ _ _ _ (c₁₀ .read .ensures)
-    (c₃ .read2 .given .1) .all-lengths .there
+unfolding left
+array-share-prefix-lengths c = here (c .before .before .before) .all-lengths .there
 
 slice-aggregate-judged-3 : tie.Need-slice-aggregate-judged-3
-slice-aggregate-judged-3 c =
-    let c₄ = c .before .before .before .before in
-    let c₁₁ = c₄ .before .before .before .before .before .before .before in
-    let c₁₈ = c₁₁ .before .before .before .before .before .before .before in
-    let c₂₀ = c₁₈ .before .before in
-    handed (c₂₀ .args .file .now) (λ i. omega (arith, c₁₈ .shared-slice-known2 .given i)) _ wide (c₁₁ .read .result) _ _ _ _ _ (c₁₁ .read .ensures)
-    (c₄ .read2 .given .1) .all-lengths .long
+unfolding left
+slice-aggregate-judged-3 c = here (c .before .before .before .before) .all-lengths .long
 
 mul-words : tie.Need-mul-words
-mul-words c =
-    let c₄ = c .before .before .before .before in
-    let c₁₁ = c₄ .before .before .before .before .before .before .before in
-    let c₁₈ = c₁₁ .before .before .before .before .before .before .before in
-    let c₂₀ = c₁₈ .before .before in
-    let h = handed (c₂₀ .args .file .now) (λ i. omega (arith, c₁₈ .shared-slice-known2 .given i)) _ wide (c₁₁ .read .result) _ _ _ _ _
-    (c₁₁ .read .ensures) (c₄ .read2 .given .1) in
-    omega (arith, h .small)
+mul-words c = omega (arith, here (c .before .before .before .before) .small)
 
 array-share-prefix-words : tie.Need-array-share-prefix-words
-array-share-prefix-words c =
-    let c₄ = c .before .before .before .before in
-    let c₁₁ = c₄ .before .before .before .before .before .before .before in
-    let c₁₈ = c₁₁ .before .before .before .before .before .before .before in
-    let c₂₀ = c₁₈ .before .before in
-    handed (c₂₀ .args .file .now) (λ i. omega (arith, c₁₈ .shared-slice-known2 .given i)) _ wide (c₁₁ .read .result) _ _ _ _ _ (c₁₁ .read .ensures)
-    (c₄ .read2 .given .1) .all-words .there
+unfolding left
+array-share-prefix-words c = here (c .before .before .before .before) .all-words .there
 
 slice-aggregate-judged-4 : tie.Need-slice-aggregate-judged-4
-slice-aggregate-judged-4 c =
-    let c₅ = c .before .before .before .before .before in
-    let c₁₂ = c₅ .before .before .before .before .before .before .before in
-    let c₁₉ = c₁₂ .before .before .before .before .before .before .before in
-    let c₂₁ = c₁₉ .before .before in
-    handed (c₂₁ .args .file .now) (λ i. omega (arith, c₁₉ .shared-slice-known2 .given i)) _ wide (c₁₂ .read .result) _ _ _ _ _ (c₁₂ .read .ensures)
-    (c₅ .read2 .given .1) .all-words .long
+unfolding left
+slice-aggregate-judged-4 c = here (c .before .before .before .before .before) .all-words .long
 
 returns : tie.Need-returns
+unfolding left
 returns c =
-    let c₂ = c .before .before in
-    let c₉ = c₂ .before .before .before .before .before .before .before in
-    let c₁₆ = c₉ .before .before .before .before .before .before .before in
-    let c₂₃ = c₁₆ .before .before .before .before .before .before .before in
-    let c₂₅ = c₂₃ .before .before in
-    good-said (c₂₅ .args .file .now) (λ i. omega (arith, c₂₃ .shared-slice-known2 .given i)) _ wide (c₁₆ .read .result) _ _ _ _ _ (c₁₆ .read .ensures)
-    (c₂₅ .args .typed .now) (handed (c₂₅ .args .file .now) (λ i. omega (arith, c₂₃ .shared-slice-known2 .given i)) _ wide (c₁₆ .read .result) _ _ _ _
-    _ (c₁₆ .read .ensures) (c₉ .read2 .given .1)) (c₂ .judged .ensures)
+    let e = c .before .before in
+    let k = e .before .before .before .before .before .before .before in
+    let d = k .before .before .before .before .before .before .before in
+    good-said (d .before .before .before .before .before .before .before .before .before .args .file .now) (bytes (d .before .before .before .before .before .before .before)) blank wide
+    (d .read .result) (left d .marks) (left d .lengths) (left d .words) (left d .unary) (left d .binary)
+    (ran d) (d .before .before .before .before .before .before .before .before .before .args .typed .now) (here k) (e .judged .ensures)
 
 returns-2 : tie.Need-returns-2
 returns-2 c =
-    let c₂ = c .before .before in
-    let c₅ = c₂ .before .before .before in
-    let c₁₂ = c₅ .before .before .before .before .before .before .before in
-    let c₁₉ = c₁₂ .before .before .before .before .before .before .before in
-    let c₂₁ = c₁₉ .before .before in
-    broken-said (c₂₁ .args .file .now) (λ i. omega (arith, c₁₉ .shared-slice-known2 .given i)) _ wide (c₁₂ .read .result) _ _ _ _ _
-    (c₁₂ .read .ensures) (c₂₁ .args .typed .now) (c₅ .read3 .given .1) (c₂ .refused-at .ensures)
+    let e = c .before .before in
+    let k = e .before .before .before in
+    let d = k .before .before .before .before .before .before .before in
+    broken-said (d .before .before .before .before .before .before .before .before .before .args .file .now) (bytes (d .before .before .before .before .before .before .before)) blank wide
+    (d .read .result) (left d .marks) (left d .lengths) (left d .words) (left d .unary) (left d .binary)
+    (ran d) (d .before .before .before .before .before .before .before .before .before .args .typed .now) (k .read3 .given .1) (e .refused-at .ensures)
 
 returns-3 : tie.Need-returns-3
 returns-3 c =
-    let c₄ = c .before .before .before .before in
-    let c₁₁ = c₄ .before .before .before .before .before .before .before in
-    let c₁₈ = c₁₁ .before .before .before .before .before .before .before in
-    let c₂₀ = c₁₈ .before .before in
-    absurd (never-room (c₂₀ .args .file .now) (λ i. omega (arith, c₁₈ .shared-slice-known2 .given i)) _ wide (c₁₁ .read .result) _ _ _ _ _
-    (c₁₁ .read .ensures) (c₄ .enum-told .given .1))
+    let k = c .before .before .before .before in
+    let d = k .before .before .before .before .before .before .before in
+    absurd (never-room (d .before .before .before .before .before .before .before .before .before .args .file .now) (bytes (d .before .before .before .before .before .before .before)) blank wide
+    (d .read .result) (left d .marks) (left d .lengths) (left d .words) (left d .unary) (left d .binary) (ran d) (k .enum-told .given .1))
 
 pub of-typed-spec : {M : Type 1} → statement M
 of-typed-spec = tie.close (tie.spec
