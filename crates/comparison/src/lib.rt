@@ -7,7 +7,7 @@ ghost use Rattle.comparison.specs.Compare.{said_compared, Compares, KnownAnswer}
 use rules::kinds::{Place, Session};
 
 // How a matrix compares with the kept one at a place: equal in every row, there; or the first session that differs; or a refusal.
-#[derive(Drop)]
+#[derive(Clone, Copy)]
 pub enum Compared {
     Equal(Place),
     Differs(Session),
@@ -15,7 +15,7 @@ pub enum Compared {
 }
 
 // The first place whose matrix is equal, or none.
-#[derive(Drop)]
+#[derive(Clone, Copy)]
 pub enum Known {
     At(Place),
     New,

@@ -3,7 +3,7 @@ ghost use Rattle.std.specs.Prelude.{◌≡◌};
 ghost use Rattle.counting.specs.Counting.{one_more, counted_by};
 
 // What becomes of a candidate.
-#[derive(Drop)]
+#[derive(Clone, Copy)]
 pub enum Fate {
     Found,
     Dropped,
@@ -12,7 +12,7 @@ pub enum Fate {
 }
 
 // The counts of a search: the candidates tried, up to and including the deciding one, the formulas kept, and the candidates dropped.
-#[derive(Drop)]
+#[derive(Clone, Copy)]
 pub struct Counts {
     pub tried: u64,
     pub kept: usize,

@@ -6,7 +6,7 @@ use tokens::bytes::byte;
 use tokens::operator::{Op, operator};
 
 // Where what closes an expression ends, or the offset of a byte that can't continue a formula.
-#[derive(Drop)]
+#[derive(Clone, Copy)]
 pub(crate) enum End {
     At(usize),
     Bad(usize),

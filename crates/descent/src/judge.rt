@@ -9,7 +9,7 @@ use typed::unknown::{Missing, unknown};
 
 // How many nodes a text has that is taken so far; or which refusal it gets: the names' 8, 12 for its bytes, no room in the scratch for so many, 11, 13, 12
 // for its size or brackets.
-#[derive(Drop)]
+#[derive(Clone, Copy)]
 pub enum TextJudged {
     Nodes(usize),
     Broken(usize),

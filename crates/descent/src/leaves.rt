@@ -8,7 +8,7 @@ use names::lookup::{FoundName, find};
 use spelling::bytes::same;
 
 // A leaf's code, and its left field: a proposition's number.
-#[derive(Drop)]
+#[derive(Clone, Copy)]
 pub(crate) struct Leaf {
     pub(crate) code: u8,
     pub(crate) left: usize,

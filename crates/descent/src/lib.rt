@@ -13,7 +13,7 @@ use operand::{Awaited, front};
 use tokens::operator::{Op, operator};
 
 // Where what was read ends and its size, or the offset of a byte that can't continue a formula.
-#[derive(Drop)]
+#[derive(Clone, Copy)]
 pub(crate) enum Got {
     Val { next: usize, size: usize },
     Bad(usize),

@@ -22,7 +22,7 @@ pub const LARGEST: usize = 4450;
 
 // What a file is: its parts' numbers (sessions r, propositions m, the bytes of the names section, codes of each group, constants mark, bound B),
 // broken at an offset, or good with too little room lent.
-#[derive(Drop)]
+#[derive(Clone, Copy)]
 pub enum ReadAnswer {
     Parts {
         sessions: usize,
@@ -38,7 +38,7 @@ pub enum ReadAnswer {
 }
 
 // What the settings are, or the offset that offends.
-#[derive(Drop)]
+#[derive(Clone, Copy)]
 enum Tail {
     Read { constants: u8, bound: u8 },
     Broken(usize),

@@ -9,7 +9,7 @@ pub const FALSE: u8 = 17;
 pub const TRUE: u8 = 18;
 
 // Unused fields are 0; the left field of a proposition's node is its number.
-#[derive(Drop)]
+#[derive(Clone, Copy)]
 pub struct Node {
     pub code: u8,
     pub left: Place,

@@ -21,7 +21,7 @@ const PROPOSITIONS: usize = rules::PROPOSITIONS;
 pub const NAME_LENGTH: usize = 16;
 
 // What a names section is: so many names, or broken at an offset.
-#[derive(Drop)]
+#[derive(Clone, Copy)]
 pub enum NamesAnswer {
     Names(usize),
     Broken(usize),

@@ -6,14 +6,14 @@ ghost use Rattle.names.specs.Lookup.{walk_end, LettersAt, found_in};
 use spelling::bytes::same;
 
 // Where a name's letters stand: from one offset up to another.
-#[derive(Drop)]
+#[derive(Clone, Copy)]
 pub struct Span {
     pub from: usize,
     pub to: usize,
 }
 
 // The number of the name that was looked for.
-#[derive(Drop)]
+#[derive(Clone, Copy)]
 pub enum FoundName {
     At(usize),
     Nothing,

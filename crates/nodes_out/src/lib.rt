@@ -11,21 +11,21 @@ use rules::kinds::Place;
 use search::SearchAnswer;
 
 // Nodes at the start of an array.
-#[derive(Drop)]
+#[derive(Clone, Copy)]
 pub struct Listed {
     pub nodes: [Node; ROOM],
     pub count: usize,
 }
 
 // What a search leaves: its answer, and the kept nodes.
-#[derive(Drop)]
+#[derive(Clone, Copy)]
 pub struct Done {
     pub answer: SearchAnswer,
     pub listed: Listed,
 }
 
 // What reading leaves: its answer, and the formula's nodes.
-#[derive(Drop)]
+#[derive(Clone, Copy)]
 pub struct Read {
     pub answer: Parsed,
     pub listed: Listed,

@@ -10,14 +10,14 @@ use starts::of_table;
 use state::State;
 
 // Where the walk stands once the ends of sizes are passed over, and the step from there.
-#[derive(Drop)]
+#[derive(Clone, Copy)]
 pub struct Seen {
     pub state: State,
     pub step: Step,
 }
 
 // A candidate that is tried, with the state before it and the cursor after it; or the state that is answered.
-#[derive(Drop)]
+#[derive(Clone, Copy)]
 pub struct Turn {
     pub rests: bool,
     pub state: State,

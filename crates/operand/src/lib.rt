@@ -7,7 +7,7 @@ use spelling::letter::{is_letter, is_name_byte};
 use tokens::bytes;
 
 // A prefix operator, an opening bracket or a leaf, up to its end; or no operand.
-#[derive(Drop)]
+#[derive(Clone, Copy)]
 pub enum Awaited {
     Operator { next: usize, code: u8 },
     Open(usize),

@@ -7,7 +7,7 @@ ghost use Rattle.operators.specs.Table.{Listed, GroupIs};
 
 use sequence::{Answer, CharSeq};
 
-#[derive(Drop)]
+#[derive(Clone, Copy)]
 pub enum Group {
     Unary,
     Binary,
@@ -15,7 +15,7 @@ pub enum Group {
 }
 
 // A token has up to 4 bytes; those past its length are 0.
-#[derive(Drop)]
+#[derive(Clone, Copy)]
 pub struct Operator {
     pub token: [u8; 4],
     pub bytes: usize,

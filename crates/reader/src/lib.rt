@@ -9,7 +9,7 @@ use write::least;
 
 // What reading answers: how many nodes were written, the root last; the offset at which the names section is broken; the offset of the byte that can't
 // continue a formula; the offset of the first unknown name; or another refusal's number.
-#[derive(Drop)]
+#[derive(Clone, Copy)]
 pub enum Parsed {
     Nodes(usize),
     Broken(usize),

@@ -3,7 +3,7 @@ ghost use Rattle.std.specs.Prelude.{◌≡◌};
 ghost use Rattle.reading.specs.Reading.{byte, within, step_of};
 
 // What a sub-reader hands up: a number and the offset after what it read, or the offset that offends.
-#[derive(Drop)]
+#[derive(Clone, Copy)]
 pub enum ReadStep {
     Read { value: usize, next: usize },
     Broken(usize),

@@ -18,7 +18,7 @@ use verdict::Verdict;
 pub const LONGEST: usize = 15562;
 
 // The report's length, or a refusal.
-#[derive(Drop)]
+#[derive(Clone, Copy)]
 pub enum Reported {
     Text(usize),
     Refused(u8),

@@ -2,13 +2,13 @@
 ghost use Rattle.std.specs.Prelude.{◌≡◌, min};
 ghost use Rattle.rules.specs.Kinds.{most_number};
 
-#[derive(Drop)]
+#[derive(Clone, Copy)]
 pub struct Place(pub u16);
 
-#[derive(Drop)]
+#[derive(Clone, Copy)]
 pub struct Session(pub u8);
 
-#[derive(Drop)]
+#[derive(Clone, Copy)]
 pub struct Proposition(pub u8);
 
 impl Proposition {

@@ -10,21 +10,21 @@ ghost use Rattle.std.specs.Prelude.{◌+◌, ◌*◌, ◌≤◌, ◌<◌, length
 use sequence::{Answer, CharSeq};
 
 // A number that was read.
-#[derive(Drop)]
+#[derive(Clone, Copy)]
 enum Number {
     Value(u64),
     Broken,
 }
 
 // A sequence that was read. Nothing says that it is well formed.
-#[derive(Drop)]
+#[derive(Clone, Copy)]
 enum Given {
     Sequence(CharSeq),
     Broken,
 }
 
 // What a line of the output says.
-#[derive(Drop)]
+#[derive(Clone, Copy)]
 struct Reply {
     number: u8,
     length: u64,

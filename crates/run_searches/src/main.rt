@@ -67,7 +67,7 @@ fn say_lent(
 }
 
 // The numbers of a search.
-#[derive(Drop)]
+#[derive(Clone, Copy)]
 struct Head {
     r: usize,
     m: usize,

@@ -11,7 +11,7 @@ use slices::Resumed;
 use state::State;
 
 // FOUND with the root node over the kept list, NONE, FULL at a size, each with the counts; or a refusal.
-#[derive(Drop)]
+#[derive(Clone, Copy)]
 pub enum SearchAnswer {
     Found { root: Node, counts: Counts },
     None(Counts),

@@ -6,14 +6,14 @@ ghost use Rattle.sequence.specs.Operators.{not, weak_next, strong_next, finally,
 ghost use Rattle.sequence.specs.Masked.{UnaryOn, BinaryOn, UnaryBy, BinaryBy};
 ghost use Rattle.sequence.specs.Sequence.{seq, WellFormed, SeqAccepts, ill_formed, NewAnswer, RecordedAnswer};
 
-#[derive(Drop)]
+#[derive(Clone, Copy)]
 pub struct CharSeq {
     pub length: usize,
     pub values: u64,
 }
 
 // The sequence that an operation answers, or the number of its refusal.
-#[derive(Drop)]
+#[derive(Clone, Copy)]
 pub enum Answer {
     Sequence(CharSeq),
     Refused(u8),

@@ -14,7 +14,7 @@ use split::Cursor;
 use state::State;
 
 // The state after a call, which tells the answer; or a refusal, and then the state is the one that was handed in.
-#[derive(Drop)]
+#[derive(Clone, Copy)]
 pub enum Resumed {
     Goes(State),
     Refused(u8),

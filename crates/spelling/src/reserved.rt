@@ -8,7 +8,7 @@ ghost use Rattle.spelling.specs.Inner.{Spelt};
 use crate::bytes::same;
 
 // A word has up to 5 bytes; those past its length are 0.
-#[derive(Drop)]
+#[derive(Clone, Copy)]
 struct Word {
     letters: [u8; 5],
     bytes: usize,

@@ -8,7 +8,7 @@ use rules::kinds::Place;
 
 // Where a size goes on: the split (0 before the pairs), the left and the right place, the operator's position in its list, and whether its first
 // order is done. At size 1 the position in the list of leaves stands in `operator`, and the other numbers are 0.
-#[derive(Drop)]
+#[derive(Clone, Copy)]
 pub struct Cursor {
     pub split: usize,
     pub left: usize,
@@ -18,7 +18,7 @@ pub struct Cursor {
 }
 
 // The candidate at a cursor and the cursor after it; or the size has none left.
-#[derive(Drop)]
+#[derive(Clone, Copy)]
 pub enum Step {
     Candidate {
         code: u8,
@@ -30,7 +30,7 @@ pub enum Step {
 }
 
 // The places of a split: the left ones end before `end`, the right ones go from `from` to before `to`.
-#[derive(Drop)]
+#[derive(Clone, Copy)]
 pub struct Part {
     pub end: u16,
     pub from: u16,

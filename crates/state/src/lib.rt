@@ -8,7 +8,7 @@ use split::Cursor;
 
 // The size, the cursor before its next candidate and the counts: with the table it is all that the next call needs to go on. `end` is 0 while the walk goes
 // on; at its end 1 FOUND, 2 NONE, 3 FULL, and `root` is FOUND's root node.
-#[derive(Drop)]
+#[derive(Clone, Copy)]
 pub struct State {
     pub size: usize,
     pub at: Cursor,

@@ -93,7 +93,7 @@ fn least(a: usize, b: usize) -> usize
 }
 
 // A number and how often, of which some digits were read; the count is 1 from the first digit on, until a colon.
-#[derive(Drop)]
+#[derive(Clone, Copy)]
 struct Partly {
     value: u64,
     count: u64,

@@ -6,13 +6,13 @@ ghost use Rattle.summary.specs.Values.{LeastIn, Summed};
 use sequence::CharSeq;
 
 // A snapshot's number, or none.
-#[derive(Drop)]
+#[derive(Clone, Copy)]
 pub enum First {
     Never,
     Snapshot(u8),
 }
 
-#[derive(Drop)]
+#[derive(Clone, Copy)]
 pub struct Summary {
     pub holds: First,
     pub fails: First,

@@ -13,7 +13,7 @@ use text::write;
 pub const LONGEST: usize = 391;
 
 // What printing answers: the text's length, the offset at which the names section is broken, or a refusal.
-#[derive(Drop)]
+#[derive(Clone, Copy)]
 pub enum Printed {
     Text(usize),
     Broken(usize),

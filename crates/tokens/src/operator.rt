@@ -5,7 +5,7 @@ use crate::bytes;
 use spelling::letter::is_name_byte;
 
 // An operator has its level, the lowest level at its right, and its end.
-#[derive(Drop)]
+#[derive(Clone, Copy)]
 pub enum Op {
     Is {
         level: u8,

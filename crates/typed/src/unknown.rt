@@ -10,14 +10,14 @@ use spelling::letter::is_name_byte;
 use spelling::reserved::is_reserved;
 
 // Whether every name is known, or the offset of the first that is not.
-#[derive(Drop)]
+#[derive(Clone, Copy)]
 pub enum Missing {
     Nothing,
     At(usize),
 }
 
 // What stands at an offset: an unknown name, or what is passed up to another offset.
-#[derive(Drop)]
+#[derive(Clone, Copy)]
 enum Passed {
     Unknown,
     To(usize),

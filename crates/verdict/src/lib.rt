@@ -16,7 +16,7 @@ use rules::kinds::Session;
 use sequence::CharSeq;
 
 // What the analyst's check answers.
-#[derive(Drop)]
+#[derive(Clone, Copy)]
 pub enum Verdict {
     Accepted,
     Disagrees(Session),
@@ -66,7 +66,7 @@ pub fn check(
 }
 
 // What is answered for a formula's sequence on one session.
-#[derive(Drop)]
+#[derive(Clone, Copy)]
 pub enum Sequenced {
     Sequence(CharSeq),
     NoSession,

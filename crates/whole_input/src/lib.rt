@@ -5,7 +5,7 @@ ghost use Rattle.whole_input.specs.Input.{Within};
 use libc::STDIN_FILENO;
 
 // How many bytes were read, or that a read failed.
-#[derive(Drop)]
+#[derive(Clone, Copy)]
 pub enum Taken {
     Bytes(usize),
     Failed,
