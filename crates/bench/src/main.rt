@@ -1,4 +1,6 @@
 // The bench: one session file on standard input, a table's room of 200 formulas, the answer's lines on standard output.
+#![tactic(auto)]
+
 use libc::{STDERR_FILENO, STDOUT_FILENO};
 use whole_input::Taken;
 

@@ -1,4 +1,6 @@
 // One candidate of the walk over a table in lent slices (aux.rs, cache.rs): its rows, then FOUND, the comparison with what is kept, FULL, kept.
+#![tactic(auto)]
+
 ghost use Rattle.table.specs.Slices.{cols};
 ghost use Rattle.candidate.specs.Judge.{Judged};
 ghost use Rattle.candidate.specs.Inner.{NoPlace};

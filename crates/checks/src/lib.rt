@@ -1,4 +1,6 @@
 // What a search refuses: the tests of session data, with its own numbers, rooms and codes among them.
+#![tactic(auto)]
+
 ghost use Rattle.std.specs.Prelude.{◌≤◌};
 ghost use Rattle.rules.specs.Limits.{most_sessions, most_room};
 ghost use Rattle.rules.specs.Refusals.{Decided};

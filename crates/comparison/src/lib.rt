@@ -1,5 +1,7 @@
 // A matrix against the kept ones in a lent slice (cm.rs, cache.rs): against the one at a place, and against all of them from the first on.
 // Every function tests the numbers that it is handed, once, and says so where they are out of range; the loops behind it are private.
+#![tactic(auto)]
+
 mod comparing;
 
 ghost use Rattle.comparison.specs.Compare.{said_compared, Compares, KnownAnswer};

@@ -1,4 +1,6 @@
 // The counts of a walk, one candidate further, by what became of it.
+#![tactic(auto)]
+
 ghost use Rattle.std.specs.Prelude.{◌≡◌};
 ghost use Rattle.counting.specs.Counting.{one_more, counted_by};
 

@@ -1,4 +1,6 @@
 // A typed text judged, and read by recursive descent: infix, prefix and bracket functions call each other. Its tree's nodes go packed into a scratch.
+#![tactic(auto)]
+
 mod closing;
 pub mod judge;
 mod leaves;

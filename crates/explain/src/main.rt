@@ -1,4 +1,6 @@
 // One session file on standard input as at the bench; on standard output the report on the formula found, and where none is found what the bench says.
+#![tactic(auto)]
+
 use libc::{STDERR_FILENO, STDOUT_FILENO};
 use whole_input::Taken;
 

@@ -1,4 +1,6 @@
 // What is said of a session file to someone who wants to follow the answer: the report on the formula found, and else what the bench says.
+#![tactic(auto)]
+
 ghost use Rattle.std.specs.Prelude.{◌≤◌, length};
 ghost use Rattle.rules.specs.Refusals.{Decided};
 ghost use Rattle.session.specs.Recording.{recording};

@@ -1,5 +1,7 @@
 // Faces over lent lists of nodes: check, print, search and parse with a slice of `Node` structs where the core has four slices of numbers. Thin functions:
 // they copy nodes (`lists`) and hand them on by value to the crates that work on numbers (nodes_in, nodes_out).
+#![tactic(auto)]
+
 mod lists;
 
 ghost use Rattle.formula.specs.Kinds.{node_of};

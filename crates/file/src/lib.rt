@@ -1,5 +1,7 @@
 // The session file and its reader (trace.rs: `Trace` and `Operators`): a pass that judges the whole file and writes nothing, and then a pass that
 // writes.
+#![tactic(auto)]
+
 mod fill;
 
 ghost use Rattle.std.specs.Prelude.{◌≡◌};

@@ -1,1 +1,2 @@
 // The grammar of formulas read from text: specs/ and proofs/ only.
+#![tactic(auto)]

@@ -1,4 +1,6 @@
 // The leaves over the rows of a matrix, a loop for each. Every function writes all r rows or none.
+#![tactic(auto)]
+
 ghost use Rattle.leaves.specs.Leaves.{PropositionOver, FalseOver, TrueOver};
 
 use rules::kinds::Proposition;

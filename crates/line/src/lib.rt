@@ -1,4 +1,6 @@
 // The lines that the programs write: words and decimal numbers, one after the other.
+#![tactic(auto)]
+
 ghost use Rattle.std.specs.Prelude.{◌++◌};
 ghost use Rattle.writing.specs.Writing.{Wrote, decimal};
 ghost use Rattle.line.specs.Line.{count_words, found_line, none_line, full_line, broken_line, refused_line, separates_line, disagrees_line, refused_at_line};

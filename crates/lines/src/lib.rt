@@ -1,4 +1,6 @@
 // What the bench says of a session file: reads it, searches with a room, and writes the answer's lines.
+#![tactic(auto)]
+
 ghost use Rattle.std.specs.Prelude.{◌≡◌, ◌≤◌, length};
 ghost use Rattle.formula.specs.Kinds.{node_of, nodes};
 ghost use Rattle.walk.specs.Input.{input_of};

@@ -1,4 +1,6 @@
 // The masks of the sessions: of each session a word with a bit for each of its snapshots.
+#![tactic(auto)]
+
 ghost use Rattle.loops.specs.Loops.{Filled};
 ghost use Rattle.masks.specs.Masks.{MaskOf, MasksAsk, MasksAnswer};
 

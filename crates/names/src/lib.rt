@@ -1,5 +1,7 @@
 // A names section (document 01, "The session file"): names of 1 to 16 letters, digits or `_`, a letter first, no name twice, no reserved word. Judging one, and finding a
 // name in it.
+#![tactic(auto)]
+
 mod known;
 mod letter;
 pub mod lookup;

@@ -1,4 +1,6 @@
 // The check and printing of nodes in an array, by value: four arrays of numbers are made of it, which the core takes as slices.
+#![tactic(auto)]
+
 ghost use Rattle.std.specs.Prelude.{◌≡◌, ◌≤◌, min, length};
 ghost use Rattle.formula.specs.Kinds.{node_of};
 ghost use Rattle.verdict.specs.Check.{said_verdict};

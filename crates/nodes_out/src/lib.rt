@@ -1,4 +1,6 @@
 // The search and the reader of formulas with the nodes that they leave in an array, by value: the core writes into arrays of numbers, of which the nodes are made.
+#![tactic(auto)]
+
 ghost use Rattle.std.specs.Prelude.{◌≡◌, ◌≤◌, min, length};
 ghost use Rattle.walk.specs.Input.{input_of};
 ghost use Rattle.nodes_in.specs.Arrays.{FieldsFilled};

@@ -1,4 +1,6 @@
 // Onward from a state of the search: over the ends of sizes to the next candidate, or to the state that is answered.
+#![tactic(auto)]
+
 pub mod ends;
 
 ghost use Rattle.std.specs.Prelude.{◌≡◌, ◌+◌, ◌^◌, ◌<◌};

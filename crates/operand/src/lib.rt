@@ -1,4 +1,6 @@
 // What stands where an operand is awaited: a prefix operator, an opening bracket or a leaf.
+#![tactic(auto)]
+
 ghost use Rattle.std.specs.Prelude.{◌≡◌, true, ◌≤◌, ◌<◌, ◌+◌, length, get_or};
 ghost use Rattle.names.specs.Names.{name_length, is_letter};
 ghost use Rattle.operand.specs.Front.{Front, Fronts, Ran, Strong};

@@ -1,4 +1,6 @@
 // The operators by code (unary.rs, binary.rs): the constant table, with token, group and commuting mark, and the operators on sequences, with refusals.
+#![tactic(auto)]
+
 ghost use Rattle.std.specs.Prelude.{◌≡◌, [], ◌∷◌};
 ghost use Rattle.rules.specs.Answers.{Tested};
 ghost use Rattle.rules.specs.Refusals.{Decided, first_of};

@@ -1,4 +1,6 @@
 // The candidates of a size in document 01's order, one at a time, by a cursor that knows no matrix (the loops of aux.rs and cache.rs).
+#![tactic(auto)]
+
 ghost use Rattle.std.specs.Prelude.{◌≡◌, ◌≤◌, ◌<◌, length};
 ghost use Rattle.split.specs.Split.{InPart};
 ghost use Rattle.order.specs.Size.{layer_of};

@@ -1,4 +1,6 @@
 // What the functions of the C boundary have in common: how many words `out` has to have, and the number returned for a refusal with an offset.
+#![tactic(auto)]
+
 ghost use Rattle.std.specs.Prelude.{◌≡◌};
 ghost use Rattle.out.specs.Out.{refused_at};
 

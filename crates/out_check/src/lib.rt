@@ -1,4 +1,6 @@
 // The analyst's check at the C boundary: whether the formula separates, or the first session that disagrees, in the words of `out`.
+#![tactic(auto)]
+
 ghost use Rattle.std.specs.Prelude.{◌≡◌, ◌≤◌, length};
 ghost use Rattle.formula.specs.Kinds.{node, nodes};
 ghost use Rattle.verdict.specs.Check.{said_verdict};

@@ -1,4 +1,6 @@
 // The comparison of matrices at the C boundary: what is refused, and the words of `out` that the answer names.
+#![tactic(auto)]
+
 ghost use Rattle.std.specs.Prelude.{◌≤◌, length};
 ghost use Rattle.rules.specs.Refusals.{Decided};
 ghost use Rattle.out.specs.Out.{out_words};

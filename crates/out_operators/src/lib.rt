@@ -1,4 +1,6 @@
 // Operators at the C boundary: the word of the sequence in the first word of `out`, or a refusal's number.
+#![tactic(auto)]
+
 ghost use Rattle.out_operators.specs.Operators.{UnaryDone, BinaryDone};
 ghost use Rattle.out_operators.specs.Inner.{SequencePut};
 

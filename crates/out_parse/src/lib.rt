@@ -1,4 +1,6 @@
 // Reading a typed formula at the C boundary: its nodes in the lent slices and their number in the words of `out`, or a refusal's number with its offset.
+#![tactic(auto)]
+
 ghost use Rattle.std.specs.Prelude.{◌≡◌, ◌^◌, ◌≤◌, ◌<◌, length};
 ghost use Rattle.reader.specs.Parsing.{columns, said_parsed};
 ghost use Rattle.out.specs.Out.{out_words, written, returned_of, said_words};

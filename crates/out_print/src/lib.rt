@@ -1,4 +1,6 @@
 // Printing at the C boundary: the text in the lent room and its length in the words of `out`, or a refusal's number.
+#![tactic(auto)]
+
 ghost use Rattle.std.specs.Prelude.{◌≡◌, ◌≤◌, length};
 ghost use Rattle.names.specs.Names.{whole_names};
 ghost use Rattle.formula.specs.Kinds.{node, node_of, nodes};

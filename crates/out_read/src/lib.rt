@@ -1,4 +1,6 @@
 // Reading a session file at the C boundary: its parts in the lent slices and their numbers in the words of `out`, or a refusal's number with its offset.
+#![tactic(auto)]
+
 ghost use Rattle.std.specs.Prelude.{◌≡◌, ◌≤◌, length};
 ghost use Rattle.file.specs.Offence.{whole_file};
 ghost use Rattle.file.specs.Reading.{lent};

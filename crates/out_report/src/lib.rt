@@ -1,4 +1,6 @@
 // The report at the C boundary: its text in the lent room and its length in the words of `out`, or a refusal's number.
+#![tactic(auto)]
+
 ghost use Rattle.std.specs.Prelude.{◌≡◌, ◌≤◌, length};
 ghost use Rattle.formula.specs.Kinds.{node, node_of, nodes};
 ghost use Rattle.session.specs.Recording.{recording};

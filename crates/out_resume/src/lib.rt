@@ -1,4 +1,6 @@
 // The search in slices at the C boundary: the state is read from the words that a C program keeps and written back to them; MORE or the end goes to `out`.
+#![tactic(auto)]
+
 ghost use Rattle.std.specs.Prelude.{◌≡◌, [], ◌≤◌, length};
 ghost use Rattle.rules.specs.Refusals.{Decided};
 ghost use Rattle.checks.specs.Refusals.{search_rows};

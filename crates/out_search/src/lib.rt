@@ -1,4 +1,6 @@
 // The search at the C boundary: FOUND, NONE or FULL in the words of `out`, or a refusal's number.
+#![tactic(auto)]
+
 ghost use Rattle.std.specs.Prelude.{◌≡◌, ◌≤◌, length};
 ghost use Rattle.walk.specs.Input.{input_of};
 ghost use Rattle.table.specs.Slices.{cols};

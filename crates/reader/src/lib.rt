@@ -1,4 +1,6 @@
 // Formulas read from text: the text judged and its tree's nodes written.
+#![tactic(auto)]
+
 mod fill;
 mod write;
 

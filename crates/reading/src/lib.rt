@@ -1,4 +1,6 @@
 // Reading lent bytes: what a sub-reader hands up, and the byte at an offset within its numbers.
+#![tactic(auto)]
+
 ghost use Rattle.std.specs.Prelude.{◌≡◌};
 ghost use Rattle.reading.specs.Reading.{byte, within, step_of};
 

@@ -1,5 +1,7 @@
 // A report that a person can follow: per session and node under the root, the first snapshot where it holds, the first where it doesn't, and at how
 // many it holds. A layer above the library: it calls public operations alone.
+#![tactic(auto)]
+
 mod sessions;
 mod under;
 

@@ -1,5 +1,7 @@
 // A candidate's matrix (cm.rs): its r rows, over those of its children in a lent slice. The function tests the numbers that it is handed, once for a
 // candidate, and says so where they are out of range; the loops behind it are those of `loops` and `leaves`.
+#![tactic(auto)]
+
 mod binary;
 mod leaf;
 mod unary;

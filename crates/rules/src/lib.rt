@@ -1,4 +1,6 @@
 // The documents' own vocabulary: their limits for the code (for the contracts they are in specs/Limits.antt) and the kinds of numbers.
+#![tactic(auto)]
+
 pub mod kinds;
 
 // "sessions r 1 to 32"

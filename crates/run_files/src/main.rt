@@ -3,6 +3,8 @@
 // Another line's fields (`stored` says how they are written) are
 //     file / marks / lengths / words / unary / binary / after
 // The file is in hex. The next five are what is lent, as it stands before; it is said, as it stands after, where the last is not empty.
+#![tactic(auto)]
+
 use file::ReadAnswer;
 use stored::{say, say_number};
 

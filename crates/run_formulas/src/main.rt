@@ -6,6 +6,8 @@
 // The root has a code, a left and a right place and a size; the names are a names section's bytes; the room is one number, and that many dots are lent.
 // An answer to `c` is `accepted`, `disagrees` with a session's number, or `refused` with a refusal's. An answer to `p` is `text` with its length, or
 // `refused` (for 8 with ` at ` and the offset), and then the whole room between bars. A line that starts with # is copied.
+#![tactic(auto)]
+
 use formula::kinds::Node;
 use rules::kinds::Place;
 use stored::{say, say_number};

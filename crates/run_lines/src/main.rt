@@ -4,6 +4,8 @@
 // A line of standard input is an example. Its fields (`stored` says how they are written) are its name, the file in hex, and the table's room. S2 has two
 // sessions of length 1 with p in both, marks 1 and 0, only `!`; S3 has p = 3, q = 4, mark 1, and p = 1, q = 4, mark 0, length 3, only `U`; S4 one empty
 // session, p, all operators.
+#![tactic(auto)]
+
 use stored::say;
 
 // What the bench writes for this file with this room.

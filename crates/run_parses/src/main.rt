@@ -1,6 +1,8 @@
 // Reads texts as formulas with the names p, q and r, and writes each text's nodes or its refusal. The longest texts have 4,096 bytes.
 //
 // A line of standard input has two fields, what is said of the text and the text.
+#![tactic(auto)]
+
 use reader::Parsed;
 use stored::{say, say_number};
 

@@ -5,6 +5,8 @@
 // the right two are read and ignored. An answer has 37 bytes: two hex digits of the refusal number (00:
 // answered), a space and 16 digits of the length, a space and 16 of the word (zeros where refused), and a
 // line end. Digits are lower-case. What is no query, or is cut off, is answered by ff.
+#![tactic(auto)]
+
 ghost use Rattle.std.specs.Prelude.{◌+◌, ◌*◌, ◌≤◌, ◌<◌, length};
 
 use sequence::{Answer, CharSeq};

@@ -5,6 +5,8 @@
 //     name / r m / marks / lengths / words / codes / lefts / rights / sizes / root / room
 // The root has a code, a left and a right place and a size; the room is one number, and that many dots are lent. Of an example with a name the name, the
 // answer and then the whole text are said; of one without, the answer.
+#![tactic(auto)]
+
 use formula::kinds::Node;
 use report::Reported;
 use rules::kinds::Place;

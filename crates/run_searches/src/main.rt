@@ -4,6 +4,8 @@
 // A line of standard input is a search. Its fields (`stored` says how they are written) are
 //     name / r m bound room constants / marks / lengths / words / unary / binary / codes / lefts / rights / sizes / matrices / after
 // The five before the last are what is lent, as it stands before; it is said, as it stands after, where `after` is not empty.
+#![tactic(auto)]
+
 use counting::Counts;
 use formula::kinds::Node;
 use search::SearchAnswer;

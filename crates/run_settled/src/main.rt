@@ -1,5 +1,7 @@
 // Runs P1 to P10 of document 01 and every operator on every word of up to 4 snapshots, and prints what came out.
 // The stored output is written from the Rust (differential/README.md).
+#![tactic(auto)]
+
 use operators::operator_of;
 use sequence::{Answer, CharSeq};
 use stored::{say, say_number};

@@ -1,5 +1,7 @@
 // Runs S1 to S4 of document 01 and a larger search in slices of 1, 2, 7 and 1,000 candidates: a line for each, with how it ended after how many turns. Of one
 // search the ends are the same.
+#![tactic(auto)]
+
 use counting::Counts;
 use formula::kinds::Node;
 use libc::STDOUT_FILENO;

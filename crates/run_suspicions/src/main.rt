@@ -2,6 +2,8 @@
 // 01 and 02: S1 has two sessions of two snapshots, p at the second of the good one and nowhere in the bad one.
 //
 // A line of standard input has two fields, what is typed, and the file in hex: "S1, whole file (hex)" of document 01, or its first bytes.
+#![tactic(auto)]
+
 use stored::say;
 
 fn answer(typed: &[u8], file: &[u8]) {

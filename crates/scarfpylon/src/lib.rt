@@ -1,6 +1,8 @@
 // The C boundary: operators, search (whole and in slices), check, print, the readers of formulas and files, the comparison and the report, on numbers and slices of numbers.
 // Every function returns 0 where it answered, else a refusal's number, and answers in the slice `out`. Each is one call of the function with the same contract
 // in a crate of its own (out_operators, out_search, ..).
+#![tactic(auto)]
+
 ghost use Rattle.std.specs.Prelude.{◌≡◌};
 ghost use Rattle.file.specs.Reading.{lent};
 ghost use Rattle.formula.specs.Kinds.{node, nodes};

@@ -1,4 +1,6 @@
 // The search: the walk of document 01 over a table in lent slices (aux.rs, cache.rs, cm.rs), in one go: the search in slices with budget enough.
+#![tactic(auto)]
+
 ghost use Rattle.std.specs.Prelude.{◌≡◌, ◌<◌};
 ghost use Rattle.walk.specs.Input.{input_of};
 ghost use Rattle.search.specs.Table.{cols};

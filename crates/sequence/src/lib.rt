@@ -1,4 +1,6 @@
 // Characteristic sequences (cs.rs), and the operators as their methods.
+#![tactic(auto)]
+
 ghost use Rattle.std.specs.Prelude.{◌≡◌, ◌↔◌, true, ◌<◌};
 ghost use Rattle.words.specs.Word.{width, Wf, places, Means};
 ghost use Rattle.rules.specs.Refusals.{Decided};

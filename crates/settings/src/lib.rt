@@ -1,4 +1,6 @@
 // A search's own numbers and codes: whether the settings are in range, and whether codes are good.
+#![tactic(auto)]
+
 ghost use Rattle.std.specs.Prelude.{◌≤◌, length};
 ghost use Rattle.settings.specs.Settings.{CodesTold, SettingsTold};
 ghost use Rattle.settings.specs.Inner.{SeenIn};

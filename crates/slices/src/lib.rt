@@ -1,4 +1,6 @@
 // The search in slices (request E7): a call goes on from the state of the call before for at most so many candidates.
+#![tactic(auto)]
+
 mod good;
 
 ghost use Rattle.std.specs.Prelude.{◌≡◌};

@@ -1,4 +1,6 @@
 // One split of a size, one candidate at a time, by a cursor that knows no matrix (the inner loops of aux.rs and cache.rs).
+#![tactic(auto)]
+
 ghost use Rattle.std.specs.Prelude.{◌≡◌, [], ◌^◌, ◌<◌, length};
 ghost use Rattle.split.specs.Split.{told, twice, column_from, cand_in, after_in, InPart};
 ghost use Rattle.split.specs.Inner.{stand};

@@ -1,4 +1,6 @@
 // Where each size begins in the table of kept formulas, from its column of sizes.
+#![tactic(auto)]
+
 ghost use Rattle.std.specs.Prelude.{◌≡◌, ◌≤◌, min, length};
 ghost use Rattle.starts.specs.Starts.{starts_of};
 ghost use Rattle.starts.specs.Inner.{SizesCounted};

@@ -1,4 +1,6 @@
 // Where a search in slices stands (request E7), by value, and whether its numbers are in range.
+#![tactic(auto)]
+
 ghost use Rattle.state.specs.Row.{state_wrong};
 ghost use Rattle.rules.specs.Answers.{Tested};
 

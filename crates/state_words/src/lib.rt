@@ -1,4 +1,6 @@
 // The 16 words in which a C program keeps the state of a search in slices: how a state is written there, and how whatever stands there is read.
+#![tactic(auto)]
+
 ghost use Rattle.std.specs.Prelude.{◌≡◌, ◌≤◌, length, get_or};
 ghost use Rattle.out.specs.Out.{written, in_order};
 ghost use Rattle.slices.specs.Slices.{fresh_state};

@@ -2,6 +2,8 @@
 //
 // A line has fields with a `/` between them. A field of numbers has them in decimal with spaces between them; `7:3` is 7 three times, and a byte that is no
 // digit, colon or space is passed over. Lines and fields are counted from 0.
+#![tactic(auto)]
+
 ghost use Rattle.std.specs.Prelude.{◌≡◌, ◌-◌, ◌/◌, ◌<◌, ◌≤◌, length};
 ghost use Rattle.io.specs.Digits.{IsDigitCount};
 

@@ -1,5 +1,7 @@
 // The analyst's suspicion: a formula as the first argument, a session file on standard input, and on standard output whether the formula separates the
 // sessions, the first that disagrees, or the refusal.
+#![tactic(auto)]
+
 use libc::{ENAMETOOLONG, STDERR_FILENO, STDOUT_FILENO};
 use whole_input::Taken;
 

@@ -1,5 +1,7 @@
 // What is said of a formula that an analyst types: reads a session file, reads the formula with the file's names, checks it against the sessions, and
 // writes the answer's lines.
+#![tactic(auto)]
+
 mod caret;
 
 ghost use Rattle.session.specs.Recording.{recording};

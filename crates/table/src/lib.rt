@@ -1,5 +1,7 @@
 // The table of a search in lent slices (cm.rs, cache.rs): a matrix's acceptance against the marks, and keeping it.
 // Every function tests the numbers that it is handed, once, and says so where they are out of range; the loops behind it are private.
+#![tactic(auto)]
+
 mod store;
 mod tests;
 

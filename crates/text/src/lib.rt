@@ -1,4 +1,6 @@
 // The text of a formula (formula/tree.rs: `Display`): printing a node list by lent names.
+#![tactic(auto)]
+
 mod text;
 
 ghost use Rattle.formula.specs.Kinds.{node_of, nodes};

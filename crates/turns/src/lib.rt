@@ -1,4 +1,6 @@
 // The search as one loop (enum_aux in aux.rs): the next candidate, over the ends of sizes, what becomes of it, the counts.
+#![tactic(auto)]
+
 ghost use Rattle.std.specs.Prelude.{not, length};
 ghost use Rattle.walk.specs.Input.{input_of};
 ghost use Rattle.table.specs.Slices.{cols};

@@ -1,4 +1,6 @@
 // A formula on recorded sessions: its sequence on one of them, and the analyst's check.
+#![tactic(auto)]
+
 mod agree;
 mod evaluate;
 

@@ -1,1 +1,2 @@
 // Larger runs of the walk, by its definition: no program.
+#![tactic(auto)]

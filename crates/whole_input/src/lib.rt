@@ -1,4 +1,6 @@
 // Standard input, whole or up to a room.
+#![tactic(auto)]
+
 ghost use Rattle.std.specs.Prelude.{length};
 ghost use Rattle.whole_input.specs.Input.{Within};
 

@@ -1,6 +1,8 @@
 // The operators of cs.rs on bare words. A word has no length to get wrong, so nothing here refuses: the operators that have to know where a
 // session ends are handed the mask of its snapshots. Each contract is a reading at all 64 positions, for any words and any mask. A formula's word has
 // the first place whatever the mask, so that `!`, `->`, `<->`, `X`, `G` and `R` reach it on an empty one; `F` and `U` look at snapshots alone.
+#![tactic(auto)]
+
 ghost use Rattle.words.specs.Ltlf.{Or, And, StrongNext};
 ghost use Rattle.words.specs.Masked.{PlacesOn, NotOn, ImpliesOn, EquivOn, WeakNextOn, FinallyOn, GloballyOn, UntilOn, ReleaseOn};
 ghost use Rattle.words.specs.Word.{width, At, Means};

@@ -1,5 +1,7 @@
 // Writing into lent text: bytes, and numbers in decimal. Each function writes from a place on, as much as there is room for, and answers the place after
 // what it wrote; so a caller that has the room gets the whole, and one that hasn't loses only what doesn't fit.
+#![tactic(auto)]
+
 ghost use Rattle.std.specs.Prelude.{[], ◌∷◌, ◌+◌, ◌≤◌, ◌<◌, length};
 ghost use Rattle.writing.specs.Writing.{Wrote, digit, digits, decimal};
 

@@ -1,0 +1,12 @@
+-- `globally_rows` meets its contract: the rows filled so far are the operator's.
+use Prim.Native.Nat.{◌-◌, ◌≤◌}
+use Rattle.sequence.specs.Operators.{Unary}
+use Rattle.loops.specs.Loops.{Filled}
+use Rattle.loops.specs.Loops.{UnaryAt}
+use Rattle.loops.proofs.unary.globally_rows.Given as goal
+
+abbrev pub invariant-loop-j : goal.invariant-loop-j
+invariant-loop-j l = (l.j ≤ l.r) × Filled l.j l.initial.rows (UnaryAt Unary.globally l.masks l.x) l.rows
+
+abbrev pub decreases-loop-j : goal.decreases-loop-j
+decreases-loop-j l = l.r - l.j

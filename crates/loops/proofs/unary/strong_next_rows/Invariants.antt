@@ -1,0 +1,13 @@
+-- `strong_next_rows` meets its contract: the rows filled so far are the operator's.
+use mathlib.Core.List.{[]}
+use Prim.Native.Nat.{◌-◌, ◌≤◌}
+use Rattle.sequence.specs.Operators.{Unary}
+use Rattle.loops.specs.Loops.{Filled}
+use Rattle.loops.specs.Loops.{UnaryAt}
+use Rattle.loops.proofs.unary.strong_next_rows.Given as goal
+
+abbrev pub invariant-loop-j : goal.invariant-loop-j
+invariant-loop-j l = (l.j ≤ l.r) × Filled l.j l.initial.rows (UnaryAt Unary.strong_next [] l.x) l.rows
+
+abbrev pub decreases-loop-j : goal.decreases-loop-j
+decreases-loop-j l = l.r - l.j

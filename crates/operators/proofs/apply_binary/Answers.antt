@@ -1,0 +1,43 @@
+-- `apply_binary` meets its contract: the tests decide the rows, and what passes them is cut to its length.
+use mathlib.Core.Path.{sym, subst}
+use Prim.Native.Nat.{ℕ}
+use native.Mathlib.Omega.{arith}
+use Rattle.words.specs.Word.{WfComputed}
+use Rattle.sequence.specs.declared.CharSeq.{CharSeq}
+use Rattle.rules.specs.Refusals.{Decided}
+use Rattle.sequence.specs.Masked.{BinaryBy}
+use Rattle.sequence.specs.Masked.BinaryBy.{operator, nothing}
+use Rattle.sequence.specs.Sequence.{binary_rows, BinaryRead}
+use Rattle.sequence.proofs.Masked.{binary-reads}
+use Rattle.sequence.proofs.Answers.{binary-decided, binary-passed}
+use Rattle.operators.proofs.apply_binary.Goals as goal
+
+decided : (c : tie.After-first3)
+    → Decided (binary_rows c.before.before.before.before.before.before.before.args.code
+    c.before.before.before.before.before.before.before.args.left
+    c.before.before.before.before.before.before.before.args.right) c.first3.result
+decided c =
+    let lengths = c.before.before in
+    let right = lengths.before.before in
+    let left = right.before in
+    let group = left.before in
+    let s = group.before.args in
+    binary-decided s.code s.left s.right group.binary-refusal.result left.refusal.result right.refusal2.result lengths.unequal-refusal.result
+    group.binary-refusal.ensures left.refusal.ensures right.refusal2.ensures lengths.before.first.ensures
+    lengths.unequal-refusal.ensures c.before.first2.ensures c.first3.ensures
+
+-- the operator by code, on sequences that passed
+read : (code : ℕ) (s t r : CharSeq) → Decided (binary_rows code s t) 0 → BinaryBy code s t r → BinaryRead code s t r
+read code s t r d (operator op e p) =
+    let q = binary-passed code s t d in
+    (op, e, binary-reads op s t r q.1 (subst (λ (n : ℕ). WfComputed n t.values) (sym q.3) q.2) p)
+read code s t r d (nothing n e) = absurd ((binary-passed code s t d).0 n)
+
+pub returns-then-refusal-ne0 : goal.returns-then-refusal-ne0
+returns-then-refusal-ne0 c = (decided c, omega arith)
+
+pub returns : goal.returns
+returns c =
+    let s = c.args in
+    let d = subst (Decided (binary_rows s.code s.left s.right)) c.if-refusal-ne0.false (decided c) in
+    (d, read s.code s.left s.right c.binary.result d c.binary.ensures)

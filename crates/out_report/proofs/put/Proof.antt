@@ -1,9 +1,0 @@
--- `put` writes the word that the answer names, case by case.
--- Assumes nothing.
-use borrow.Author.Rules.{rules}
-use Rattle.out_report.proofs.put.Statement.{statement}
-use Rattle.out_report.proofs.put.Tie as tie
-
-pub put_spec : {M : Type 1} → statement M
-put_spec =
-    tie.close (tie.spec (λ c. search rules) (λ c. search rules) (λ c. search rules) (λ c. search rules) (λ c. rw c.before.answer.given.1) (λ c. search rules))

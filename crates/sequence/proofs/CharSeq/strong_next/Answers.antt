@@ -1,0 +1,6 @@
+-- `CharSeq::strong_next` meets its contract: no place above the word is looked at, so the operator needs no mask.
+use mathlib.Core.Path.{refl}
+use Rattle.sequence.proofs.CharSeq.strong_next.Goals as goal
+
+pub returns : goal.returns
+returns c = (refl, c.strong_next.ensures)

@@ -1,0 +1,28 @@
+-- The goals of `counts` that the search leaves.
+use mathlib.Core.Path.{◌≡◌}
+use mathlib.Core.Logic.{⊎_elim}
+use lib.ListN.{get_or}
+use native.Mathlib.Omega.{arith}
+use Rattle.starts.proofs.Counting.{counted_none, counted-few, counted-more, counted-out}
+use Rattle.starts.proofs.counts.Goals as goal
+
+pub loop-p-init : goal.loop-p-init
+loop-p-init c = (omega arith, counted_none _)
+
+pub overflow_add-counts-then-t : goal.overflow_add-counts-then-t
+overflow_add-counts-then-t c =
+    omega (
+      arith,
+      counted-few _ c.loop-p.invariant.1 (omega arith)
+          (get_or c.args.sizes.now c.loop-p.p 0) (omega arith),
+    )
+
+pub loop-p-preserved : goal.loop-p-preserved
+loop-p-preserved c = (
+  omega arith,
+  ⊎_elim (λ w. rw w.1 (counted-more _ c.loop-p.invariant.1 (omega arith) w.0.taken))
+      (λ w. rw w.1 (counted-out _ c.loop-p.invariant.1 (omega arith) w.0.left)) c.if-t.branch,
+)
+
+pub returns : goal.returns
+returns c = let e : c.loop-p.p ≡ c.args.n = omega arith in rw e at c.loop-p.invariant.1

@@ -1,0 +1,24 @@
+-- `pointed` meets its contract: what was typed, the line with the caret, and the refusal, one after the other.
+use mathlib.Core.Path.{sym}
+use mathlib.Core.List.{◌++◌}
+use Prim.Native.Nat.{ℕ}
+use native.Mathlib.Omega.{arith}
+use lib.ListN.{replicate, length-replicate}
+use lib.Seq.{length-take-le}
+use Rattle.writing.proofs.Writing.{wrote-both}
+use Rattle.line.specs.Line.{refused_at_line}
+use Rattle.writing.specs.Writing.{newline}
+use Rattle.suspicion.specs.Caret.{caret}
+use Rattle.suspicion.proofs.Typed.{take-replicate}
+use Rattle.suspicion.proofs.caret.pointed.Goals as goal
+
+slice-aggregate-put-2 : tie.Need-slice-aggregate-put-2
+slice-aggregate-put-2 c = sym (length-take-le _ _ (omega (arith, length-replicate {A = ℕ} 4096 32)))
+
+pub returns : goal.returns
+returns c =
+    let a = c.args in wrote-both (((a.typed.now ++ newline) ++ replicate a.at 32) ++ caret) (refused_at_line a.number
+    a.at) (wrote-both ((a.typed.now ++ newline) ++ replicate a.at 32) caret (wrote-both (a.typed.now ++ newline) (replicate a.at 32) (wrote-both
+    a.typed.now newline c.put-a.ensures c.put-b.ensures) (rw (take-replicate a.at 4096 32 c.requires) at
+    c.put-c.ensures))
+    c.put-d.ensures) c.refused_at.ensures
