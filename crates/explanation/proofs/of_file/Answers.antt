@@ -9,6 +9,7 @@ use Rattle.lines.proofs.Handed.{Wide, Handed, handed, same}
 use Rattle.lines.specs.Bench.{bench_room}
 use Rattle.explanation.proofs.Outcomes.{good-explained, broken-explained}
 use Rattle.explanation.proofs.of_file.Goals as goal
+use Rattle.explanation.proofs.of_file.Goals.{After-read-read, After-shared_slice_known-1, In-Parts-2}
 
 blank : Lent
 blank = lent (replicate 32 0) (replicate 32 0) (replicate 512 0) (replicate 5 0) (replicate 6 0)
@@ -24,83 +25,83 @@ wide = record {
 }
 
 -- the file is one of bytes
-bytes : (c : tie.After-shared-slice-known) → Bytes c.before.args.file.now
-bytes c i = omega (arith, c.shared-slice-known.given i)
+bytes : (c : After-shared_slice_known-1) → Bytes c.args.file.now
+bytes c i = omega (arith, c.type_inv.file i)
 
 -- what the reader leaves in the arrays
-left : tie.After-read → Lent
-left d = let l = d.read.new.1 in lent l.0 l.1.0 l.1.1.0 l.1.1.1.0 l.1.1.1.1.0
+left : After-read-read → Lent
+left c = let l = c.read-read.new.1 in lent l.0 l.1.0 l.1.1.0 l.1.1.1.0 l.1.1.1.1.0
 
-ran : (d : tie.After-read)
-    → read_after (said_read d.read.result) (left d).marks (left d).lengths (left d).words (left d).unary (left d).binary
-    ≡ read_of d.before.before.before.before.before.before.before.args.file.now blank
+ran : (c : After-read-read)
+    → read_after (said_read c.read-read.result) (left c).marks (left c).lengths (left c).words (left c).unary (left c).binary
+    ≡ read_of c.args.file.now blank
 unfolding blank left
-ran d = d.read.ensures
+ran c = c.read-read.ensures
 
 -- a good file's parts, and where they are
-abbrev Parted : tie.After-read → ℕ → ℕ → ℕ → ℕ → ℕ → ℕ → ℕ → Type 0
-Parted d = Handed d.before.before.before.before.before.before.before.args.file.now (bytes d.before.before.before.before.before.before) blank wide
-    d.read.result (left d).marks (left d).lengths (left d).words (left d).unary (left d).binary (ran d)
+abbrev Parted : After-read-read → ℕ → ℕ → ℕ → ℕ → ℕ → ℕ → ℕ → Type 0
+Parted c = Handed c.args.file.now (bytes c) blank wide
+    c.read-read.result (left c).marks (left c).lengths (left c).words (left c).unary (left c).binary (ran c)
 
-here : (c : tie.After-read2) → (let v = c.read2.given.0 in
-    Parted c.before.before.before.before.before.before.before v.0 v.1.0 v.1.1.0 v.1.1.1.0 v.1.1.1.1.0 v.1.1.1.1.1.0 v.1.1.1.1.1.1.0)
+here : (c : In-Parts-2) → (let v = c.read-1.given.0 in
+    Parted c v.0 v.1.0 v.1.1.0 v.1.1.1.0 v.1.1.1.1.0 v.1.1.1.1.1.0 v.1.1.1.1.1.1.0)
 here c =
-    let d = c.before.before.before.before.before.before.before in
-    handed d.before.before.before.before.before.before.before.args.file.now (bytes d.before.before.before.before.before.before) blank wide
-    d.read.result (left d).marks (left d).lengths (left d).words (left d).unary (left d).binary (ran d) c.read2.given.1
+    
+    handed c.args.file.now (bytes c) blank wide
+    c.read-read.result (left c).marks (left c).lengths (left c).words (left c).unary (left c).binary (ran c) c.in-Parts.is
 
 pub slice_bounds-marks-end : goal.slice_bounds-marks-end
 unfolding left
-slice_bounds-marks-end c = (here c).all-marks.there
+slice_bounds-marks-end c = (here (goal.at.slice_bounds-marks-end c).In-Parts-2).all-marks.there
 
 pub slice_bounds-searched-end : goal.slice_bounds-searched-end
 unfolding left
-slice_bounds-searched-end c = (here c).all-marks.long
+slice_bounds-searched-end c = (here (goal.at.slice_bounds-searched-end c).In-Parts-2).all-marks.long
 
 pub slice_bounds-lengths-end : goal.slice_bounds-lengths-end
 unfolding left
-slice_bounds-lengths-end c = (here c).all-lengths.there
+slice_bounds-lengths-end c = (here (goal.at.slice_bounds-lengths-end c).In-Parts-2).all-lengths.there
 
 pub slice_bounds-searched-end-in-Parts : goal.slice_bounds-searched-end-in-Parts
 unfolding left
-slice_bounds-searched-end-in-Parts c = (here c).all-lengths.long
+slice_bounds-searched-end-in-Parts c = (here (goal.at.slice_bounds-searched-end-in-Parts c).In-Parts-2).all-lengths.long
 
 pub overflow_mul-words : goal.overflow_mul-words
-overflow_mul-words c = omega (arith, (here c).small)
+overflow_mul-words c = omega (arith, (here (goal.at.overflow_mul-words c).In-Parts-2).small)
 
 pub slice_bounds-words-end : goal.slice_bounds-words-end
 unfolding left
-slice_bounds-words-end c = (here c).all_words.there
+slice_bounds-words-end c = (here (goal.at.slice_bounds-words-end c).In-Parts-2).all_words.there
 
 pub slice_bounds-searched-end-in-Parts-2 : goal.slice_bounds-searched-end-in-Parts-2
 unfolding left
-slice_bounds-searched-end-in-Parts-2 c = (here c).all_words.long
+slice_bounds-searched-end-in-Parts-2 c = (here (goal.at.slice_bounds-searched-end-in-Parts-2 c).In-Parts-2).all_words.long
 
 pub slice_bounds-unary-end : goal.slice_bounds-unary-end
 unfolding left
-slice_bounds-unary-end c = (here c).all-unary.there
+slice_bounds-unary-end c = (here (goal.at.slice_bounds-unary-end c).In-Parts-2).all-unary.there
 
 pub slice_bounds-searched-end-in-Parts-3 : goal.slice_bounds-searched-end-in-Parts-3
 unfolding left
-slice_bounds-searched-end-in-Parts-3 c = (here c).all-unary.long
+slice_bounds-searched-end-in-Parts-3 c = (here (goal.at.slice_bounds-searched-end-in-Parts-3 c).In-Parts-2).all-unary.long
 
 pub slice_bounds-binary-end : goal.slice_bounds-binary-end
 unfolding left
-slice_bounds-binary-end c = (here c).all-binary.there
+slice_bounds-binary-end c = (here (goal.at.slice_bounds-binary-end c).In-Parts-2).all-binary.there
 
 pub slice_bounds-searched-end-in-Parts-4 : goal.slice_bounds-searched-end-in-Parts-4
 unfolding left
-slice_bounds-searched-end-in-Parts-4 c = (here c).all-binary.long
+slice_bounds-searched-end-in-Parts-4 c = (here (goal.at.slice_bounds-searched-end-in-Parts-4 c).In-Parts-2).all-binary.long
 
 pub searched-requires : goal.searched-requires
 unfolding left
 searched-requires c =
-    let h = here c in (
+    let h = here (goal.at.searched-requires c).In-Parts-2 in (
       (
         h.parts,
         h.good,
-        same c.args.file.now (bytes c) blank wide
-            c.read-read.result (left c).marks (left c).lengths (left c).words (left c).unary (left c).binary (ran c) h bench_room,
+        same c.args.file.now (bytes (goal.at.searched-requires c).After-shared_slice_known-1) blank wide
+            c.read-read.result (left (goal.at.searched-requires c).After-read-read).marks (left (goal.at.searched-requires c).After-read-read).lengths (left (goal.at.searched-requires c).After-read-read).words (left (goal.at.searched-requires c).After-read-read).unary (left (goal.at.searched-requires c).After-read-read).binary (ran (goal.at.searched-requires c).After-read-read) h bench_room,
       ),
       omega arith,
     )
@@ -108,10 +109,10 @@ searched-requires c =
 pub returns-in-Parts : goal.returns-in-Parts
 unfolding left
 returns-in-Parts c =
-    good-explained c.args.file.now (bytes c) blank wide
-    c.read-read.result (left c).marks (left c).lengths (left c).words (left c).unary (left c).binary (ran c) (here c) c.searched.ensures
+    good-explained c.args.file.now (bytes (goal.at.returns-in-Parts c).After-shared_slice_known-1) blank wide
+    c.read-read.result (left (goal.at.returns-in-Parts c).After-read-read).marks (left (goal.at.returns-in-Parts c).After-read-read).lengths (left (goal.at.returns-in-Parts c).After-read-read).words (left (goal.at.returns-in-Parts c).After-read-read).unary (left (goal.at.returns-in-Parts c).After-read-read).binary (ran (goal.at.returns-in-Parts c).After-read-read) (here (goal.at.returns-in-Parts c).In-Parts-2) c.searched.ensures
 
 pub returns-in_default : goal.returns-in_default
 returns-in_default c =
-    broken-explained c.args.file.now (bytes c) blank wide
-    c.read-read.result (left c).marks (left c).lengths (left c).words (left c).unary (left c).binary (ran c) c.in_default.keys2 c.bench.ensures
+    broken-explained c.args.file.now (bytes (goal.at.returns-in_default c).After-shared_slice_known-1) blank wide
+    c.read-read.result (left (goal.at.returns-in_default c).After-read-read).marks (left (goal.at.returns-in_default c).After-read-read).lengths (left (goal.at.returns-in_default c).After-read-read).words (left (goal.at.returns-in_default c).After-read-read).unary (left (goal.at.returns-in_default c).After-read-read).binary (ran (goal.at.returns-in_default c).After-read-read) c.in_default.keys2 c.bench.ensures

@@ -11,20 +11,18 @@ use Rattle.sequence.specs.Sequence.{binary_rows, BinaryRead}
 use Rattle.sequence.proofs.Masked.{binary-reads}
 use Rattle.sequence.proofs.Answers.{binary-decided, binary-passed}
 use Rattle.operators.proofs.apply_binary.Goals as goal
+use Rattle.operators.proofs.apply_binary.Goals.{After-first-refusal}
 
-decided : (c : tie.After-first3)
-    → Decided (binary_rows c.before.before.before.before.before.before.before.args.code
-    c.before.before.before.before.before.before.before.args.left
-    c.before.before.before.before.before.before.before.args.right) c.first3.result
+decided : (c : After-first-refusal)
+    → Decided (binary_rows c.args.code
+    c.args.left
+    c.args.right) c.first-refusal.result
 decided c =
-    let lengths = c.before.before in
-    let right = lengths.before.before in
-    let left = right.before in
-    let group = left.before in
-    let s = group.before.args in
-    binary-decided s.code s.left s.right group.binary-refusal.result left.refusal.result right.refusal2.result lengths.unequal-refusal.result
-    group.binary-refusal.ensures left.refusal.ensures right.refusal2.ensures lengths.before.first.ensures
-    lengths.unequal-refusal.ensures c.before.first2.ensures c.first3.ensures
+
+    let s = c.args in
+    binary-decided s.code s.left s.right c.binary_refusal-group.result c.refusal.result c.refusal-2.result c.unequal_refusal-lengths.result
+    c.binary_refusal-group.ensures c.refusal.ensures c.refusal-2.ensures c.first-ill_formed.ensures
+    c.unequal_refusal-lengths.ensures c.first.ensures c.first-refusal.ensures
 
 -- the operator by code, on sequences that passed
 read : (code : ℕ) (s t r : CharSeq) → Decided (binary_rows code s t) 0 → BinaryBy code s t r → BinaryRead code s t r
@@ -34,10 +32,10 @@ read code s t r d (operator op e p) =
 read code s t r d (nothing n e) = absurd ((binary-passed code s t d).0 n)
 
 pub returns-then-refusal-ne0 : goal.returns-then-refusal-ne0
-returns-then-refusal-ne0 c = (decided c, omega arith)
+returns-then-refusal-ne0 c = (decided (goal.at.returns-then-refusal-ne0 c).After-first-refusal, omega arith)
 
 pub returns : goal.returns
 returns c =
     let s = c.args in
-    let d = subst (Decided (binary_rows s.code s.left s.right)) c.if-refusal-ne0.false (decided c) in
+    let d = subst (Decided (binary_rows s.code s.left s.right)) c.if-refusal-ne0.false (decided (goal.at.returns c).After-first-refusal) in
     (d, read s.code s.left s.right c.binary.result d c.binary.ensures)

@@ -10,12 +10,13 @@ use Rattle.sequence.specs.Sequence.{unary_rows, UnaryRead}
 use Rattle.sequence.proofs.Masked.{unary-reads}
 use Rattle.sequence.proofs.Answers.{unary-decided, unary-passed}
 use Rattle.operators.proofs.apply_unary.Goals as goal
+use Rattle.operators.proofs.apply_unary.Goals.{After-first-refusal}
 
-decided : (c : tie.After-first) → Decided (unary_rows c.before.before.before.args.code c.before.before.before.args.seq) c.first.result
+decided : (c : After-first-refusal) → Decided (unary_rows c.args.code c.args.seq) c.first-refusal.result
 decided c =
-    let s = c.before.before.before.args in
-    unary-decided s.code s.seq c.before.before.unary-refusal.result c.before.refusal.result
-    c.before.before.unary-refusal.ensures c.before.refusal.ensures c.first.ensures
+    let s = c.args in
+    unary-decided s.code s.seq c.unary_refusal-group.result c.refusal-ill_formed.result
+    c.unary_refusal-group.ensures c.refusal-ill_formed.ensures c.first-refusal.ensures
 
 -- the operator by code, on a sequence that passed
 read : (code : ℕ) (s r : CharSeq) → Decided (unary_rows code s) 0 → UnaryBy code s r → UnaryRead code s r
@@ -23,10 +24,10 @@ read code s r d (operator op e p) = (op, e, unary-reads op s r (unary-passed cod
 read code s r d (nothing n e) = absurd ((unary-passed code s d).0 n)
 
 pub returns-then-refusal-ne0 : goal.returns-then-refusal-ne0
-returns-then-refusal-ne0 c = (decided c, omega arith)
+returns-then-refusal-ne0 c = (decided (goal.at.returns-then-refusal-ne0 c).After-first-refusal, omega arith)
 
 pub returns : goal.returns
 returns c =
     let s = c.args in
-    let d = subst (Decided (unary_rows s.code s.seq)) c.if-refusal-ne0.false (decided c) in
+    let d = subst (Decided (unary_rows s.code s.seq)) c.if-refusal-ne0.false (decided (goal.at.returns c).After-first-refusal) in
     (d, read s.code s.seq c.unary.result d c.unary.ensures)

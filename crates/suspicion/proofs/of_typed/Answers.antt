@@ -8,6 +8,7 @@ use Rattle.file.proofs.Numbers.{Bytes}
 use Rattle.lines.proofs.Handed.{Wide, Handed, handed, never-room}
 use Rattle.suspicion.proofs.Answered.{good-said, broken-said}
 use Rattle.suspicion.proofs.of_typed.Goals as goal
+use Rattle.suspicion.proofs.of_typed.Goals.{After-read-read, After-shared_slice_known-2-1, In-Parts-2}
 
 blank : Lent
 blank = lent (replicate 32 0) (replicate 32 0) (replicate 512 0) (replicate 5 0) (replicate 6 0)
@@ -23,75 +24,75 @@ wide = record {
 }
 
 -- the file is one of bytes
-bytes : (c : tie.After-shared-slice-known2) → Bytes c.before.before.args.file.now
-bytes c i = omega (arith, c.shared-slice-known2.given i)
+bytes : (c : After-shared_slice_known-2-1) → Bytes c.args.file.now
+bytes c i = omega (arith, c.type_inv.file i)
 
 -- what the reader leaves in the arrays
-left : tie.After-read → Lent
-left d = let l = d.read.new.1 in lent l.0 l.1.0 l.1.1.0 l.1.1.1.0 l.1.1.1.1.0
+left : After-read-read → Lent
+left c = let l = c.read-read.new.1 in lent l.0 l.1.0 l.1.1.0 l.1.1.1.0 l.1.1.1.1.0
 
-ran : (d : tie.After-read)
-    → read_after (said_read d.read.result) (left d).marks (left d).lengths (left d).words (left d).unary (left d).binary
-    ≡ read_of d.before.before.before.before.before.before.before.before.before.args.file.now blank
+ran : (c : After-read-read)
+    → read_after (said_read c.read-read.result) (left c).marks (left c).lengths (left c).words (left c).unary (left c).binary
+    ≡ read_of c.args.file.now blank
 unfolding blank left
-ran d = d.read.ensures
+ran c = c.read-read.ensures
 
 -- a good file's parts, and where they are
-abbrev Parted : tie.After-read → ℕ → ℕ → ℕ → ℕ → ℕ → ℕ → ℕ → Type 0
-Parted d = Handed d.before.before.before.before.before.before.before.before.before.args.file.now (bytes d.before.before.before.before.before.before.before) blank wide
-    d.read.result (left d).marks (left d).lengths (left d).words (left d).unary (left d).binary (ran d)
+abbrev Parted : After-read-read → ℕ → ℕ → ℕ → ℕ → ℕ → ℕ → ℕ → Type 0
+Parted c = Handed c.args.file.now (bytes c) blank wide
+    c.read-read.result (left c).marks (left c).lengths (left c).words (left c).unary (left c).binary (ran c)
 
-here : (c : tie.After-read2) → (let v = c.read2.given.0 in
-    Parted c.before.before.before.before.before.before.before v.0 v.1.0 v.1.1.0 v.1.1.1.0 v.1.1.1.1.0 v.1.1.1.1.1.0 v.1.1.1.1.1.1.0)
+here : (c : In-Parts-2) → (let v = c.read-1.given.0 in
+    Parted c v.0 v.1.0 v.1.1.0 v.1.1.1.0 v.1.1.1.1.0 v.1.1.1.1.1.0 v.1.1.1.1.1.1.0)
 here c =
-    let d = c.before.before.before.before.before.before.before in
-    handed d.before.before.before.before.before.before.before.before.before.args.file.now (bytes d.before.before.before.before.before.before.before) blank wide
-    d.read.result (left d).marks (left d).lengths (left d).words (left d).unary (left d).binary (ran d) c.read2.given.1
+    
+    handed c.args.file.now (bytes c) blank wide
+    c.read-read.result (left c).marks (left c).lengths (left c).words (left c).unary (left c).binary (ran c) c.in-Parts.is
 
 pub slice_bounds-judged-end : goal.slice_bounds-judged-end
-slice_bounds-judged-end c = (here c).names-long
+slice_bounds-judged-end c = (here (goal.at.slice_bounds-judged-end c).In-Parts-2).names-long
 
 pub slice_bounds-marks-end : goal.slice_bounds-marks-end
 unfolding left
-slice_bounds-marks-end c = (here c).all-marks.there
+slice_bounds-marks-end c = (here (goal.at.slice_bounds-marks-end c).In-Parts-2).all-marks.there
 
 pub slice_bounds-judged-end-in-Parts : goal.slice_bounds-judged-end-in-Parts
 unfolding left
-slice_bounds-judged-end-in-Parts c = (here c).all-marks.long
+slice_bounds-judged-end-in-Parts c = (here (goal.at.slice_bounds-judged-end-in-Parts c).In-Parts-2).all-marks.long
 
 pub slice_bounds-lengths-end : goal.slice_bounds-lengths-end
 unfolding left
-slice_bounds-lengths-end c = (here c).all-lengths.there
+slice_bounds-lengths-end c = (here (goal.at.slice_bounds-lengths-end c).In-Parts-2).all-lengths.there
 
 pub slice_bounds-judged-end-in-Parts-2 : goal.slice_bounds-judged-end-in-Parts-2
 unfolding left
-slice_bounds-judged-end-in-Parts-2 c = (here c).all-lengths.long
+slice_bounds-judged-end-in-Parts-2 c = (here (goal.at.slice_bounds-judged-end-in-Parts-2 c).In-Parts-2).all-lengths.long
 
 pub overflow_mul-words : goal.overflow_mul-words
-overflow_mul-words c = omega (arith, (here c).small)
+overflow_mul-words c = omega (arith, (here (goal.at.overflow_mul-words c).In-Parts-2).small)
 
 pub slice_bounds-words-end : goal.slice_bounds-words-end
 unfolding left
-slice_bounds-words-end c = (here c).all_words.there
+slice_bounds-words-end c = (here (goal.at.slice_bounds-words-end c).In-Parts-2).all_words.there
 
 pub slice_bounds-judged-end-in-Parts-3 : goal.slice_bounds-judged-end-in-Parts-3
 unfolding left
-slice_bounds-judged-end-in-Parts-3 c = (here c).all_words.long
+slice_bounds-judged-end-in-Parts-3 c = (here (goal.at.slice_bounds-judged-end-in-Parts-3 c).In-Parts-2).all_words.long
 
 pub returns-in-Parts : goal.returns-in-Parts
 unfolding left
 returns-in-Parts c =
-    good-said c.args.file.now (bytes c) blank wide
-    c.read-read.result (left c).marks (left c).lengths (left c).words (left c).unary (left c).binary
-    (ran c) c.args.typed.now (here c) c.judged.ensures
+    good-said c.args.file.now (bytes (goal.at.returns-in-Parts c).After-shared_slice_known-2-1) blank wide
+    c.read-read.result (left (goal.at.returns-in-Parts c).After-read-read).marks (left (goal.at.returns-in-Parts c).After-read-read).lengths (left (goal.at.returns-in-Parts c).After-read-read).words (left (goal.at.returns-in-Parts c).After-read-read).unary (left (goal.at.returns-in-Parts c).After-read-read).binary
+    (ran (goal.at.returns-in-Parts c).After-read-read) c.args.typed.now (here (goal.at.returns-in-Parts c).In-Parts-2) c.judged.ensures
 
 pub returns-in-Broken : goal.returns-in-Broken
 returns-in-Broken c =
-    broken-said c.args.file.now (bytes c) blank wide
-    c.read-read.result (left c).marks (left c).lengths (left c).words (left c).unary (left c).binary
-    (ran c) c.args.typed.now c.in-Broken.is c.refused_at.ensures
+    broken-said c.args.file.now (bytes (goal.at.returns-in-Broken c).After-shared_slice_known-2-1) blank wide
+    c.read-read.result (left (goal.at.returns-in-Broken c).After-read-read).marks (left (goal.at.returns-in-Broken c).After-read-read).lengths (left (goal.at.returns-in-Broken c).After-read-read).words (left (goal.at.returns-in-Broken c).After-read-read).unary (left (goal.at.returns-in-Broken c).After-read-read).binary
+    (ran (goal.at.returns-in-Broken c).After-read-read) c.args.typed.now c.in-Broken.is c.refused_at.ensures
 
 pub returns-in-Room : goal.returns-in-Room
 returns-in-Room c =
-    absurd (never-room c.args.file.now (bytes c) blank wide
-    c.read-read.result (left c).marks (left c).lengths (left c).words (left c).unary (left c).binary (ran c) c.in-Room.is)
+    absurd (never-room c.args.file.now (bytes (goal.at.returns-in-Room c).After-shared_slice_known-2-1) blank wide
+    c.read-read.result (left (goal.at.returns-in-Room c).After-read-read).marks (left (goal.at.returns-in-Room c).After-read-read).lengths (left (goal.at.returns-in-Room c).After-read-read).words (left (goal.at.returns-in-Room c).After-read-read).unary (left (goal.at.returns-in-Room c).After-read-read).binary (ran (goal.at.returns-in-Room c).After-read-read) c.in-Room.is)

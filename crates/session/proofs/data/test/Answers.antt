@@ -8,24 +8,25 @@ use Rattle.session.specs.Data.{outside_numbers}
 use Rattle.session.specs.Inner.{AllUpTo, AllClear}
 use Rattle.session.proofs.DataLaws.{is-1, is-3, is-4, is-5, is-6, is-0, rooms_in}
 use Rattle.session.proofs.data.test.Goals as goal
+use Rattle.session.proofs.data.test.Goals.{Else-outside, Else-short, Then-all_clear, Then-all_up_to}
 
-numbers : (c : tie.Else1) → let a = c.before.before.before.before.before.args in (outside_numbers a.r a.m).given → ⊥
-numbers c = rw c.if1.false at c.before.outside.ensures
+numbers : (c : Else-outside) → let a = c.args in (outside_numbers a.r a.m).given → ⊥
+numbers c = rw c.if-outside.false at c.outside.ensures
 
 -- past the second, the slices are long enough
-rooms : (c : tie.Else2) → let a = c.before.before.before.before.before.before.before.args in
+rooms : (c : Else-short) → let a = c.args in
     (length a.marks.now < a.r) ⊎ (length a.lengths.now < a.r) ⊎ (length a.words.now < a.m * a.r) → ⊥
-rooms c = rw c.if2.false at c.before.short.ensures
+rooms c = rw c.if-short.false at c.short.ensures
 
 -- past the test of lengths, none is above 64
-short : (c : tie.Then3) → let a = c.before.before.before.before.before.before.before.before.before.args in AllUpTo a.lengths.now a.r 64 true
-short c = let a = c.before.before.before.before.before.before.before.before.before.args in subst (AllUpTo a.lengths.now a.r 64) c.if3.true c.before.all-up-to.ensures
+short : (c : Then-all_up_to) → let a = c.args in AllUpTo a.lengths.now a.r 64 true
+short c = let a = c.args in subst (AllUpTo a.lengths.now a.r 64) c.if-all_up_to.true c.all_up_to.ensures
 
 -- past the test of words, all are well formed
-clear : (c : tie.Then4) → let a = c.before.before.before.before.before.before.before.before.before.before.before.args in AllClear a.lengths.now a.words.now a.r a.m true
+clear : (c : Then-all_clear) → let a = c.args in AllClear a.lengths.now a.words.now a.r a.m true
 clear c =
-    let a = c.before.before.before.before.before.before.before.before.before.before.before.args in
-    subst (AllClear a.lengths.now a.words.now a.r a.m) c.if4.true c.before.all-clear.ensures
+    let a = c.args in
+    subst (AllClear a.lengths.now a.words.now a.r a.m) c.if-all_clear.true c.all_clear.ensures
 
 pub returns-then-outside : goal.returns-then-outside
 returns-then-outside c =
@@ -33,42 +34,42 @@ returns-then-outside c =
     is-1 a.r a.m a.marks.now a.lengths.now a.words.now (rw c.if-outside.true at c.outside.ensures)
 
 pub short-requires : goal.short-requires
-short-requires c = numbers c
+short-requires c = numbers (goal.at.short-requires c).Else-outside
 
 pub returns-then-short : goal.returns-then-short
 returns-then-short c =
     let a = c.args in
-    is-3 a.r a.m a.marks.now a.lengths.now a.words.now (numbers c) (rw c.if-short.true at c.short.ensures)
+    is-3 a.r a.m a.marks.now a.lengths.now a.words.now (numbers (goal.at.returns-then-short c).Else-outside) (rw c.if-short.true at c.short.ensures)
 
 pub all_up_to-requires : goal.all_up_to-requires
-all_up_to-requires c = (rooms_in _ _ _ _ _ (rooms c)).1
+all_up_to-requires c = (rooms_in _ _ _ _ _ (rooms (goal.at.all_up_to-requires c).Else-short)).1
 
 pub all_clear-requires : goal.all_clear-requires
-all_clear-requires c = let w = rooms_in _ _ _ _ _ (rooms c) in (w.1, w.2, short c)
+all_clear-requires c = let w = rooms_in _ _ _ _ _ (rooms (goal.at.all_clear-requires c).Else-short) in (w.1, w.2, short (goal.at.all_clear-requires c).Then-all_up_to)
 
 pub all_up_to-requires-then-all_clear : goal.all_up_to-requires-then-all_clear
-all_up_to-requires-then-all_clear c = (rooms_in _ _ _ _ _ (rooms c)).0
+all_up_to-requires-then-all_clear c = (rooms_in _ _ _ _ _ (rooms (goal.at.all_up_to-requires-then-all_clear c).Else-short)).0
 
 pub returns-then-all_up_to-2 : goal.returns-then-all_up_to-2
 returns-then-all_up_to-2 c =
     let a = c.args in
-    is-0 a.r a.m a.marks.now a.lengths.now a.words.now (numbers c) (rooms c) (short c) (clear c)
+    is-0 a.r a.m a.marks.now a.lengths.now a.words.now (numbers (goal.at.returns-then-all_up_to-2 c).Else-outside) (rooms (goal.at.returns-then-all_up_to-2 c).Else-short) (short (goal.at.returns-then-all_up_to-2 c).Then-all_up_to) (clear (goal.at.returns-then-all_up_to-2 c).Then-all_clear)
     (subst (AllUpTo a.marks.now a.r 1) c.if-all_up_to-2.true c.all_up_to-then-all_clear.ensures)
 
 pub returns-then-all_clear : goal.returns-then-all_clear
 returns-then-all_clear c =
     let a = c.args in
-    is-6 a.r a.m a.marks.now a.lengths.now a.words.now (numbers c) (rooms c) (short c) (clear c)
+    is-6 a.r a.m a.marks.now a.lengths.now a.words.now (numbers (goal.at.returns-then-all_clear c).Else-outside) (rooms (goal.at.returns-then-all_clear c).Else-short) (short (goal.at.returns-then-all_clear c).Then-all_up_to) (clear (goal.at.returns-then-all_clear c).Then-all_clear)
     (subst (AllUpTo a.marks.now a.r 1) c.if-all_up_to-2.false c.all_up_to-then-all_clear.ensures)
 
 pub returns-then-all_up_to : goal.returns-then-all_up_to
 returns-then-all_up_to c =
     let a = c.args in
-    is-5 a.r a.m a.marks.now a.lengths.now a.words.now (numbers c) (rooms c) (short c)
+    is-5 a.r a.m a.marks.now a.lengths.now a.words.now (numbers (goal.at.returns-then-all_up_to c).Else-outside) (rooms (goal.at.returns-then-all_up_to c).Else-short) (short (goal.at.returns-then-all_up_to c).Then-all_up_to)
     (subst (AllClear a.lengths.now a.words.now a.r a.m) c.if-all_clear.false c.all_clear.ensures)
 
 pub returns : goal.returns
 returns c =
     let a = c.args in
-    is-4 a.r a.m a.marks.now a.lengths.now a.words.now (numbers c) (rooms c)
+    is-4 a.r a.m a.marks.now a.lengths.now a.words.now (numbers (goal.at.returns c).Else-outside) (rooms (goal.at.returns c).Else-short)
     (subst (AllUpTo a.lengths.now a.r 64) c.if-all_up_to.false c.all_up_to.ensures)
