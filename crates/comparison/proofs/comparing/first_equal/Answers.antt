@@ -58,7 +58,7 @@ loop-p-preserved c =
       omega arith,
       omega (arith, v.invariant.1, next_row v.p a.r),
       below_more _ _ v.invariant.2
-          (unequal a.r v.p a.matrices.now a.rows.now (omega (arith, end, c.requires.matrices-there)) c.compare_at-compared.result c.in_default.keys2
+          (unequal a.r v.p a.matrices.now a.rows.now (omega (arith, end, c.requires.matrices-there)) c.compare_at-compared.result c.in_default.in_default-own.keys2
           (rw v.invariant.1 at c.compare_at-compared.ensures)),
     )
 
