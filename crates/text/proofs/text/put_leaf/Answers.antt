@@ -22,7 +22,7 @@ put_name-requires c =
     (r.good, omega arith)
 
 pub returns-then-node-eq-PROPOSITION : goal.returns-then-node-eq-PROPOSITION
-returns-then-node-eq-PROPOSITION c =
+returns-then-node-eq-PROPOSITION c = λ k.
     let a = c.args in
     let r = c.requires.1 in
     let few = few-names a.names.now r.good in
@@ -33,12 +33,12 @@ returns-then-node-eq-PROPOSITION c =
     known_written a.names.now k (node_of a.node) (proposition-text a.names.now k (node_of a.node) c.if-node-eq-PROPOSITION.true) w
 
 pub returns-then-node-eq-FALSE : goal.returns-then-node-eq-FALSE
-returns-then-node-eq-FALSE c =
+returns-then-node-eq-FALSE c = λ k.
     let a = c.args in
     known_written a.names.now k (node_of a.node) (false_text a.names.now k (node_of a.node) c.if-node-eq-FALSE.true) c.put.ensures
 
 pub returns : goal.returns
-returns c =
+returns c = λ k.
     let a = c.args in
     known_written a.names.now k (node_of a.node) (true_text a.names.now k (node_of a.node)
     (true-code _ _ _ (node_of a.node) c.requires.1.fits c.requires.2 c.requires.3 c.if-node-eq-PROPOSITION.false
