@@ -28,7 +28,7 @@ returns-then-node-eq-PROPOSITION c = λ k.
     let few = few-names a.names.now r.good in
     let low = proposition-under (length (names_in a.names.now)) c.requires.0 _ (node_of a.node) r.fits c.if-node-eq-PROPOSITION.true in
     let e : c.from_left-p.result.0 ≡ a.node.left.0 = omega arith in
-    let w = subst (λ (p : ℕ). Wrote a.room.now a.at (get_or (names_in a.names.now) p []) c.put_name.new.1.1.0
+    let w = subst (λ (p : ℕ). Wrote a.room.now a.at (get_or (names_in a.names.now) p []) c.put_name.new.room
     c.put_name.result) e c.put_name.ensures in
     known_written a.names.now k (node_of a.node) (proposition-text a.names.now k (node_of a.node) c.if-node-eq-PROPOSITION.true) w
 
