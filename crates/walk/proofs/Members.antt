@@ -70,17 +70,17 @@ module _ {Mat : Type 0} where
     pub same : node_at (map (λ c. c.node) k) f.place ≡ f.kept.node
     pub member : f.kept ∈ k
 
-  pub in-of_size : (s p : ℕ) {c : Candidate Mat} {k : List (Candidate Mat)} → c ∈ k → c.node.size ≡ s
+  pub in-of_size : {c : Candidate Mat} (s p : ℕ) {k : List (Candidate Mat)} → c ∈ k → c.node.size ≡ s
       → (f : Placed Mat) × (f ∈ of_size s p k) × (f.kept ≡ c)
   unfolding of_size
-  in-of_size s p {c} (Memᴰ.head {x} {xs} e) h =
+  in-of_size {c} s p (Memᴰ.head {x} {xs} e) h =
       (record { place = p; kept = x }, go (eqb x.node.size s) (eq-eqb x.node.size s (ap (λ (d : Candidate Mat). d.node.size) (sym e) ∙ h)), sym e)
     where
       go : (b : Bool) → b ≡ true → (record { place = p; kept = x }) ∈ keep_if b (record { place = p; kept = x }) (of_size s (suc p) xs)
       go true w = Memᴰ.head refl
       go false w = let z : ◌≡◌ {A = ℕ} 0 1 = cc in absurd (omega arith)
-  in-of_size s p (Memᴰ.tail {x} {xs} m) h =
-      let w = in-of_size s (suc p) m h in
+  in-of_size {c} s p (Memᴰ.tail {x} {xs} m) h =
+      let w = in-of_size {c = c} s (suc p) m h in
       (w.0, in-keep_if (eqb x.node.size s) (record { place = p; kept = x }) w.1, w.2)
 
   abbrev Sits : ℕ → ℕ → List (Candidate Mat) → Placed Mat → Type 0

@@ -2,7 +2,7 @@
 use borrow.Author.Tests.{not-true, not-false}
 use Rattle.table.specs.Slices.{cols}
 use Rattle.walk.specs.Input.{input_of}
-use Rattle.checks.proofs.Decide.{is_one, is-two, is-three, no_room, is-data, is-seven, is_zero, settings-fine, room-fine, unary-bad, binary-bad, codes-fine, not-one-in}
+use Rattle.checks.proofs.Decide.{is_one, is-two, is-three, no-room, is-data, is-seven, is_zero, settings-fine, room-fine, unary-bad, binary-bad, codes-fine, not-one-in}
 use Rattle.checks.proofs.refusal.Goals as goal
 
 pub returns-then-data-eq1 : goal.returns-then-data-eq1
@@ -41,7 +41,7 @@ returns-then-not-has_room c =
     let a = c.args in
     let i = input_of a.r a.m a.bound a.room a.constants a.marks.now a.lengths.now a.words.now a.unary.now a.binary.now in
     let t = cols a.codes.now a.lefts.now a.rights.now a.sizes.now a.matrices.now in
-    no_room i t _ c.test-data.ensures c.if-data-eq1.false
+    no-room i t _ c.test-data.ensures c.if-data-eq1.false
     (settings-fine i (rw (not-false c.settings_good.result c.if-not-settings_good.false-raw) at
     c.settings_good.ensures)) c.if-data-eq3.false
     (rw (not-true c.has_room.result c.if-not-has_room.true-raw) at c.has_room.ensures)

@@ -37,19 +37,19 @@ module _ (n : Counts) where
 pub returns-in-Found : goal.returns-in-Found
 returns-in-Found c =
     let a = c.args in
-    rw c.one_more-tried.ensures (found a.before a.fate c.in-Found.keys1)
+    rw c.one_more-tried.ensures (found a.before a.fate c.in-Found.in-Found-own.keys1)
 
 pub returns-in-Dropped : goal.returns-in-Dropped
 returns-in-Dropped c =
     let a = c.args in
-    rw (c.one_more.ensures, c.one_more-tried.ensures) (dropped a.before a.fate c.in-Dropped.keys2)
+    rw (c.one_more.ensures, c.one_more-tried.ensures) (dropped a.before a.fate c.in-Dropped.in-Dropped-own.keys2)
 
 pub returns-in-Full : goal.returns-in-Full
 returns-in-Full c =
     let a = c.args in
-    rw c.one_more-tried.ensures (full a.before a.fate c.in-Full.keys3)
+    rw c.one_more-tried.ensures (full a.before a.fate c.in-Full.in-Full-own.keys3)
 
 pub returns-in-Kept : goal.returns-in-Kept
 returns-in-Kept c =
     let a = c.args in
-    rw (c.one_kept.ensures, c.one_more-tried.ensures) (kept a.before a.fate c.in-Kept.keys4)
+    rw (c.one_kept.ensures, c.one_more-tried.ensures) (kept a.before a.fate c.in-Kept.in-Kept-own.keys4)

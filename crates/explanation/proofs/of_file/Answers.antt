@@ -115,4 +115,4 @@ returns-in-Parts c =
 pub returns-in_default : goal.returns-in_default
 returns-in_default c =
     broken-explained c.args.file.now (bytes (goal.at.returns-in_default c).After-shared_slice_known-1) blank wide
-    c.read-read.result (left (goal.at.returns-in_default c).After-read-read).marks (left (goal.at.returns-in_default c).After-read-read).lengths (left (goal.at.returns-in_default c).After-read-read).words (left (goal.at.returns-in_default c).After-read-read).unary (left (goal.at.returns-in_default c).After-read-read).binary (ran (goal.at.returns-in_default c).After-read-read) c.in_default.keys2 c.bench.ensures
+    c.read-read.result (left (goal.at.returns-in_default c).After-read-read).marks (left (goal.at.returns-in_default c).After-read-read).lengths (left (goal.at.returns-in_default c).After-read-read).words (left (goal.at.returns-in_default c).After-read-read).unary (left (goal.at.returns-in_default c).After-read-read).binary (ran (goal.at.returns-in_default c).After-read-read) c.in_default.in_default-own.keys2 c.bench.ensures

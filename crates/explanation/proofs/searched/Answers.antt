@@ -99,4 +99,4 @@ pub returns-in_default : goal.returns-in_default
 unfolding input start
 returns-in_default c =
     unfound-stands c.args.file.now (input (goal.at.returns-in_default c).Start) c.requires.0.0 c.requires.0.1 c.requires.0.2 blank roomy (left (goal.at.returns-in_default c).After-search-answer) c.search-answer.result (ran (goal.at.returns-in_default c).After-search-answer)
-    c.in_default.keys2 c.bench.ensures
+    c.in_default.in_default-own.keys2 c.bench.ensures

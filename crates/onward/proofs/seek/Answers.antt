@@ -22,7 +22,7 @@ loop-starts-init c = seeking-start _ _ _ _ _ _ _ _ c.if-from-ne0.false
 
 pub returns-in_default : goal.returns-in_default
 returns-in_default c =
-    seek-ends _ _ _ _ _ _ _ _ c.loop-starts.invariant c.byte_of-propositions.ensures c.next-step.ensures (λ e. absurd (not_end c.next-step.result c.in_default.keys2 e))
+    seek-ends _ _ _ _ _ _ _ _ c.loop-starts.invariant c.byte_of-propositions.ensures c.next-step.ensures (λ e. absurd (not_end c.next-step.result c.in_default.in_default-own.keys2 e))
 
 pub returns-then-bound-state : goal.returns-then-bound-state
 returns-then-bound-state c =
@@ -39,4 +39,4 @@ loop-starts-smaller c =
 pub loop-starts-preserved : goal.loop-starts-preserved
 loop-starts-preserved c =
     rw (c.begin-state.ensures, c.starts_at.ensures)
-    (seek-on _ _ _ _ _ _ _ _ c.loop-starts.invariant (ended-step c.next-step.result c.in-End.keys1 c.next-step.ensures) c.if-bound-state.false)
+    (seek-on _ _ _ _ _ _ _ _ c.loop-starts.invariant (ended-step c.next-step.result c.in-End.in-End-own.keys1 c.next-step.ensures) c.if-bound-state.false)

@@ -9,7 +9,7 @@ returns-then-state-ne0 c = c.rest.ensures ∙ sym (turn-stays c.args.seen c.args
 pub returns-in_default : goal.returns-in_default
 returns-in_default c =
     let a = c.args in
-    rw (c.rest-in_default.ensures, c.none.ensures) (sym (turn-none a.seen a.left c.if-state-ne0.false (told-end _ c.in_default.keys2)))
+    rw (c.rest-in_default.ensures, c.none.ensures) (sym (turn-none a.seen a.left c.if-state-ne0.false (told-end _ c.in_default.in_default-own.keys2)))
 
 pub returns-then-left-eq0 : goal.returns-then-left-eq0
 returns-then-left-eq0 c =

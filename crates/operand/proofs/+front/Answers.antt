@@ -5,26 +5,7 @@ use lib.ListN.{get_or}
 use Rattle.names.specs.Names.{is_letter}
 use Rattle.operand.proofs.Fronts.{of-byte, front-past, front-inside, front-blank, front-bang, front-open, front-none}
 use Prim.Native.Nat.{ℕ}
-use borrow.Fn.PlainCycle.{and}
-use Rattle.operand.proofs.front.Reads as front
-use Rattle.operand.proofs.+front.Lts-front as front-lts
-use Rattle.tokens.proofs.bytes.byte.Reads as byte-Reads
-use Rattle.spelling.proofs.letter.is_letter.Reads as is-letter-reads
-use Rattle.operand.proofs.word.Reads as word-reads
 use Rattle.operand.proofs.+front.Goals as goal
-
--- what its calls ask and promise, at a measure
-abbrev calls : ℕ → front-lts.Claims
-calls t = (
-  byte-Reads.Asked,
-  byte-Reads.Learnt,
-  front_below t,
-  front.Post,
-  is-letter-reads.Asked,
-  is-letter-reads.Learnt,
-  word-reads.Asked,
-  word-reads.Learnt,
-)
 
 pub returns-then-text-at : goal.returns-then-text-at
 returns-then-text-at t c = front-past _ c.args.at c.if-text-at.true

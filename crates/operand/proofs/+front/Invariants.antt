@@ -4,4 +4,4 @@ use Prim.Native.Nat.{◌-◌}
 use Rattle.operand.proofs.+front.Given as goal
 
 abbrev pub decreases-front : goal.decreases-front
-decreases-front l = length a.0.now - a.1.0
+decreases-front l = length l.text.now - l.at

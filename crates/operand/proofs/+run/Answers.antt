@@ -2,27 +2,10 @@
 use Rattle.names.specs.Names.{is_name_byte}
 use native.Mathlib.Omega.{arith}
 use Rattle.operand.proofs.Fronts.{of-byte, word-inside, run-full, run-stops, run_on}
-use Prim.Native.Nat.{ℕ}
-use borrow.Fn.PlainCycle.{and}
-use Rattle.operand.proofs.run.Reads as run
-use Rattle.operand.proofs.+run.Lts-run as run-lts
-use Rattle.tokens.proofs.bytes.byte.Reads as byte-Reads
-use Rattle.spelling.proofs.letter.is_name_byte.Reads as is-name-byte-reads
 use Rattle.operand.proofs.+run.Goals as goal
 
--- what its calls ask and promise, at a measure
-abbrev calls : ℕ → run-lts.Claims
-calls t = (
-  byte-Reads.Asked,
-  byte-Reads.Learnt,
-  is-name-byte-reads.Asked,
-  is-name-byte-reads.Learnt,
-  run-below t,
-  run.Post,
-)
-
 pub returns-then-i-start-ge-NAME_LENGTH : goal.returns-then-i-start-ge-NAME_LENGTH
-returns-then-i-start-ge-NAME_LENGTH t c = run-full _ c.args.start c.args.i c.requires.1.0 c.requires.1.2 c.requires.1.1 c.if-i-start-ge-NAME_LENGTH.true
+returns-then-i-start-ge-NAME_LENGTH t c = run-full _ c.args.start c.args.i c.requires.0 c.requires.2 c.requires.1 c.if-i-start-ge-NAME_LENGTH.true
 
 pub overflow_add-i : goal.overflow_add-i
 overflow_add-i t c =
@@ -35,9 +18,9 @@ run-requires t c =
 
 pub returns-then-is_name_byte : goal.returns-then-is_name_byte
 returns-then-is_name_byte t c =
-    run_on _ c.args.start c.args.i c.requires.1.0 c.requires.1.2 c.if-i-start-ge-NAME_LENGTH.false
+    run_on _ c.args.start c.args.i c.requires.0 c.requires.2 c.if-i-start-ge-NAME_LENGTH.false
     (of-byte is_name_byte c.is_name_byte.ensures c.if-is_name_byte.true c.byte-b.ensures) c.run.ensures
 
 pub returns : goal.returns
 returns t c =
-    run-stops _ c.args.start c.args.i c.requires.1.0 c.requires.1.2 c.requires.1.1 (of-byte is_name_byte c.is_name_byte.ensures c.if-is_name_byte.false c.byte-b.ensures)
+    run-stops _ c.args.start c.args.i c.requires.0 c.requires.2 c.requires.1 (of-byte is_name_byte c.is_name_byte.ensures c.if-is_name_byte.false c.byte-b.ensures)

@@ -3,4 +3,4 @@ use Prim.Native.Nat.{◌+◌, ◌-◌}
 use Rattle.operand.proofs.+run.Given as goal
 
 abbrev pub decreases-run : goal.decreases-run
-decreases-run l = (a.1.0 + 16) - a.1.1.0
+decreases-run l = (l.start + 16) - l.i

@@ -16,7 +16,7 @@ pub returns-in_default : goal.returns-in_default
 returns-in_default c =
     record {
       takes = λ m constants. carried (c.loop-here.invariant m constants) (parts-step
-          (layer_of _ _ m constants _ _) _ (omega arith) c.split_step-step.result c.in_default.keys2
+          (layer_of _ _ m constants _ _) _ (omega arith) c.split_step-step.result c.in_default.in_default-own.keys2
           (rw c.part_of-part.ensures at c.split_step-step.ensures));
     }
 
@@ -26,7 +26,7 @@ loop-here-smaller c = omega (arith, ap (λ (at : Cursor). at.split) c.part_start
 pub loop-here-preserved : goal.loop-here-preserved
 loop-here-preserved c =
     λ m constants. c.loop-here.invariant m constants ∙ parts-done
-    (layer_of _ _ m constants _ _) _ (ended c.split_step-step.result c.in-End.keys1
+    (layer_of _ _ m constants _ _) _ (ended c.split_step-step.result c.in-End.in-End-own.keys1
     (rw c.part_of-part.ensures at c.split_step-step.ensures)) ∙ ap
     (parts_ahead (layer_of _ _ m constants _ _)) (sym c.part_start-here.ensures)
 

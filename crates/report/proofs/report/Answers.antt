@@ -14,7 +14,7 @@ pub write-requires : goal.write-requires
 write-requires c =
     let a = c.args in
     passed-check (recording a.r a.m a.marks.now a.lengths.now a.words.now) (nodes a.codes.now a.lefts.now a.rights.now a.sizes.now)
-    (node_of a.root) a.text.now c.check-verdict.result c.in_default.keys2 c.check-verdict.ensures
+    (node_of a.root) a.text.now c.check-verdict.result c.in_default.in_default-own.keys2 c.check-verdict.ensures
 
 pub returns : goal.returns
 returns c = c.write.ensures

@@ -23,7 +23,7 @@ returns-in-Unary c =
     let f = c.rows_of in
     let h = c.operator_of-group in
     unary-told a.r a.m a.masks.now a.words.now a.matrices.now a.code a.left.0 a.right.0 a.rows.now
-    f.new.1.1.1.1.1.0 (omega arith) (omega arith) (omega arith)
+    f.new.rows (omega arith) (omega arith) (omega arith)
     (in-unary _ h.result h.ensures c.in-Unary.is) f.result f.ensures
 
 pub returns-in-Binary : goal.returns-in-Binary
@@ -32,7 +32,7 @@ returns-in-Binary c =
     let f = c.rows_of-in-Binary in
     let h = c.operator_of-group in
     binary-told a.r a.m a.masks.now a.words.now a.matrices.now a.code a.left.0 a.right.0 a.rows.now
-    f.new.1.1.1.1.1.1.0 (omega arith) (omega arith) (omega arith)
+    f.new.rows (omega arith) (omega arith) (omega arith)
     (in-binary _ h.result h.ensures c.in-Binary.is) f.result f.ensures
 
 pub returns-in-Neither : goal.returns-in-Neither
@@ -42,6 +42,6 @@ returns-in-Neither c =
     let h = c.operator_of-group in
     let none = in-neither _ h.result h.ensures c.in-Neither.is in
     leaf-told a.r a.m a.masks.now a.words.now a.matrices.now a.code a.left.0 a.right.0 a.rows.now
-    f.new.1.1.1.1.1.1.0 (omega arith) (omega arith) (omega arith)
+    f.new.rows (omega arith) (omega arith) (omega arith)
     (λ u. none.0 u.0 u.1)
     (λ u. none.1 u.0 u.1) f.result f.ensures

@@ -5,6 +5,7 @@ use lib.ListN.{get_or}
 use native.Mathlib.Omega.{arith}
 use Rattle.starts.proofs.Counting.{counted_none, counted-few, counted-more, counted-out}
 use Rattle.starts.proofs.counts.Goals as goal
+use Rattle.starts.proofs.counts.Goals.{then-t, else-t}
 
 pub loop-p-init : goal.loop-p-init
 loop-p-init c = (omega arith, counted_none _)
@@ -20,8 +21,10 @@ overflow_add-counts-then-t c =
 pub loop-p-preserved : goal.loop-p-preserved
 loop-p-preserved c = (
   omega arith,
-  ⊎_elim (λ w. rw w.1 (counted-more _ c.loop-p.invariant.1 (omega arith) w.0.taken))
-      (λ w. rw w.1 (counted-out _ c.loop-p.invariant.1 (omega arith) w.0.left)) c.if-t.branch,
+  elim c.if-t.branch [
+    | then-t w ↦ rw w.counts-is (counted-more _ c.loop-p.invariant.1 (omega arith) w.if-t.true)
+    | else-t w ↦ rw w.counts-is (counted-out _ c.loop-p.invariant.1 (omega arith) w.if-t.false)
+  ],
 )
 
 pub returns : goal.returns

@@ -4,28 +4,17 @@ use Prim.Native.Nat.{◌-◌}
 use native.Mathlib.Omega.{arith}
 use borrow.Author.Tests.{ne_eqb}
 use Rattle.state.proofs.Passing.{Others, position-passes, position-tells}
-use Rattle.state.proofs.wrong.Reads as reads
-use Rattle.state.proofs.wrong.Lts as lts
 use Rattle.state.proofs.wrong.Goals as goal
+use Rattle.state.proofs.wrong.Goals.{Else-kept-state-2}
 
-abbrev Passed : Type 0
-Passed = lts.Else6 reads.Pre reads.Post
-
-others : (c : Passed) → let a = c.before.before.before.before.before.before.before.before.before.before.before.args in
-    Others a.bound a.room a.state
-others c =
-    let c₂ = c.before.before in
-    let c₄ = c₂.before.before in
-    let c₆ = c₄.before.before in
-    let c₈ = c₆.before.before in
-    let c₁₀ = c₈.before.before in
-    record {
-      kept_in = omega (arith, c₁₀.if1.false);
-      kept-tried = omega (arith, c₈.if2.false);
-      size_in = (omega (arith, c₆.if3.false), omega (arith, c₄.if4.false));
-      left_in = omega (arith, c₂.if5.false);
-      right-in = omega (arith, c.if6.false);
-    }
+others : (c : Else-kept-state-2) → let a = c.args in Others a.bound a.room a.state
+others c = record {
+  kept_in = omega (arith, c.if-room-kept.false);
+  kept-tried = omega (arith, c.if-state-kept.false);
+  size_in = (omega (arith, c.if-state-lt1.false), omega (arith, c.if-bound-state.false));
+  left_in = omega (arith, c.if-kept-state.false);
+  right-in = omega (arith, c.if-kept-state-2.false);
+}
 
 pub returns-then-room-kept : goal.returns-then-room-kept
 returns-then-room-kept c = inl c.if-room-kept.true
@@ -48,25 +37,25 @@ returns-then-kept-state-2 c = inr (inr (inr (inr (inl c.if-kept-state-2.true))))
 pub returns-then-operator-lt2 : goal.returns-then-operator-lt2
 returns-then-operator-lt2 c =
     let a = c.args in
-    position-passes a.m a.constants a.unary a.binary (others c) (rw (c.if-state-eq1.true, c.if-constants-eq1.true) (omega (arith, c.if-operator-lt2.true)))
+    position-passes a.m a.constants a.unary a.binary (others (goal.at.returns-then-operator-lt2 c).Else-kept-state-2) (rw (c.if-state-eq1.true, c.if-constants-eq1.true) (omega (arith, c.if-operator-lt2.true)))
 
 pub returns-then-constants-eq1 : goal.returns-then-constants-eq1
 returns-then-constants-eq1 c =
     let a = c.args in
-    position-tells a.m a.constants a.unary a.binary (others c) a.m (a.state.at.operator - 2)
+    position-tells a.m a.constants a.unary a.binary (others (goal.at.returns-then-constants-eq1 c).Else-kept-state-2) a.m (a.state.at.operator - 2)
     (λ h. rw (c.if-state-eq1.true, c.if-constants-eq1.true) (omega (arith, c.if-operator-lt2.false)))
     (λ h. rw (c.if-state-eq1.true, c.if-constants-eq1.true) (omega (arith, c.if-operator-lt2.false)))
 
 pub returns-then-state-eq1 : goal.returns-then-state-eq1
 returns-then-state-eq1 c =
     let a = c.args in
-    position-tells a.m a.constants a.unary a.binary (others c) _ _ (λ h. rw (c.if-state-eq1.true, ne_eqb _ 1 c.if-constants-eq1.false) h)
+    position-tells a.m a.constants a.unary a.binary (others (goal.at.returns-then-state-eq1 c).Else-kept-state-2) _ _ (λ h. rw (c.if-state-eq1.true, ne_eqb _ 1 c.if-constants-eq1.false) h)
     (λ h. rw (c.if-state-eq1.true, ne_eqb _ 1 c.if-constants-eq1.false) h)
 
 pub returns-then-state-eq0 : goal.returns-then-state-eq0
 returns-then-state-eq0 c =
     let a = c.args in
-    position-tells a.m a.constants a.unary a.binary (others c) _ _ (λ h. rw (ne_eqb _ 1 c.if-state-eq1.false, c.if-state-eq0.true) h)
+    position-tells a.m a.constants a.unary a.binary (others (goal.at.returns-then-state-eq0 c).Else-kept-state-2) _ _ (λ h. rw (ne_eqb _ 1 c.if-state-eq1.false, c.if-state-eq0.true) h)
     (λ h. rw (ne_eqb _ 1 c.if-state-eq1.false, c.if-state-eq0.true) h)
 
 pub returns-then-binary-operator : goal.returns-then-binary-operator
@@ -76,5 +65,5 @@ returns-then-binary-operator c =
 pub returns : goal.returns
 returns c =
     let a = c.args in
-    position-passes a.m a.constants a.unary a.binary (others c)
+    position-passes a.m a.constants a.unary a.binary (others (goal.at.returns c).Else-kept-state-2)
     (rw (ne_eqb _ 1 c.if-state-eq1.false, ne_eqb _ 0 c.if-state-eq0.false) (omega (arith, c.if-binary-operator.false)))

@@ -7,4 +7,4 @@ use Rattle.state_words.proofs.fresh.Goals as goal
 pub returns : goal.returns
 returns c =
     subst (λ (s : State). StateDone s c.args.words.now c.put.result
-    c.put.new.1.0) c.fresh-state.ensures c.put.ensures
+    c.put.new.words) c.fresh-state.ensures c.put.ensures

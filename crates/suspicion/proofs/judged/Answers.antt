@@ -62,7 +62,7 @@ overflow_sub-n c = (here (goal.at.overflow_sub-n c).In-Nodes-2).some
 
 pub unread-requires : goal.unread-requires
 unread-requires c =
-    unread (start (goal.at.unread-requires c).After-parse-parsed).args.names.now (start (goal.at.unread-requires c).After-parse-parsed).args.typed.now roomy (left (goal.at.unread-requires c).After-parse-parsed) c.in_default.keys2 (ran (goal.at.unread-requires c).After-parse-parsed)
+    unread (start (goal.at.unread-requires c).After-parse-parsed).args.names.now (start (goal.at.unread-requires c).After-parse-parsed).args.typed.now roomy (left (goal.at.unread-requires c).After-parse-parsed) c.in_default.in_default-own.keys2 (ran (goal.at.unread-requires c).After-parse-parsed)
 
 pub returns-in-Nodes : goal.returns-in-Nodes
 unfolding left start
@@ -72,4 +72,4 @@ returns-in-Nodes c =
 pub returns-in_default : goal.returns-in_default
 unfolding start
 returns-in_default c =
-    unread-judged _ _ _ c.parse-parsed.result c.in_default.keys2 (ran (goal.at.returns-in_default c).After-parse-parsed) c.unread.ensures
+    unread-judged _ _ _ c.parse-parsed.result c.in_default.in_default-own.keys2 (ran (goal.at.returns-in_default c).After-parse-parsed) c.unread.ensures

@@ -6,29 +6,29 @@ use Rattle.leaves.proofs.Products.{at_most}
 use Rattle.table.proofs.keep.Goals as goal
 
 pub bounds-codes-at : goal.bounds-codes-at
-bounds-codes-at c = let f = rw c.if-fits.true at c.fits2.ensures in omega arith
+bounds-codes-at c = let f = rw c.if-fits.true at c.fits.ensures in omega arith
 
 pub bounds-lefts-at : goal.bounds-lefts-at
-bounds-lefts-at c = let f = rw c.if-fits.true at c.fits2.ensures in omega arith
+bounds-lefts-at c = let f = rw c.if-fits.true at c.fits.ensures in omega arith
 
 pub bounds-rights-at : goal.bounds-rights-at
-bounds-rights-at c = let f = rw c.if-fits.true at c.fits2.ensures in omega arith
+bounds-rights-at c = let f = rw c.if-fits.true at c.fits.ensures in omega arith
 
 pub bounds-sizes-at : goal.bounds-sizes-at
-bounds-sizes-at c = let f = rw c.if-fits.true at c.fits2.ensures in omega arith
+bounds-sizes-at c = let f = rw c.if-fits.true at c.fits.ensures in omega arith
 
 pub overflow_mul-at : goal.overflow_mul-at
 overflow_mul-at c =
-    let f = rw c.if-fits.true at c.fits2.ensures in let a =
+    let f = rw c.if-fits.true at c.fits.ensures in let a =
     c.args in omega
     (arith, at_most a.place.0 65535 a.r most_sessions (omega arith) (omega arith))
 
 pub put-requires : goal.put-requires
-put-requires c = let f = rw c.if-fits.true at c.fits2.ensures in (record { sessions-in = f.sessions-in; there = f.rows-there }, f.matrix-in)
+put-requires c = let f = rw c.if-fits.true at c.fits.ensures in (record { sessions-in = f.sessions-in; there = f.rows-there }, f.matrix-in)
 
 pub returns-then-fits : goal.returns-then-fits
 returns-then-fits c =
-    let f = rw c.if-fits.true at c.fits2.ensures
+    let f = rw c.if-fits.true at c.fits.ensures
     in (
       record {
         sessions-in = f.sessions-in;
@@ -44,7 +44,7 @@ returns-then-fits c =
 
 pub returns : goal.returns
 returns c =
-    let g = rw c.if-fits.false at c.fits2.ensures in (
+    let g = rw c.if-fits.false at c.fits.ensures in (
       λ a. g (record {
         sessions-in = a.sessions-in;
         rows-there = a.rows-there;

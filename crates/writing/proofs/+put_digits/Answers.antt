@@ -1,26 +1,13 @@
 -- The goals of `put_digits` that the search leaves.
 use mathlib.Core.Path.{ap}
-use Prim.Native.Nat.{ℕ, ◌-◌, ◌/◌}
+use Prim.Native.Nat.{◌-◌, ◌/◌}
 use native.Mathlib.Omega.{arith}
 use native.Mathlib.Nat.{mod-lt}
 use lib.ListN.{length}
 use lib.Seq.{length-sets}
 use Rattle.writing.specs.Writing.{digits}
 use Rattle.writing.proofs.Digits.{few-digits, no-digits, one-digit, more-digits}
-use borrow.Fn.PlainCycle.{and}
-use Rattle.writing.proofs.put_digits.Reads as put-digits
-use Rattle.writing.proofs.+put_digits.Lts-put_digits as put-digits-lts
-use Rattle.writing.proofs.put_digit.Reads as put-digit-reads
 use Rattle.writing.proofs.+put_digits.Goals as goal
-
--- what its calls ask and promise, at a measure
-abbrev calls : ℕ → put-digits-lts.Claims
-calls t = (
-  put-digit-reads.Asked,
-  put-digit-reads.Learnt,
-  put-digits-below t,
-  put-digits.Post,
-)
 
 pub returns-then-most-eq0 : goal.returns-then-most-eq0
 returns-then-most-eq0 t c = let a = c.args in no-digits a.text.now a.at a.most a.x c.if-most-eq0.true

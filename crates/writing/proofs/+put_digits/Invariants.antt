@@ -2,4 +2,4 @@
 use Rattle.writing.proofs.+put_digits.Given as goal
 
 abbrev pub decreases-put_digits : goal.decreases-put_digits
-decreases-put_digits l = a.1.1.1.0
+decreases-put_digits l = l.most

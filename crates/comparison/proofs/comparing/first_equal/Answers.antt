@@ -9,6 +9,7 @@ use Rattle.comparison.specs.Compare.{Same}
 use Rattle.rows.proofs.Parts.{part-long}
 use Rattle.comparison.proofs.Differences.{same-below, unequal}
 use Rattle.leaves.proofs.Products.{place_end, next_row, at_most}
+use borrow.Enum.Refused.{opened}
 use Rattle.comparison.proofs.comparing.first_equal.Goals as goal
 
 pub loop-p-init : goal.loop-p-init
@@ -58,7 +59,7 @@ loop-p-preserved c =
       omega arith,
       omega (arith, v.invariant.1, next_row v.p a.r),
       below_more _ _ v.invariant.2
-          (unequal a.r v.p a.matrices.now a.rows.now (omega (arith, end, c.requires.matrices-there)) c.compare_at-compared.result c.in_default.keys2
+          (unequal a.r v.p a.matrices.now a.rows.now (omega (arith, end, c.requires.matrices-there)) c.compare_at-compared.result (opened c.in_default.in_default-own.keys2)
           (rw v.invariant.1 at c.compare_at-compared.ensures)),
     )
 

@@ -4,5 +4,5 @@ use Rattle.formula.proofs.Judged.{leaf-judged}
 use Rattle.formula.proofs.nodes.leaf_good.Goals as goal
 
 pub returns : goal.returns
-returns c =
+returns c = λ k b.
     leaf-judged c.args.m k b (node_of c.args.node) c.requires.0 c.requires.1

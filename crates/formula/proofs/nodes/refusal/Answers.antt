@@ -1,13 +1,13 @@
 -- `refusal` meets its contract: the count, then each listed node, then the root.
 use mathlib.Core.Path.{sym, ◌∙◌}
 use Rattle.formula.proofs.Listed.{length-nodes}
-use Rattle.formula.proofs.Tests.{too_many, one-fails, all_pass}
+use Rattle.formula.proofs.Tests.{too-many, one-fails, all_pass}
 use Rattle.formula.proofs.nodes.refusal.Goals as goal
 
 pub returns-then-n-gt-ROOM : goal.returns-then-n-gt-ROOM
 returns-then-n-gt-ROOM c =
     let a = c.args in
-    too_many _ _ _ (length-nodes a.codes.now a.lefts.now a.rights.now a.sizes.now ∙ sym c.count-n.ensures) c.if-n-gt-ROOM.true
+    too-many _ _ _ (length-nodes a.codes.now a.lefts.now a.rights.now a.sizes.now ∙ sym c.count-n.ensures) c.if-n-gt-ROOM.true
 
 pub returns-then-listed-rooted : goal.returns-then-listed-rooted
 returns-then-listed-rooted c =

@@ -8,7 +8,7 @@ pub returns-in_default : goal.returns-in_default
 returns-in_default c =
     let a = c.args in
     never-none (recording a.r a.m a.marks.now a.lengths.now a.words.now) (nodes a.codes.now a.lefts.now a.rights.now a.sizes.now) a.on.0
-    (node_of a.node) c.sequence_of-sequenced.result c.in_default.keys2 c.sequence_of-sequenced.ensures c.requires.1 c.requires.0
+    (node_of a.node) c.sequence_of-sequenced.result c.in_default.in_default-own.keys2 c.sequence_of-sequenced.ensures c.requires.1 c.requires.0
 
 pub returns : goal.returns
 returns c =

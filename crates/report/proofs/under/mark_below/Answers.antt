@@ -14,6 +14,6 @@ returns-then-marks-q-ne1 c =
 pub returns : goal.returns
 returns c =
     let a = c.args in
-    subst (λ (n : Node). MarksBelow a.marks.now a.q n c.mark_children.new.0)
+    subst (λ (n : Node). MarksBelow a.marks.now a.q n c.mark_children.new.marks)
     c.node_at-node.ensures
     (below-marked a.marks.now _ a.q c.if-marks-q-ne1.false c.mark_children.ensures)

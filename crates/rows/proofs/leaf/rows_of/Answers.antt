@@ -7,14 +7,14 @@ use Rattle.leaves.proofs.Products.{at_most}
 use Rattle.rows.proofs.leaf.rows_of.Goals as goal
 
 pub returns-then-m-gt-PROPOSITIONS : goal.returns-then-m-gt-PROPOSITIONS
-returns-then-m-gt-PROPOSITIONS c = (λ q. omega (arith, (proposition-reads c.pre.2 c.pre.3 c.if-code-eq-PROPOSITION.taken q).0), refl)
+returns-then-m-gt-PROPOSITIONS c = (λ q. omega (arith, (proposition-reads c.requires.2 c.requires.3 c.if-code-eq-PROPOSITION.true q).0), refl)
 
 pub returns-then-m-left : goal.returns-then-m-left
 returns-then-m-left c = (
   λ q. omega (
     arith,
-    (proposition-reads c.pre.2
-        c.pre.3 c.if-code-eq-PROPOSITION.taken q).1,
+    (proposition-reads c.requires.2
+        c.requires.3 c.if-code-eq-PROPOSITION.true q).1,
   ),
   refl,
 )
@@ -26,8 +26,8 @@ pub returns-then-words-m : goal.returns-then-words-m
 returns-then-words-m c = (
   λ q. omega (
     arith,
-    (proposition-reads c.pre.2
-        c.pre.3 c.if-code-eq-PROPOSITION.taken q).2,
+    (proposition-reads c.requires.2
+        c.requires.3 c.if-code-eq-PROPOSITION.true q).2,
   ),
   refl,
 )
@@ -44,9 +44,9 @@ shape_of-rows-then-code-eq-PROPOSITION c =
 
 pub returns-then-code-eq-PROPOSITION : goal.returns-then-code-eq-PROPOSITION
 returns-then-code-eq-PROPOSITION c =
-    proposition-told c.if-code-eq-PROPOSITION.taken
-    c.if-m-gt-PROPOSITIONS.left c.if-m-left.left
-    c.if-words-m.left c.from_left-p.ensures
+    proposition-told c.if-code-eq-PROPOSITION.true
+    c.if-m-gt-PROPOSITIONS.false c.if-m-left.false
+    c.if-words-m.false c.from_left-p.ensures
     (c.proposition_rows.ensures.did record {
       sessions-in = omega arith;
       propositions-in = omega arith;
@@ -59,17 +59,17 @@ pub shape_of-rows-then-code-eq-FALSE : goal.shape_of-rows-then-code-eq-FALSE
 shape_of-rows-then-code-eq-FALSE c = (c.false_rows.ensures.did (omega arith)).long
 
 pub returns-then-code-eq-FALSE : goal.returns-then-code-eq-FALSE
-returns-then-code-eq-FALSE c = false-told c.if-code-eq-FALSE.taken (c.false_rows.ensures.did (omega arith))
+returns-then-code-eq-FALSE c = false-told c.if-code-eq-FALSE.true (c.false_rows.ensures.did (omega arith))
 
 pub shape_of-rows-then-code-eq-TRUE : goal.shape_of-rows-then-code-eq-TRUE
 shape_of-rows-then-code-eq-TRUE c = (c.true_rows.ensures.did (record { masks-there = omega arith; rows-there = omega arith })).long
 
 pub returns-then-code-eq-TRUE : goal.returns-then-code-eq-TRUE
-returns-then-code-eq-TRUE c = true-told c.if-code-eq-TRUE.taken (c.true_rows.ensures.did record { masks-there = omega arith; rows-there = omega arith })
+returns-then-code-eq-TRUE c = true-told c.if-code-eq-TRUE.true (c.true_rows.ensures.did record { masks-there = omega arith; rows-there = omega arith })
 
 pub returns : goal.returns
 returns c = (
-  no-leaf c.pre.2 c.pre.3
-      c.if-code-eq-PROPOSITION.left c.if-code-eq-FALSE.left c.if-code-eq-TRUE.left,
+  no-leaf c.requires.2 c.requires.3
+      c.if-code-eq-PROPOSITION.false c.if-code-eq-FALSE.false c.if-code-eq-TRUE.false,
   refl,
 )

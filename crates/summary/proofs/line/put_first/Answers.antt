@@ -9,10 +9,10 @@ pub returns-in-Never : goal.returns-in-Never
 returns-in-Never c =
     let a = c.args in
     let w = c.put in
-    subst (λ (f : First). Wrote a.text.now a.at (first_text f) w.new.0 w.result) (sym c.in-Never.is) w.ensures
+    subst (λ (f : First). Wrote a.text.now a.at (first_text f) w.new.text w.result) (sym c.in-Never.is) w.ensures
 
 pub returns-in-Snapshot : goal.returns-in-Snapshot
 returns-in-Snapshot c =
     let a = c.args in
     let w = c.put_decimal in
-    subst (λ (f : First). Wrote a.text.now a.at (first_text f) w.new.0 w.result) (sym c.in-Snapshot.is) w.ensures
+    subst (λ (f : First). Wrote a.text.now a.at (first_text f) w.new.text w.result) (sym c.in-Snapshot.is) w.ensures

@@ -22,23 +22,35 @@ put_name-requires c =
     (r.good, omega arith)
 
 pub returns-then-node-eq-PROPOSITION : goal.returns-then-node-eq-PROPOSITION
-returns-then-node-eq-PROPOSITION c =
+<<<<<<< HEAD
+returns-then-node-eq-PROPOSITION c k =
+=======
+returns-then-node-eq-PROPOSITION c = λ k.
+>>>>>>> 256b3641c0c68df0a925e43b33f066fc3eae977d
     let a = c.args in
     let r = c.requires.1 in
     let few = few-names a.names.now r.good in
     let low = proposition-under (length (names_in a.names.now)) c.requires.0 _ (node_of a.node) r.fits c.if-node-eq-PROPOSITION.true in
     let e : c.from_left-p.result.0 ≡ a.node.left.0 = omega arith in
-    let w = subst (λ (p : ℕ). Wrote a.room.now a.at (get_or (names_in a.names.now) p []) c.put_name.new.1.1.0
+    let w = subst (λ (p : ℕ). Wrote a.room.now a.at (get_or (names_in a.names.now) p []) c.put_name.new.room
     c.put_name.result) e c.put_name.ensures in
     known_written a.names.now k (node_of a.node) (proposition-text a.names.now k (node_of a.node) c.if-node-eq-PROPOSITION.true) w
 
 pub returns-then-node-eq-FALSE : goal.returns-then-node-eq-FALSE
-returns-then-node-eq-FALSE c =
+<<<<<<< HEAD
+returns-then-node-eq-FALSE c k =
+=======
+returns-then-node-eq-FALSE c = λ k.
+>>>>>>> 256b3641c0c68df0a925e43b33f066fc3eae977d
     let a = c.args in
     known_written a.names.now k (node_of a.node) (false_text a.names.now k (node_of a.node) c.if-node-eq-FALSE.true) c.put.ensures
 
 pub returns : goal.returns
-returns c =
+<<<<<<< HEAD
+returns c k =
+=======
+returns c = λ k.
+>>>>>>> 256b3641c0c68df0a925e43b33f066fc3eae977d
     let a = c.args in
     known_written a.names.now k (node_of a.node) (true_text a.names.now k (node_of a.node)
     (true-code _ _ _ (node_of a.node) c.requires.1.fits c.requires.2 c.requires.3 c.if-node-eq-PROPOSITION.false

@@ -20,5 +20,5 @@ slice_bounds-put-end c = let o = span-order c.args.names.now c.args.p c.letters-
 pub returns : goal.returns
 returns c =
     let a = c.args in
-    subst (λ (l : List ℕ). Wrote a.room.now a.at l c.put.new.0 c.put.result)
+    subst (λ (l : List ℕ). Wrote a.room.now a.at l c.put.new.text c.put.result)
     (letters-are-name a.names.now c.requires.0 a.p c.requires.1 c.letters-l.ensures) c.put.ensures

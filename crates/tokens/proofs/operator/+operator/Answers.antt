@@ -1,27 +1,7 @@
 -- The goals of `operator` that the search leaves.
 use mathlib.Core.Path.{sym, ◌∙◌}
 use Rattle.tokens.proofs.Operators.{op-end, op-blank, op-and, op-or, op-implies, op-equiv, op-less-cut, op-until, op-release, op-none}
-use Prim.Native.Nat.{ℕ}
-use borrow.Fn.PlainCycle.{and}
-use Rattle.tokens.proofs.operator.operator.Reads as operator
-use Rattle.tokens.proofs.operator.+operator.Lts-operator as operator-lts
-use Rattle.tokens.proofs.bytes.byte.Reads as byte-Reads
-use Rattle.tokens.proofs.operator.arrow.Reads as arrow-reads
-use Rattle.tokens.proofs.operator.word_op.Reads as word-op-reads
 use Rattle.tokens.proofs.operator.+operator.Goals as goal
-
--- what its calls ask and promise, at a measure
-abbrev calls : ℕ → operator-lts.Claims
-calls t = (
-  byte-Reads.Asked,
-  byte-Reads.Learnt,
-  operator-below t,
-  operator.Post,
-  arrow-reads.Asked,
-  arrow-reads.Learnt,
-  word-op-reads.Asked,
-  word-op-reads.Learnt,
-)
 
 pub returns-then-text-at : goal.returns-then-text-at
 returns-then-text-at t c = op-end _ c.args.at c.if-text-at.true

@@ -4,4 +4,4 @@ use Prim.Native.Nat.{◌-◌}
 use Rattle.tokens.proofs.operator.+operator.Given as goal
 
 abbrev pub decreases-operator : goal.decreases-operator
-decreases-operator l = length a.0.now - a.1.0
+decreases-operator l = length l.text.now - l.at

@@ -16,7 +16,7 @@ bounds-words-from c =
     omega (arith, r.there, r.few, proposition-under r.propositions c.requires.0 _ (node_of c.args.node) r.fits c.if-node-eq-PROPOSITION.true)
 
 pub returns-then-node-eq-PROPOSITION : goal.returns-then-node-eq-PROPOSITION
-returns-then-node-eq-PROPOSITION c =
+returns-then-node-eq-PROPOSITION c = λ k.
     let a = c.args in
     let r = c.requires.1 in
     let h = proposition-under r.propositions c.requires.0 _ (node_of a.node) r.fits c.if-node-eq-PROPOSITION.true in
@@ -25,12 +25,12 @@ returns-then-node-eq-PROPOSITION c =
     (word-of-proposition a.length a.words.now a.from k (node_of a.node) c.requires.0 r c.if-node-eq-PROPOSITION.true)
 
 pub returns-then-node-eq-FALSE : goal.returns-then-node-eq-FALSE
-returns-then-node-eq-FALSE c =
+returns-then-node-eq-FALSE c = λ k.
     let a = c.args in
     word-of-false a.length a.words.now a.from k (node_of a.node) c.requires.1.short c.if-node-eq-FALSE.true
 
 pub returns : goal.returns
-returns c =
+returns c = λ k.
     let a = c.args in
     word-of-true a.length a.words.now a.from k (node_of a.node) c.mask.result c.requires.1.short
     (true-code _ _ _ (node_of a.node) c.requires.1.fits c.requires.2 c.requires.3 c.if-node-eq-PROPOSITION.false
