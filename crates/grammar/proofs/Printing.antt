@@ -1,7 +1,7 @@
 -- "What the printer writes, read back": the text of a formula under good names is a formula to the grammar, with the tree that has the propositions'
 -- names at its leaves.
 -- Assumes nothing.
-use mathlib.Core.Path.{◌≡◌, refl}
+use mathlib.Core.Path.{refl}
 use mathlib.Core.Bool.{true, false}
 use mathlib.Core.List.{List, [], ◌∷◌, ◌++◌, append_assoc, append-nil}
 use Prim.Native.Nat.{ℕ}

@@ -215,8 +215,9 @@ mutual
   more-sound (suc k) n p xs t [] h d c e = stays n [] h d tt e
   more-sound (suc k) n p xs t (pre v ∷ ts) h d c e = stays n (pre v ∷ ts) h d tt e
   more-sound (suc k) n p xs t (mid o ∷ ts) {u} {rest} h d c e =
-      let pick : (b : Bool) → leb n (level o) ≡ b → cond b (read_then (read_infix k (right_level o) ts) (λ r more. read_more k n (binary o t r) more))
-      (got t (mid o ∷ ts)) ≡ got u rest → Onward n xs (mid o ∷ ts) u rest = λ b. elim b [
+      let Way : Bool → Type 0 = λ b. leb n (level o) ≡ b → cond b (read_then (read_infix k (right_level o) ts) (λ r more. read_more k n (binary o t r) more))
+      (got t (mid o ∷ ts)) ≡ got u rest → Onward n xs (mid o ∷ ts) u rest in
+      let pick : (b : Bool) → Way b = λ b. elim b as Way [
         | true ↦ λ w q.
             let so = sides o in
             let s = in-turn (read_infix k (right_level o) ts) (λ r more. read_more k n (binary o t r) more) q in

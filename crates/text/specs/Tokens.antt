@@ -1,7 +1,7 @@
 -- The tokens of a formula's text and the names that stand in it: what document 02's E1 keeps apart.
 -- Assumes nothing.
 use Rattle.std.specs.Prelude.{◌≡◌, ◌⊎◌, Bool, true, ℕ, ◌≤◌, ◌<◌, length, get_or}
-use mathlib.Core.List.{List, [], ◌∷◌, ◌++◌, Memᴰ}
+use mathlib.Core.List.{List, [], ◌∷◌, ◌++◌}
 use Rattle.sequence.specs.Operators.{Unary, Binary, unary_token, binary_token}
 use Rattle.rules.specs.Lists.{Each}
 use Rattle.formula.specs.Formula.{leaf, unary, binary, proposition, constant, Formula}

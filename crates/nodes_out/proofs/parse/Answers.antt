@@ -19,7 +19,7 @@ slice_bounds-parse-end-4 c = sym (length-take-le _ _ (search rules))
 
 pub pack-nodes-requires : goal.pack-nodes-requires
 pack-nodes-requires c =
-    count-in-room _ _ _ _ c.parse-answer.result _ c.parse-answer.ensures c.parse-answer.auto.1.1.0
+    count-in-room _ _ _ _ c.parse-answer.result _ c.parse-answer.ensures c.parse-answer.auto.codes
     (cut-within c.room_of-room.result c.bytes-codes.result c.bytes-codes.ensures) c.count_in-count.ensures
 
 pub returns : goal.returns
@@ -35,7 +35,7 @@ returns c =
       lefts-given = cut_most _ _ _ c.room_of-room.ensures c.places-lefts.ensures;
       rights-given = cut_most _ _ _ c.room_of-room.ensures c.places-rights.ensures;
       sizes-given = cut_most _ _ _ c.room_of-room.ensures c.bytes-sizes.ensures;
-      codes-left = c.parse-answer.auto.1.1.0;
+      codes-left = c.parse-answer.auto.codes;
       count-is = c.count_in-count.ensures;
       room-is = search rules;
       parsed = c.parse-answer.ensures;

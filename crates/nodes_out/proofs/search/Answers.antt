@@ -20,7 +20,7 @@ slice_bounds-search-end-4 c = sym (length-take-le _ _ (search rules))
 pub pack-nodes-requires : goal.pack-nodes-requires
 pack-nodes-requires c =
     kept-in-room _ _ _ _ _ _ c.search-answer.ensures
-    c.search-answer.auto.1.1.1.1.1.1.1.1.1.1.0 (cut-room _ _ _
+    c.search-answer.auto.codes (cut-room _ _ _
     c.room_of-least.ensures
     c.bytes-codes.ensures)
     c.kept_in-count.ensures
@@ -46,7 +46,7 @@ returns c =
       sizes-given = cut-room _ _ _
           c.room_of-least.ensures
           c.bytes-sizes.ensures;
-      codes-left = c.search-answer.auto.1.1.1.1.1.1.1.1.1.1.0;
+      codes-left = c.search-answer.auto.codes;
       old-is = refl;
       new_is = refl;
       kept-is = c.kept_in-count.ensures;

@@ -13,7 +13,7 @@ bounds-out-8 c = simp length-set (omega arith)
 
 pub shape_of-out-then-after-eq1 : goal.shape_of-out-then-after-eq1
 shape_of-out-then-after-eq1 c =
-    c.tell_found.auto.1.0 ∙ counted-long c.args.after
+    c.tell_found.auto.out ∙ counted-long c.args.after
     c.args.out.now
 
 pub returns-then-after-eq1 : goal.returns-then-after-eq1

@@ -37,9 +37,9 @@ loop-turn-smaller c =
 pub loop-turn-preserved : goal.loop-turn-preserved
 loop-turn-preserved c = (
   omega (arith, c.loop-turn-test.true),
-  (c.resume-answer.auto.1.1.1.1.1.1.1.1.1.1.1.1.0 ∙ c.loop-turn.invariant.1),
-  (c.resume-answer.auto.1.1.1.1.1.1.1.1.1.1.1.1.1.0 ∙ c.loop-turn.invariant.2),
-  (c.resume-answer.auto.1.1.1.1.1.1.1.1.1.1.1.1.1.1.0 ∙ c.loop-turn.invariant.3),
-  (c.resume-answer.auto.1.1.1.1.1.1.1.1.1.1.1.1.1.1.1.0 ∙ c.loop-turn.invariant.4),
-  (c.resume-answer.auto.1.1.1.1.1.1.1.1.1.1.1.1.1.1.1.1.0 ∙ c.loop-turn.invariant.5),
+  (c.resume-answer.auto.codes ∙ c.loop-turn.invariant.1),
+  (c.resume-answer.auto.lefts ∙ c.loop-turn.invariant.2),
+  (c.resume-answer.auto.rights ∙ c.loop-turn.invariant.3),
+  (c.resume-answer.auto.sizes ∙ c.loop-turn.invariant.4),
+  (c.resume-answer.auto.matrices ∙ c.loop-turn.invariant.5),
 )

@@ -18,19 +18,19 @@ returns-then-number-ne0 c =
     record { decided = rows_all i t a.state _ _ c.refusal-refused.ensures c.then_state-number.ensures; outcome = (pos-of-ne _ c.if-number-ne0.true, refl) }
 
 pub shape_of-codes : goal.shape_of-codes
-shape_of-codes c = c.go_on-after.auto.1.1.1.1.1.1.1.1.1.1.1.1.0
+shape_of-codes c = c.go_on-after.auto.codes
 
 pub shape_of-lefts : goal.shape_of-lefts
-shape_of-lefts c = c.go_on-after.auto.1.1.1.1.1.1.1.1.1.1.1.1.1.0
+shape_of-lefts c = c.go_on-after.auto.lefts
 
 pub shape_of-rights : goal.shape_of-rights
-shape_of-rights c = c.go_on-after.auto.1.1.1.1.1.1.1.1.1.1.1.1.1.1.0
+shape_of-rights c = c.go_on-after.auto.rights
 
 pub shape_of-sizes : goal.shape_of-sizes
-shape_of-sizes c = c.go_on-after.auto.1.1.1.1.1.1.1.1.1.1.1.1.1.1.1.0
+shape_of-sizes c = c.go_on-after.auto.sizes
 
 pub shape_of-matrices : goal.shape_of-matrices
-shape_of-matrices c = c.go_on-after.auto.1.1.1.1.1.1.1.1.1.1.1.1.1.1.1.1.0
+shape_of-matrices c = c.go_on-after.auto.matrices
 
 pub returns : goal.returns
 returns c =

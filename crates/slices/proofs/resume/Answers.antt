@@ -14,19 +14,19 @@ returns-then-budget-gt-BUDGET c =
     record { decided = rows-budget i t a.state a.budget _ c.if-budget-gt-BUDGET.true c.one_or_two.ensures; outcome = (one-or-two-some _ _ _ c.one_or_two.ensures, refl) }
 
 pub shape_of-codes : goal.shape_of-codes
-shape_of-codes c = c.advance.auto.1.1.1.1.1.1.1.1.1.1.1.1.0
+shape_of-codes c = c.advance.auto.codes
 
 pub shape_of-lefts : goal.shape_of-lefts
-shape_of-lefts c = c.advance.auto.1.1.1.1.1.1.1.1.1.1.1.1.1.0
+shape_of-lefts c = c.advance.auto.lefts
 
 pub shape_of-rights : goal.shape_of-rights
-shape_of-rights c = c.advance.auto.1.1.1.1.1.1.1.1.1.1.1.1.1.1.0
+shape_of-rights c = c.advance.auto.rights
 
 pub shape_of-sizes : goal.shape_of-sizes
-shape_of-sizes c = c.advance.auto.1.1.1.1.1.1.1.1.1.1.1.1.1.1.1.0
+shape_of-sizes c = c.advance.auto.sizes
 
 pub shape_of-matrices : goal.shape_of-matrices
-shape_of-matrices c = c.advance.auto.1.1.1.1.1.1.1.1.1.1.1.1.1.1.1.1.0
+shape_of-matrices c = c.advance.auto.matrices
 
 pub returns : goal.returns
 returns c =

@@ -4,4 +4,4 @@ use Rattle.turns.proofs.masks_for.Goals as goal
 pub returns : goal.returns
 returns c =
     let w = c.masks_of in
-    record { long = w.auto.1.1.0; done = w.result; answer = w.ensures }
+    record { long = w.auto.masks; done = w.result; answer = w.ensures }

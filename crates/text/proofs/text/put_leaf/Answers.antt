@@ -22,11 +22,7 @@ put_name-requires c =
     (r.good, omega arith)
 
 pub returns-then-node-eq-PROPOSITION : goal.returns-then-node-eq-PROPOSITION
-<<<<<<< HEAD
-returns-then-node-eq-PROPOSITION c k =
-=======
 returns-then-node-eq-PROPOSITION c = λ k.
->>>>>>> 256b3641c0c68df0a925e43b33f066fc3eae977d
     let a = c.args in
     let r = c.requires.1 in
     let few = few-names a.names.now r.good in
@@ -37,20 +33,12 @@ returns-then-node-eq-PROPOSITION c = λ k.
     known_written a.names.now k (node_of a.node) (proposition-text a.names.now k (node_of a.node) c.if-node-eq-PROPOSITION.true) w
 
 pub returns-then-node-eq-FALSE : goal.returns-then-node-eq-FALSE
-<<<<<<< HEAD
-returns-then-node-eq-FALSE c k =
-=======
 returns-then-node-eq-FALSE c = λ k.
->>>>>>> 256b3641c0c68df0a925e43b33f066fc3eae977d
     let a = c.args in
     known_written a.names.now k (node_of a.node) (false_text a.names.now k (node_of a.node) c.if-node-eq-FALSE.true) c.put.ensures
 
 pub returns : goal.returns
-<<<<<<< HEAD
-returns c k =
-=======
 returns c = λ k.
->>>>>>> 256b3641c0c68df0a925e43b33f066fc3eae977d
     let a = c.args in
     known_written a.names.now k (node_of a.node) (true_text a.names.now k (node_of a.node)
     (true-code _ _ _ (node_of a.node) c.requires.1.fits c.requires.2 c.requires.3 c.if-node-eq-PROPOSITION.false
