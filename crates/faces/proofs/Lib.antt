@@ -1,4 +1,3 @@
--- An array in a local of a walked function; uniqueness.
-pub mod LocalArray
+-- Uniqueness.
 pub mod Unique
 pub mod OneParse

@@ -3,12 +3,13 @@ use mathlib.Core.Path.{◌≡◌}
 use Prim.Native.Nat.{ℕ}
 use native.Mathlib.Omega.{arith}
 use lib.ListN.{length-replicate, replicate}
+use Rattle.file.specs.declared.ReadAnswer.TheVariants.{Parts}
 use Rattle.file.specs.Reading.{Lent, lent, said_read, read_after, read_of}
 use Rattle.file.proofs.Numbers.{Bytes}
 use Rattle.lines.proofs.Handed.{Wide, Handed, handed, never-room}
 use Rattle.suspicion.proofs.Answered.{good-said, broken-said}
 use Rattle.suspicion.proofs.of_typed.Goals as goal
-use Rattle.suspicion.proofs.of_typed.Goals.{After-read-read, After-shared_slice_known-2-1, In-Parts-2}
+use Rattle.suspicion.proofs.of_typed.Goals.{After-read-read}
 
 blank : Lent
 blank = lent (replicate 32 0) (replicate 32 0) (replicate 512 0) (replicate 5 0) (replicate 6 0)
@@ -24,75 +25,74 @@ wide = record {
 }
 
 -- the file is one of bytes
-bytes : (c : After-shared_slice_known-2-1) → Bytes c.args.file.now
-bytes c i = omega (arith, c.type_inv.file i)
+bytes : (d : After-read-read) → Bytes d.args.file.now
+bytes d i = omega (arith, d.type_inv.file i)
 
 -- what the reader leaves in the arrays
 left : After-read-read → Lent
-left c = let l = c.read-read.new.1 in lent l.0 l.1.0 l.1.1.0 l.1.1.1.0 l.1.1.1.1.0
+left d = let l = d.read-read.new in lent l.marks l.lengths l.words l.unary l.binary
 
-ran : (c : After-read-read)
-    → read_after (said_read c.read-read.result) (left c).marks (left c).lengths (left c).words (left c).unary (left c).binary
-    ≡ read_of c.args.file.now blank
+ran : (d : After-read-read)
+    → read_after (said_read d.read-read.result) (left d).marks (left d).lengths (left d).words (left d).unary (left d).binary
+    ≡ read_of d.args.file.now blank
 unfolding blank left
-ran c = c.read-read.ensures
+ran d = d.read-read.ensures
 
 -- a good file's parts, and where they are
-abbrev Parted : After-read-read → ℕ → ℕ → ℕ → ℕ → ℕ → ℕ → ℕ → Type 0
-Parted c = Handed c.args.file.now (bytes c) blank wide
-    c.read-read.result (left c).marks (left c).lengths (left c).words (left c).unary (left c).binary (ran c)
-
-here : (c : In-Parts-2) → (let v = c.read-1.given.0 in
-    Parted c v.0 v.1.0 v.1.1.0 v.1.1.1.0 v.1.1.1.1.0 v.1.1.1.1.1.0 v.1.1.1.1.1.1.0)
-here c =
-    
-    handed c.args.file.now (bytes c) blank wide
-    c.read-read.result (left c).marks (left c).lengths (left c).words (left c).unary (left c).binary (ran c) c.in-Parts.is
+here : (d : After-read-read) (r m n u b constants bound : ℕ) → d.read-read.result ≡ Parts r m n u b constants bound
+    → Handed d.args.file.now (bytes d) blank wide
+    d.read-read.result (left d).marks (left d).lengths (left d).words (left d).unary (left d).binary (ran d) r m n u b constants bound
+here d r m n u b constants bound e =
+    handed d.args.file.now (bytes d) blank wide
+    d.read-read.result (left d).marks (left d).lengths (left d).words (left d).unary (left d).binary (ran d) e
 
 pub slice_bounds-judged-end : goal.slice_bounds-judged-end
-slice_bounds-judged-end c = (here (goal.at.slice_bounds-judged-end c).In-Parts-2).names-long
+slice_bounds-judged-end c = (here (goal.at.slice_bounds-judged-end c).After-read-read _ _ _ _ _ _ _ c.in-Parts.is).names-long
 
 pub slice_bounds-marks-end : goal.slice_bounds-marks-end
 unfolding left
-slice_bounds-marks-end c = (here (goal.at.slice_bounds-marks-end c).In-Parts-2).all-marks.there
+slice_bounds-marks-end c = (here (goal.at.slice_bounds-marks-end c).After-read-read _ _ _ _ _ _ _ c.in-Parts.is).all-marks.there
 
 pub slice_bounds-judged-end-in-Parts : goal.slice_bounds-judged-end-in-Parts
 unfolding left
-slice_bounds-judged-end-in-Parts c = (here (goal.at.slice_bounds-judged-end-in-Parts c).In-Parts-2).all-marks.long
+slice_bounds-judged-end-in-Parts c = (here (goal.at.slice_bounds-judged-end-in-Parts c).After-read-read _ _ _ _ _ _ _ c.in-Parts.is).all-marks.long
 
 pub slice_bounds-lengths-end : goal.slice_bounds-lengths-end
 unfolding left
-slice_bounds-lengths-end c = (here (goal.at.slice_bounds-lengths-end c).In-Parts-2).all-lengths.there
+slice_bounds-lengths-end c = (here (goal.at.slice_bounds-lengths-end c).After-read-read _ _ _ _ _ _ _ c.in-Parts.is).all-lengths.there
 
 pub slice_bounds-judged-end-in-Parts-2 : goal.slice_bounds-judged-end-in-Parts-2
 unfolding left
-slice_bounds-judged-end-in-Parts-2 c = (here (goal.at.slice_bounds-judged-end-in-Parts-2 c).In-Parts-2).all-lengths.long
+slice_bounds-judged-end-in-Parts-2 c = (here (goal.at.slice_bounds-judged-end-in-Parts-2 c).After-read-read _ _ _ _ _ _ _ c.in-Parts.is).all-lengths.long
 
 pub overflow_mul-words : goal.overflow_mul-words
-overflow_mul-words c = omega (arith, (here (goal.at.overflow_mul-words c).In-Parts-2).small)
+overflow_mul-words c = omega (arith, (here (goal.at.overflow_mul-words c).After-read-read _ _ _ _ _ _ _ c.in-Parts.is).small)
 
 pub slice_bounds-words-end : goal.slice_bounds-words-end
 unfolding left
-slice_bounds-words-end c = (here (goal.at.slice_bounds-words-end c).In-Parts-2).all_words.there
+slice_bounds-words-end c = (here (goal.at.slice_bounds-words-end c).After-read-read _ _ _ _ _ _ _ c.in-Parts.is).all_words.there
 
 pub slice_bounds-judged-end-in-Parts-3 : goal.slice_bounds-judged-end-in-Parts-3
 unfolding left
-slice_bounds-judged-end-in-Parts-3 c = (here (goal.at.slice_bounds-judged-end-in-Parts-3 c).In-Parts-2).all_words.long
+slice_bounds-judged-end-in-Parts-3 c = (here (goal.at.slice_bounds-judged-end-in-Parts-3 c).After-read-read _ _ _ _ _ _ _ c.in-Parts.is).all_words.long
 
 pub returns-in-Parts : goal.returns-in-Parts
 unfolding left
 returns-in-Parts c =
-    good-said c.args.file.now (bytes (goal.at.returns-in-Parts c).After-shared_slice_known-2-1) blank wide
-    c.read-read.result (left (goal.at.returns-in-Parts c).After-read-read).marks (left (goal.at.returns-in-Parts c).After-read-read).lengths (left (goal.at.returns-in-Parts c).After-read-read).words (left (goal.at.returns-in-Parts c).After-read-read).unary (left (goal.at.returns-in-Parts c).After-read-read).binary
-    (ran (goal.at.returns-in-Parts c).After-read-read) c.args.typed.now (here (goal.at.returns-in-Parts c).In-Parts-2) c.judged.ensures
+    let d = (goal.at.returns-in-Parts c).After-read-read in
+    good-said c.args.file.now (bytes d) blank wide
+    c.read-read.result (left d).marks (left d).lengths (left d).words (left d).unary (left d).binary
+    (ran d) c.args.typed.now (here d _ _ _ _ _ _ _ c.in-Parts.is) c.judged.ensures
 
 pub returns-in-Broken : goal.returns-in-Broken
 returns-in-Broken c =
-    broken-said c.args.file.now (bytes (goal.at.returns-in-Broken c).After-shared_slice_known-2-1) blank wide
-    c.read-read.result (left (goal.at.returns-in-Broken c).After-read-read).marks (left (goal.at.returns-in-Broken c).After-read-read).lengths (left (goal.at.returns-in-Broken c).After-read-read).words (left (goal.at.returns-in-Broken c).After-read-read).unary (left (goal.at.returns-in-Broken c).After-read-read).binary
-    (ran (goal.at.returns-in-Broken c).After-read-read) c.args.typed.now c.in-Broken.is c.refused_at.ensures
+    let d = (goal.at.returns-in-Broken c).After-read-read in
+    broken-said c.args.file.now (bytes d) blank wide
+    c.read-read.result (left d).marks (left d).lengths (left d).words (left d).unary (left d).binary
+    (ran d) c.args.typed.now c.in-Broken.is c.refused_at.ensures
 
 pub returns-in-Room : goal.returns-in-Room
 returns-in-Room c =
-    absurd (never-room c.args.file.now (bytes (goal.at.returns-in-Room c).After-shared_slice_known-2-1) blank wide
-    c.read-read.result (left (goal.at.returns-in-Room c).After-read-read).marks (left (goal.at.returns-in-Room c).After-read-read).lengths (left (goal.at.returns-in-Room c).After-read-read).words (left (goal.at.returns-in-Room c).After-read-read).unary (left (goal.at.returns-in-Room c).After-read-read).binary (ran (goal.at.returns-in-Room c).After-read-read) c.in-Room.is)
+    let d = (goal.at.returns-in-Room c).After-read-read in
+    absurd (never-room c.args.file.now (bytes d) blank wide
+    c.read-read.result (left d).marks (left d).lengths (left d).words (left d).unary (left d).binary (ran d) c.in-Room.is)

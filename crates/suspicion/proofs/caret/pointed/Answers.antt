@@ -12,9 +12,6 @@ use Rattle.suspicion.specs.Caret.{caret}
 use Rattle.suspicion.proofs.Typed.{take-replicate}
 use Rattle.suspicion.proofs.caret.pointed.Goals as goal
 
-slice-aggregate-put-2 : tie.Need-slice-aggregate-put-2
-slice-aggregate-put-2 c = sym (length-take-le _ _ (omega (arith, length-replicate {A = ℕ} 4096 32)))
-
 pub returns : goal.returns
 returns c =
     let a = c.args in wrote-both (((a.typed.now ++ newline) ++ replicate a.at 32) ++ caret) (refused_at_line a.number
