@@ -9,7 +9,7 @@ use Rattle.state.proofs.wrong.Goals.{Else-kept-state-2}
 
 others : (c : Else-kept-state-2) → let a = c.args in Others a.bound a.room a.state
 others c = record {
-  kept_in = omega (arith, c.if-room-kept.false);
+  kept_in = omega arith;
   kept-tried = omega (arith, c.if-state-kept.false);
   size_in = (omega (arith, c.if-state-lt1.false), omega (arith, c.if-bound-state.false));
   left_in = omega (arith, c.if-kept-state.false);
