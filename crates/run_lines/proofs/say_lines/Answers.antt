@@ -1,11 +1,6 @@
 -- `say_lines` is safe: the lines are within the text.
-use mathlib.Core.Path.{sym}
-use lib.Seq.{length-take-le}
 use Rattle.lines.proofs.Unique.{lines-in}
 use Rattle.run_lines.proofs.say_lines.Goals as goal
 
 pub slice_bounds-text-end : goal.slice_bounds-text-end
-slice_bounds-text-end c = lines-in c.of_file-length.ensures
-
-pub slice_bounds-say-end : goal.slice_bounds-say-end
-slice_bounds-say-end c = sym (length-take-le _ _ (lines-in c.of_file-length.ensures))
+slice_bounds-text-end g c = lines-in c.of_file-length.ensures
