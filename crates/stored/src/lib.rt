@@ -5,7 +5,7 @@
 #![tactic(auto)]
 
 ghost use Rattle.std.specs.Prelude.{◌≡◌, ◌-◌, ◌/◌, ◌<◌, ◌≤◌, ◌++◌, ◌∷◌, [], IfOk, OnOk, decimal, length};
-ghost use Rattle.std.specs.Io.KnownBytes.{Appends};
+ghost use Rattle.std.specs.Io.KnownBytes.{Appends, Consumes, IsAtEnd};
 ghost use Rattle.stored.specs.Digits.{IsDigitCount};
 ghost use Rattle.stored.specs.Lists.{listed};
 
@@ -58,7 +58,9 @@ fn part(text: &[u8], number: usize, end: u8) -> &[u8]
 
 // Standard input, as much of it as there is room for.
 pub fn input<'a, R: Read>(from: &mut R, room: &'a mut [u8]) -> io::Result<&'a mut [u8]>
-    ensures { IfOk result (λ r. length r.now ≤ length room.old) }
+    ensures within { IfOk result (λ r. length r.now ≤ length room.old) }
+    ensures taken { IfOk result (λ r. Consumes (R.remaining from.old) (R.remaining from.new) r.now) }
+    ensures ended { IfOk result (λ r. length r.now < length room.old → IsAtEnd (R.remaining from.new)) }
 {
     let n = whole_input::fill(from, room)?;
     Ok(&mut room[..n])
