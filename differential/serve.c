@@ -1,5 +1,5 @@
-/* Answers calls to the C boundary over standard input and output, so that the archive that ships can be asked on a machine that can't link it:
-   the program runs under the kit's emulator. A call is the function's number, 8 scalars and the counts of 12 slices, as 64-bit words, then the
+/* Answers calls to the C boundary over standard input and output, so that the archive that ships is asked as a C program has it, linked by the kit's own
+   linker to its C library. A call is the function's number, 8 scalars and the counts of 12 slices, as 64-bit words, then the
    slices; the answer is one word, then all slices as they stand afterwards. No header is needed. */
 typedef unsigned char u8;
 typedef unsigned short u16;

@@ -1,7 +1,7 @@
 /*
  * Scarfpylon: learns temporal patterns from recorded sessions.
  *
- * Link with target/staticlib/libscarfpylon.a, which `rt staticlib scarfpylon` writes (x86-64 Linux). The library keeps nothing between calls, takes
+ * Link with crates/scarfpylon/out/libscarfpylon.a, which `rt lib` in crates/scarfpylon writes (x86-64 Linux). The library keeps nothing between calls, takes
  * no memory but the stack (scarfpylon_parse up to 1.5 MB of it, for a text of 4,096 brackets), and of the C library needs only memcpy and memset. Every
  * function is defined for every input: what it returns and what it writes are proved (crates/scarfpylon and crates/out_*). examples/c/s1.c is a whole program.
  *

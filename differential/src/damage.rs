@@ -1,6 +1,7 @@
 //! Damaged session files: what the compiled bench writes, byte by byte, against a judge written from document 01's prose.
 use std::collections::BTreeMap;
 use std::io::{ErrorKind, Read, Write};
+use std::path::Path;
 use std::process::{Command, Stdio};
 use std::sync::atomic::{AtomicUsize, Ordering};
 use std::sync::Mutex;
@@ -8,7 +9,7 @@ use std::thread;
 use std::time::{Duration, Instant};
 
 use crate::judge::{judge, RESERVED, ROOM};
-use crate::program;
+use crate::program::{path, root};
 use crate::words::Random;
 
 /// S1 of document 01.
@@ -20,8 +21,7 @@ const S1: [u8; 40] = [
 /// The largest good file.
 const LARGEST: usize = 4450;
 
-/// How many units of work (one operator on one session) a walk may cost, so that the run ends in reasonable time under an emulator. A
-/// few files are asked whatever they cost.
+/// How many units of work (one operator on one session) a walk may cost, so that the run ends in reasonable time. A few files are asked whatever they cost.
 const SHORT_WALK: u64 = 3_000;
 const ANY_WALK: u64 = 40_000_000;
 
@@ -282,10 +282,9 @@ fn files(count: usize) -> Vec<Question> {
 }
 
 /// What the program writes, and how it ends, when it is handed this file.
-fn output(words: &[String], question: &Question) -> Result<Vec<u8>, String> {
-    let mut child = Command::new(&words[0])
-        .args(&words[1..])
-        .current_dir(program::root())
+fn output(program: &Path, question: &Question) -> Result<Vec<u8>, String> {
+    let mut child = Command::new(program)
+        .current_dir(root())
         .stdin(Stdio::piped())
         .stdout(Stdio::piped())
         .stderr(Stdio::piped())
@@ -336,8 +335,8 @@ struct Difference {
 }
 
 pub fn run(count: usize) -> i32 {
-    let words = match program::words("bench") {
-        Ok(words) => words,
+    let bench = match path("bench") {
+        Ok(bench) => bench,
         Err(error) => {
             eprintln!("damage: {error}");
             return 1;
@@ -366,7 +365,7 @@ pub fn run(count: usize) -> i32 {
                 };
                 *kinds.lock().unwrap().entry(verdict.kind()).or_default() += 1;
                 let judged = verdict.output();
-                let said = match output(&words, question) {
+                let said = match output(&bench, question) {
                     Ok(said) => String::from_utf8_lossy(&said).into_owned(),
                     Err(error) => error,
                 };

@@ -1,4 +1,4 @@
-//! Runs our compiled program on lines of text, by the script that knows how the kit runs programs here.
+//! Runs our compiled program on lines of text.
 use std::io::Write;
 use std::path::PathBuf;
 use std::process::{Command, Stdio};
@@ -10,29 +10,20 @@ pub fn root() -> PathBuf {
     PathBuf::from(project).join("..")
 }
 
-/// The words of the command that runs a program, for a caller that runs it many times.
-pub fn words(name: &str) -> Result<Vec<String>, String> {
-    let output = Command::new("sh")
-        .args(["differential/run-program", "--words", name])
-        .current_dir(root())
-        .output()
-        .map_err(|error| format!("{name} can't be started: {error}"))?;
-    if !output.status.success() || !root().join("target/bin").join(name).is_file() {
+/// Where rt puts a program that it has proved.
+pub fn path(name: &str) -> Result<PathBuf, String> {
+    let path = root().join("crates").join(name).join("out").join(name);
+    if !path.is_file() {
         return Err(format!(
-            "there is no target/bin/{name}: rt check {name} proves and builds it"
+            "there is no crates/{name}/out/{name}: sh differential/program {name} proves and builds it"
         ));
     }
-    Ok(String::from_utf8_lossy(&output.stdout)
-        .lines()
-        .map(str::to_string)
-        .collect())
+    Ok(path)
 }
 
 /// Everything that the program writes when it is given these bytes.
 pub fn output(name: &str, input: Vec<u8>) -> Result<Vec<u8>, String> {
-    let mut child = Command::new("sh")
-        .arg("differential/run-program")
-        .arg(name)
+    let mut child = Command::new(path(name)?)
         .current_dir(root())
         .stdin(Stdio::piped())
         .stdout(Stdio::piped())

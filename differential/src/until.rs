@@ -61,7 +61,7 @@ fn forms() -> Result<Vec<Form>, String> {
     if !made.is_ok_and(|status| status.success()) {
         return Err("sh differential/forms failed".to_string());
     }
-    let library = Library::load(&root().join("target/native/libuntil.so"))?;
+    let library = Library::load(&root().join("out/native/libuntil.so"))?;
     FORMS
         .iter()
         .map(|name| {

@@ -53,9 +53,11 @@ module _ (m : ℕ) where
 
   later : (s : FileSession) (ss : List FileSession) (rest : List ℕ) → GoodSession m s → drop (2 + 8 * m) (flat_map session_bytes (s ∷ ss) ++ rest) ≡ flat_map session_bytes ss ++ rest
   unfolding flat_map
-  later s ss rest g = ap (drop (2 + 8 * m)) (append_assoc (session_bytes s) (flat_map session_bytes ss) rest) ∙ drop_at (session_bytes s) (flat_map session_bytes ss ++ rest) (2 + 8 * m) (length-session s g)
+  later s ss rest g = ap (drop (2 + 8 * m)) (append_assoc (session_bytes s) (flat_map session_bytes ss) rest)
+      ∙ drop_at (session_bytes s) (flat_map session_bytes ss ++ rest) (2 + 8 * m) (length-session s g)
 
-  pub marks-there : (ss before : List FileSession) (rest : List ℕ) → Each (λ _ s. GoodSession m s) before ss → strided (2 + 8 * m) (length ss) (flat_map session_bytes ss ++ rest) ≡ map (λ s. s.mark) ss
+  pub marks-there : (ss before : List FileSession) (rest : List ℕ) → Each (λ _ s. GoodSession m s) before ss
+      → strided (2 + 8 * m) (length ss) (flat_map session_bytes ss ++ rest) ≡ map (λ s. s.mark) ss
   unfolding strided flat_map Each
   marks-there [] before rest e = refl
   marks-there (s ∷ ss) before rest e = ap (λ (l : List ℕ). s.mark ∷ l) (ap (strided (2 + 8 * m) (length ss)) (later s ss rest e.0) ∙ marks-there ss (before ++ (s ∷ [])) rest e.1)

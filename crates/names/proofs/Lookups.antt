@@ -89,7 +89,8 @@ module _ (file word : List ℕ) (count : ℕ) where
 
   module _ {j : ℕ} (r : Missed file word count j) where
     missed-step : j < count → find_from j word (names_from file (count - j) (walk_end file j 1))
-        ≡ cond (same_bytes word (take (get_or file (walk_end file j 1) 0) (drop (walk_end file j 1 + 1) file))) (At j) (find_from (j + 1) word (names_from file (count - (j + 1)) (walk_end file (j + 1) 1)))
+        ≡ cond (same_bytes word (take (get_or file (walk_end file j 1) 0) (drop (walk_end file j 1 + 1) file))) (At j)
+        (find_from (j + 1) word (names_from file (count - (j + 1)) (walk_end file (j + 1) 1)))
     unfolding find_from
     missed-step h =
         let m : count - j ≡ suc (count - (j + 1)) = omega arith in

@@ -15,7 +15,8 @@ use Rattle.split.specs.declared.Cursor.{Cursor}
 use Rattle.split.specs.declared.Step.TheVariants.{Candidate}
 use Rattle.order.specs.Size.{Layer, layer_of, first_place}
 use Rattle.split.specs.Split.{range, cursor, column, part_from}
-use Rattle.order.specs.Ahead.{leaf_cursor, left_start, left_end, right_start, right_end, split_codes, split_cursors, part_ahead, parts_ahead, ahead, candidate_at, next_cursor, rest, first, cursor_after}
+use Rattle.order.specs.Ahead.{leaf_cursor, left_start, left_end, right_start, right_end, split_codes, split_cursors, part_ahead, parts_ahead, ahead}
+use Rattle.order.specs.Ahead.{candidate_at, next_cursor, rest, first, cursor_after}
 use Rattle.order.specs.Steps.{Rises, CursorWithin, Steps}
 use Rattle.split.proofs.Loops.{resume-in, resume-out}
 use Rattle.order.proofs.Lists.{each-range}

@@ -6,22 +6,32 @@
 #![tactic(auto)]
 
 use file::ReadAnswer;
+use std::io;
+use std::io::Write;
 use stored::{say, say_number};
 
-fn say_counts(sessions: u64, propositions: u64, names: u64) {
-    say_number(b"r ", sessions);
-    say_number(b" m ", propositions);
-    say_number(b" names ", names);
+fn say_counts(to: &mut impl Write, sessions: u64, propositions: u64, names: u64) -> io::Result<()> {
+    say_number(to, b"r ", sessions)?;
+    say_number(to, b" m ", propositions)?;
+    say_number(to, b" names ", names)?;
+    Ok(())
 }
 
-fn say_settings(unary: u64, binary: u64, constants: u64, bound: u64) {
-    say_number(b" unary ", unary);
-    say_number(b" binary ", binary);
-    say_number(b" constants ", constants);
-    say_number(b" bound ", bound);
+fn say_settings(
+    to: &mut impl Write,
+    unary: u64,
+    binary: u64,
+    constants: u64,
+    bound: u64,
+) -> io::Result<()> {
+    say_number(to, b" unary ", unary)?;
+    say_number(to, b" binary ", binary)?;
+    say_number(to, b" constants ", constants)?;
+    say_number(to, b" bound ", bound)?;
+    Ok(())
 }
 
-fn say_answer(answer: ReadAnswer) {
+fn say_answer(to: &mut impl Write, answer: ReadAnswer) -> io::Result<()> {
     match answer {
         ReadAnswer::Parts {
             sessions,
@@ -32,31 +42,48 @@ fn say_answer(answer: ReadAnswer) {
             constants,
             bound,
         } => {
-            say_counts(sessions as u64, propositions as u64, names as u64);
-            say_settings(unary as u64, binary as u64, constants as u64, bound as u64);
+            say_counts(to, sessions as u64, propositions as u64, names as u64)?;
+            say_settings(
+                to,
+                unary as u64,
+                binary as u64,
+                constants as u64,
+                bound as u64,
+            )?;
         }
         ReadAnswer::Broken(o) => {
-            say_number(b"refused 8 at ", o as u64);
+            say_number(to, b"refused 8 at ", o as u64)?;
         }
         ReadAnswer::Room => {
-            say(b"refused 3");
+            say(to, b"refused 3")?;
         }
     }
+    Ok(())
 }
 
-fn say_lent(line: &[u8], marks: &[u8], lengths: &[u8], words: &[u64], unary: &[u8], binary: &[u8]) {
+fn say_lent(
+    to: &mut impl Write,
+    line: &[u8],
+    marks: &[u8],
+    lengths: &[u8],
+    words: &[u64],
+    unary: &[u8],
+    binary: &[u8],
+) -> io::Result<()> {
     let after = stored::field(line, 6);
     if after.len() == 0 {
-        return;
+        return Ok(());
     }
-    stored::say_bytes(marks);
-    stored::say_bytes(lengths);
-    stored::say_words(words);
-    stored::say_bytes(unary);
-    stored::say_bytes(binary);
+    stored::say_bytes(to, marks)?;
+    stored::say_bytes(to, lengths)?;
+    stored::say_words(to, words)?;
+    stored::say_bytes(to, unary)?;
+    stored::say_bytes(to, binary)?;
+    Ok(())
 }
 
 fn read(
+    to: &mut impl Write,
     line: &[u8],
     file: &[u8],
     marks: &mut [u8],
@@ -64,13 +91,14 @@ fn read(
     words: &mut [u64],
     unary: &mut [u8],
     binary: &mut [u8],
-) {
-    say_answer(file::read(file, marks, lengths, words, unary, binary));
-    say_lent(line, marks, lengths, words, unary, binary);
-    say(b"\n");
+) -> io::Result<()> {
+    say_answer(to, file::read(file, marks, lengths, words, unary, binary))?;
+    say_lent(to, line, marks, lengths, words, unary, binary)?;
+    say(to, b"\n")?;
+    Ok(())
 }
 
-fn lend(line: &[u8], file: &[u8]) {
+fn lend(to: &mut impl Write, line: &[u8], file: &[u8]) -> io::Result<()> {
     let mut marks = [0u8; 32];
     let mut lengths = [0u8; 32];
     let mut words = [0u64; 512];
@@ -81,31 +109,32 @@ fn lend(line: &[u8], file: &[u8]) {
     let words = stored::words(line, 3, &mut words);
     let unary = stored::bytes(line, 4, &mut unary);
     let binary = stored::bytes(line, 5, &mut binary);
-    read(line, file, marks, lengths, words, unary, binary);
+    read(to, line, file, marks, lengths, words, unary, binary)
 }
 
-fn example(line: &[u8]) {
+fn example(to: &mut impl Write, line: &[u8]) -> io::Result<()> {
     if line.len() == 0 {
-        return;
+        return Ok(());
     }
     if line[0] == b'#' {
-        say(line);
-        say(b"\n");
-        return;
+        say(to, line)?;
+        say(to, b"\n")?;
+        return Ok(());
     }
     let mut file = [0u8; 4500];
     let file = stored::hex(line, 0, &mut file);
-    lend(line, file);
+    lend(to, line, file)
 }
 
-fn examples(text: &[u8]) {
+fn examples(to: &mut impl Write, text: &[u8]) -> io::Result<()> {
     for number in 0..stored::lines(text) {
-        example(stored::line(text, number));
+        example(to, stored::line(text, number))?;
     }
+    Ok(())
 }
 
-fn main() {
+fn main(rt: HostRuntime) -> io::Result<()> {
     let mut room = [0u8; 65536];
-    let text = stored::input(&mut room);
-    examples(text);
+    let text = stored::input(&mut rt.stdin(), &mut room)?;
+    examples(&mut rt.stdout(), text)
 }

@@ -10,6 +10,8 @@
 
 use formula::kinds::Node;
 use rules::kinds::Place;
+use std::io;
+use std::io::Write;
 use stored::{say, say_number};
 use text::Printed;
 use verdict::Verdict;
@@ -28,22 +30,24 @@ fn node(line: &[u8], number: usize) -> Node {
     }
 }
 
-fn say_verdict(v: Verdict) {
+fn say_verdict(to: &mut impl Write, v: Verdict) -> io::Result<()> {
     match v {
         Verdict::Accepted => {
-            say(b"accepted");
+            say(to, b"accepted")?;
         }
         Verdict::Disagrees(j) => {
-            say_number(b"disagrees ", j.0 as u64);
+            say_number(to, b"disagrees ", j.0 as u64)?;
         }
         Verdict::Refused(k) => {
-            say_number(b"refused ", k as u64);
+            say_number(to, b"refused ", k as u64)?;
         }
     }
-    say(b"\n");
+    say(to, b"\n")?;
+    Ok(())
 }
 
 fn check(
+    to: &mut impl Write,
     line: &[u8],
     codes: &[u8],
     lefts: &[u16],
@@ -52,62 +56,84 @@ fn check(
     marks: &[u8],
     lengths: &[u8],
     words: &[u64],
-) {
+) -> io::Result<()> {
     let mut head = [0u64; 2];
     stored::words(line, 0, &mut head);
     let root = node(line, 8);
-    say_verdict(verdict::check(
-        head[0] as usize,
-        head[1] as usize,
-        marks,
-        lengths,
-        words,
-        codes,
-        lefts,
-        rights,
-        sizes,
-        root,
-    ));
+    say_verdict(
+        to,
+        verdict::check(
+            head[0] as usize,
+            head[1] as usize,
+            marks,
+            lengths,
+            words,
+            codes,
+            lefts,
+            rights,
+            sizes,
+            root,
+        ),
+    )
 }
 
-fn check_nodes(line: &[u8], codes: &[u8], lefts: &[u16], rights: &[u16], sizes: &[u8]) {
+fn check_nodes(
+    to: &mut impl Write,
+    line: &[u8],
+    codes: &[u8],
+    lefts: &[u16],
+    rights: &[u16],
+    sizes: &[u8],
+) -> io::Result<()> {
     let mut marks = [0u8; 64];
     let mut lengths = [0u8; 64];
     let mut words = [0u64; 1024];
     let marks = stored::bytes(line, 1, &mut marks);
     let lengths = stored::bytes(line, 2, &mut lengths);
     let words = stored::words(line, 3, &mut words);
-    check(line, codes, lefts, rights, sizes, marks, lengths, words);
+    check(to, line, codes, lefts, rights, sizes, marks, lengths, words)
 }
 
-fn say_printed(p: Printed) {
+fn say_printed(to: &mut impl Write, p: Printed) -> io::Result<()> {
     match p {
         Printed::Text(n) => {
-            say_number(b"text ", n as u64);
+            say_number(to, b"text ", n as u64)?;
         }
         Printed::Broken(o) => {
-            say_number(b"refused 8 at ", o as u64);
+            say_number(to, b"refused 8 at ", o as u64)?;
         }
         Printed::Refused(k) => {
-            say_number(b"refused ", k as u64);
+            say_number(to, b"refused ", k as u64)?;
         }
     }
+    Ok(())
 }
 
 // The room is written out after.
-fn print_nodes(line: &[u8], codes: &[u8], lefts: &[u16], rights: &[u16], sizes: &[u8]) {
+fn print_nodes(
+    to: &mut impl Write,
+    line: &[u8],
+    codes: &[u8],
+    lefts: &[u16],
+    rights: &[u16],
+    sizes: &[u8],
+) -> io::Result<()> {
     let mut names = [0u8; 400];
     let mut dots = [b'.'; 500];
     let names = stored::bytes(line, 0, &mut names);
     let room = stored::room(line, 6, &mut dots);
     let root = node(line, 5);
-    say_printed(text::print(names, codes, lefts, rights, sizes, root, room));
-    say(b" |");
-    say(room);
-    say(b"|\n");
+    say_printed(
+        to,
+        text::print(names, codes, lefts, rights, sizes, root, room),
+    )?;
+    say(to, b" |")?;
+    say(to, room)?;
+    say(to, b"|\n")?;
+    Ok(())
 }
 
-fn check_line(line: &[u8]) {
+fn check_line(to: &mut impl Write, line: &[u8]) -> io::Result<()> {
     let mut codes = [0u8; 4200];
     let mut lefts = [0u16; 4200];
     let mut rights = [0u16; 4200];
@@ -116,10 +142,10 @@ fn check_line(line: &[u8]) {
     let lefts = stored::places(line, 5, &mut lefts);
     let rights = stored::places(line, 6, &mut rights);
     let sizes = stored::bytes(line, 7, &mut sizes);
-    check_nodes(line, codes, lefts, rights, sizes);
+    check_nodes(to, line, codes, lefts, rights, sizes)
 }
 
-fn print_line(line: &[u8]) {
+fn print_line(to: &mut impl Write, line: &[u8]) -> io::Result<()> {
     let mut codes = [0u8; 4200];
     let mut lefts = [0u16; 4200];
     let mut rights = [0u16; 4200];
@@ -128,34 +154,36 @@ fn print_line(line: &[u8]) {
     let lefts = stored::places(line, 2, &mut lefts);
     let rights = stored::places(line, 3, &mut rights);
     let sizes = stored::bytes(line, 4, &mut sizes);
-    print_nodes(line, codes, lefts, rights, sizes);
+    print_nodes(to, line, codes, lefts, rights, sizes)
 }
 
-fn example(line: &[u8]) {
+fn example(to: &mut impl Write, line: &[u8]) -> io::Result<()> {
     if line.len() == 0 {
-        return;
+        return Ok(());
     }
     match line[0] {
         b'#' => {
-            say(line);
-            say(b"\n");
+            say(to, line)?;
+            say(to, b"\n")?;
         }
-        b'c' => check_line(line),
-        b'p' => print_line(line),
+        b'c' => check_line(to, line)?,
+        b'p' => print_line(to, line)?,
         _ => {
-            say(b"?\n");
+            say(to, b"?\n")?;
         }
     }
+    Ok(())
 }
 
-fn examples(text: &[u8]) {
+fn examples(to: &mut impl Write, text: &[u8]) -> io::Result<()> {
     for number in 0..stored::lines(text) {
-        example(stored::line(text, number));
+        example(to, stored::line(text, number))?;
     }
+    Ok(())
 }
 
-fn main() {
+fn main(rt: HostRuntime) -> io::Result<()> {
     let mut room = [0u8; 65536];
-    let text = stored::input(&mut room);
-    examples(text);
+    let text = stored::input(&mut rt.stdin(), &mut room)?;
+    examples(&mut rt.stdout(), text)
 }

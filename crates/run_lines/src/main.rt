@@ -6,33 +6,37 @@
 // session, p, all operators.
 #![tactic(auto)]
 
+use std::io;
+use std::io::Write;
 use stored::say;
 
 // What the bench writes for this file with this room.
-fn say_lines(file: &[u8], room: usize) {
+fn say_lines(to: &mut impl Write, file: &[u8], room: usize) -> io::Result<()> {
     let mut text = [0u8; lines::LONGEST];
     let length = lines::of_file(file, room, &mut text);
-    say(&text[..length]);
+    say(to, &text[..length])?;
+    Ok(())
 }
 
-fn example(line: &[u8]) {
-    say(stored::field(line, 0));
-    say(b":\n");
+fn example(to: &mut impl Write, line: &[u8]) -> io::Result<()> {
+    say(to, stored::field(line, 0))?;
+    say(to, b":\n")?;
     let mut file = [0u8; 64];
     let mut room = [0u64; 1];
     stored::words(line, 2, &mut room);
     let file = stored::hex(line, 1, &mut file);
-    say_lines(file, room[0] as usize);
+    say_lines(to, file, room[0] as usize)
 }
 
-fn examples(text: &[u8]) {
+fn examples(to: &mut impl Write, text: &[u8]) -> io::Result<()> {
     for number in 0..stored::lines(text) {
-        example(stored::line(text, number));
+        example(to, stored::line(text, number))?;
     }
+    Ok(())
 }
 
-fn main() {
+fn main(rt: HostRuntime) -> io::Result<()> {
     let mut room = [0u8; 65536];
-    let text = stored::input(&mut room);
-    examples(text);
+    let text = stored::input(&mut rt.stdin(), &mut room)?;
+    examples(&mut rt.stdout(), text)
 }

@@ -4,26 +4,29 @@
 #![tactic(auto)]
 
 use reader::Parsed;
+use std::io;
+use std::io::Write;
 use stored::{say, say_number};
 
-fn say_parsed(p: Parsed) {
+fn say_parsed(to: &mut impl Write, p: Parsed) -> io::Result<()> {
     match p {
         Parsed::Nodes(n) => {
-            say_number(b"nodes ", n as u64);
+            say_number(to, b"nodes ", n as u64)?;
         }
         Parsed::Broken(o) => {
-            say_number(b"refused 8 at ", o as u64);
+            say_number(to, b"refused 8 at ", o as u64)?;
         }
         Parsed::Stops(o) => {
-            say_number(b"refused 11 at ", o as u64);
+            say_number(to, b"refused 11 at ", o as u64)?;
         }
         Parsed::Unknown(o) => {
-            say_number(b"refused 13 at ", o as u64);
+            say_number(to, b"refused 13 at ", o as u64)?;
         }
         Parsed::Refused(k) => {
-            say_number(b"refused ", k as u64);
+            say_number(to, b"refused ", k as u64)?;
         }
     }
+    Ok(())
 }
 
 fn wide(x: u8) -> u64 {
@@ -34,28 +37,38 @@ fn wide16(x: u16) -> u64 {
     x as u64
 }
 
-fn say_node(code: u64, left: u64, right: u64, size: u64) {
-    say_number(b" / ", code);
-    say_number(b" ", left);
-    say_number(b" ", right);
-    say_number(b" ", size);
+fn say_node(to: &mut impl Write, code: u64, left: u64, right: u64, size: u64) -> io::Result<()> {
+    say_number(to, b" / ", code)?;
+    say_number(to, b" ", left)?;
+    say_number(to, b" ", right)?;
+    say_number(to, b" ", size)?;
+    Ok(())
 }
 
 // The first nodes of the four lists: code, left place, right place, size.
-fn say_nodes(codes: &[u8; 31], lefts: &[u16; 31], rights: &[u16; 31], sizes: &[u8; 31], n: usize) {
+fn say_nodes(
+    to: &mut impl Write,
+    codes: &[u8; 31],
+    lefts: &[u16; 31],
+    rights: &[u16; 31],
+    sizes: &[u8; 31],
+    n: usize,
+) -> io::Result<()> {
     let mut i: usize = 0;
     while i < 31 {
         if n <= i {
-            return;
+            return Ok(());
         }
         say_node(
+            to,
             wide(codes[i]),
             wide16(lefts[i]),
             wide16(rights[i]),
             wide(sizes[i]),
-        );
+        )?;
         i += 1;
     }
+    Ok(())
 }
 
 fn count(p: Parsed) -> usize {
@@ -68,7 +81,7 @@ fn count(p: Parsed) -> usize {
     }
 }
 
-fn parse(text: &[u8]) {
+fn parse(to: &mut impl Write, text: &[u8]) -> io::Result<()> {
     let mut codes = [0u8; 31];
     let mut lefts = [0u16; 31];
     let mut rights = [0u16; 31];
@@ -81,26 +94,28 @@ fn parse(text: &[u8]) {
         &mut rights,
         &mut sizes,
     );
-    say_parsed(p);
+    say_parsed(to, p)?;
     let n = count(p);
-    say_nodes(&codes, &lefts, &rights, &sizes, n);
+    say_nodes(to, &codes, &lefts, &rights, &sizes, n)
 }
 
-fn example(line: &[u8]) {
-    say(stored::field(line, 0));
-    say(b": ");
-    parse(stored::field(line, 1));
-    say(b"\n");
+fn example(to: &mut impl Write, line: &[u8]) -> io::Result<()> {
+    say(to, stored::field(line, 0))?;
+    say(to, b": ")?;
+    parse(to, stored::field(line, 1))?;
+    say(to, b"\n")?;
+    Ok(())
 }
 
-fn examples(text: &[u8]) {
+fn examples(to: &mut impl Write, text: &[u8]) -> io::Result<()> {
     for number in 0..stored::lines(text) {
-        example(stored::line(text, number));
+        example(to, stored::line(text, number))?;
     }
+    Ok(())
 }
 
-fn main() {
+fn main(rt: HostRuntime) -> io::Result<()> {
     let mut room = [0u8; 65536];
-    let text = stored::input(&mut room);
-    examples(text);
+    let text = stored::input(&mut rt.stdin(), &mut room)?;
+    examples(&mut rt.stdout(), text)
 }

@@ -10,6 +10,8 @@
 ghost use Rattle.std.specs.Prelude.{◌+◌, ◌*◌, ◌≤◌, ◌<◌, length};
 
 use sequence::{Answer, CharSeq};
+use std::io;
+use std::io::{Read, Write};
 
 // A number that was read.
 #[derive(Clone, Copy)]
@@ -198,20 +200,22 @@ fn answer_lines(text: &[u8], out: &mut [u8]) -> usize
 }
 
 // Reads as many as 256 queries and answers them. Says whether there may be more.
-fn answer_some() -> bool {
+fn answer_some(from: &mut impl Read, to: &mut impl Write) -> io::Result<bool> {
     let mut text = [0u8; 18432];
     let mut out = [0u8; 9472];
-    let n = io::read_full(0, &mut text);
+    let n = whole_input::fill(from, &mut text)?;
     let lines = answer_lines(&text[..n], &mut out);
     let end = lines * 37;
-    let written = io::write_all(1, &out[..end]);
-    written && n == 18432
+    to.write_all(&out[..end])?;
+    Ok(n == 18432)
 }
 
-// Nothing says that the input ends, so the turns are counted down from a number that no run uses up.
-fn main() {
-    let mut turns = u64::MAX;
-    while turns > 0 && answer_some() {
-        turns -= 1;
+// Nothing says that the input ends, so the turns are counted up to a number that no run reaches.
+fn main(rt: HostRuntime) -> io::Result<()> {
+    for _ in 0..u64::MAX {
+        if !answer_some(&mut rt.stdin(), &mut rt.stdout())? {
+            break;
+        }
     }
+    Ok(())
 }

@@ -10,29 +10,37 @@
 use formula::kinds::Node;
 use report::Reported;
 use rules::kinds::Place;
+use std::io;
+use std::io::Write;
 
-fn say_reported(reported: Reported) {
+fn say_reported(to: &mut impl Write, reported: Reported) -> io::Result<()> {
     match reported {
         Reported::Text(length) => {
-            stored::say_number(b"text ", length as u64);
+            stored::say_number(to, b"text ", length as u64)?;
         }
         Reported::Refused(number) => {
-            stored::say_number(b"refused ", number as u64);
+            stored::say_number(to, b"refused ", number as u64)?;
         }
     }
-    stored::say(b"\n");
+    stored::say(to, b"\n")?;
+    Ok(())
 }
 
-fn say_example(name: &[u8], reported: Reported, text: &[u8]) {
+fn say_example(
+    to: &mut impl Write,
+    name: &[u8],
+    reported: Reported,
+    text: &[u8],
+) -> io::Result<()> {
     if name.len() == 0 {
-        say_reported(reported);
-        return;
+        return say_reported(to, reported);
     }
-    stored::say(name);
-    stored::say(b"\n");
-    say_reported(reported);
-    stored::say(text);
-    stored::say(b"\n");
+    stored::say(to, name)?;
+    stored::say(to, b"\n")?;
+    say_reported(to, reported)?;
+    stored::say(to, text)?;
+    stored::say(to, b"\n")?;
+    Ok(())
 }
 
 fn root(line: &[u8]) -> Node {
@@ -50,6 +58,7 @@ fn root(line: &[u8]) -> Node {
 
 // The report into a text that is full of dots.
 fn report(
+    to: &mut impl Write,
     line: &[u8],
     marks: &[u8],
     lengths: &[u8],
@@ -58,7 +67,7 @@ fn report(
     lefts: &[u16],
     rights: &[u16],
     sizes: &[u8],
-) {
+) -> io::Result<()> {
     let mut head = [0u64; 2];
     stored::words(line, 1, &mut head);
     let r = head[0] as usize;
@@ -69,10 +78,16 @@ fn report(
     let reported = report::report(
         r, m, marks, lengths, words, codes, lefts, rights, sizes, node, text,
     );
-    say_example(stored::field(line, 0), reported, text);
+    say_example(to, stored::field(line, 0), reported, text)
 }
 
-fn of_nodes(line: &[u8], marks: &[u8], lengths: &[u8], words: &[u64]) {
+fn of_nodes(
+    to: &mut impl Write,
+    line: &[u8],
+    marks: &[u8],
+    lengths: &[u8],
+    words: &[u64],
+) -> io::Result<()> {
     let mut codes = [0u8; 1030];
     let mut lefts = [0u16; 1030];
     let mut rights = [0u16; 1030];
@@ -81,27 +96,28 @@ fn of_nodes(line: &[u8], marks: &[u8], lengths: &[u8], words: &[u64]) {
     let lefts = stored::places(line, 6, &mut lefts);
     let rights = stored::places(line, 7, &mut rights);
     let sizes = stored::bytes(line, 8, &mut sizes);
-    report(line, marks, lengths, words, codes, lefts, rights, sizes);
+    report(to, line, marks, lengths, words, codes, lefts, rights, sizes)
 }
 
-fn example(line: &[u8]) {
+fn example(to: &mut impl Write, line: &[u8]) -> io::Result<()> {
     let mut marks = [0u8; 33];
     let mut lengths = [0u8; 33];
     let mut words = [0u64; 33];
     let marks = stored::bytes(line, 2, &mut marks);
     let lengths = stored::bytes(line, 3, &mut lengths);
     let words = stored::words(line, 4, &mut words);
-    of_nodes(line, marks, lengths, words);
+    of_nodes(to, line, marks, lengths, words)
 }
 
-fn examples(text: &[u8]) {
+fn examples(to: &mut impl Write, text: &[u8]) -> io::Result<()> {
     for number in 0..stored::lines(text) {
-        example(stored::line(text, number));
+        example(to, stored::line(text, number))?;
     }
+    Ok(())
 }
 
-fn main() {
+fn main(rt: HostRuntime) -> io::Result<()> {
     let mut room = [0u8; 65536];
-    let text = stored::input(&mut room);
-    examples(text);
+    let text = stored::input(&mut rt.stdin(), &mut room)?;
+    examples(&mut rt.stdout(), text)
 }

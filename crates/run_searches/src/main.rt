@@ -9,63 +9,70 @@
 use counting::Counts;
 use formula::kinds::Node;
 use search::SearchAnswer;
+use std::io;
+use std::io::Write;
 use stored::{say, say_number};
 
-fn say_counts(counts: Counts) {
-    say_number(b" tried ", counts.tried);
-    say_number(b" kept ", counts.kept as u64);
-    say_number(b" dropped ", counts.dropped);
+fn say_counts(to: &mut impl Write, counts: Counts) -> io::Result<()> {
+    say_number(to, b" tried ", counts.tried)?;
+    say_number(to, b" kept ", counts.kept as u64)?;
+    say_number(to, b" dropped ", counts.dropped)?;
+    Ok(())
 }
 
-fn say_next(x: u64) {
-    say_number(b" ", x);
+fn say_next(to: &mut impl Write, x: u64) -> io::Result<()> {
+    say_number(to, b" ", x)?;
+    Ok(())
 }
 
-fn say_node(node: Node) {
-    say_number(b" root ", node.code as u64);
-    say_next(node.left.0 as u64);
-    say_next(node.right.0 as u64);
-    say_next(node.size as u64);
+fn say_node(to: &mut impl Write, node: Node) -> io::Result<()> {
+    say_number(to, b" root ", node.code as u64)?;
+    say_next(to, node.left.0 as u64)?;
+    say_next(to, node.right.0 as u64)?;
+    say_next(to, node.size as u64)
 }
 
-fn say_answer(answer: SearchAnswer) {
+fn say_answer(to: &mut impl Write, answer: SearchAnswer) -> io::Result<()> {
     match answer {
         SearchAnswer::Found { root, counts } => {
-            say_number(b"found size ", root.size as u64);
-            say_counts(counts);
-            say_node(root);
+            say_number(to, b"found size ", root.size as u64)?;
+            say_counts(to, counts)?;
+            say_node(to, root)?;
         }
         SearchAnswer::None(counts) => {
-            say(b"none");
-            say_counts(counts);
+            say(to, b"none")?;
+            say_counts(to, counts)?;
         }
         SearchAnswer::Full { size, counts } => {
-            say_number(b"full size ", size as u64);
-            say_counts(counts);
+            say_number(to, b"full size ", size as u64)?;
+            say_counts(to, counts)?;
         }
         SearchAnswer::Refused(number) => {
-            say_number(b"refused ", number as u64);
+            say_number(to, b"refused ", number as u64)?;
         }
     }
+    Ok(())
 }
 
 fn say_lent(
+    to: &mut impl Write,
     line: &[u8],
     codes: &[u8],
     lefts: &[u16],
     rights: &[u16],
     sizes: &[u8],
     matrices: &[u64],
-) {
+) -> io::Result<()> {
     let after = stored::field(line, 12);
     if after.len() == 0 {
-        return;
+        return Ok(());
     }
-    stored::say_bytes(codes);
-    stored::say_places(lefts);
-    stored::say_places(rights);
-    stored::say_bytes(sizes);
-    stored::say_words(matrices);
+    stored::say_bytes(to, codes)?;
+    stored::say_places(to, lefts)?;
+    stored::say_places(to, rights)?;
+    stored::say_bytes(to, sizes)?;
+    stored::say_words(to, matrices)?;
+    Ok(())
 }
 
 // The numbers of a search.
@@ -91,6 +98,7 @@ fn read_head(line: &[u8]) -> Head {
 }
 
 fn run(
+    to: &mut impl Write,
     line: &[u8],
     marks: &[u8],
     lengths: &[u8],
@@ -102,7 +110,7 @@ fn run(
     rights: &mut [u16],
     sizes: &mut [u8],
     matrices: &mut [u64],
-) {
+) -> io::Result<()> {
     let head = read_head(line);
     let answer = search::search(
         head.r,
@@ -121,11 +129,19 @@ fn run(
         sizes,
         matrices,
     );
-    say_answer(answer);
-    say_lent(line, codes, lefts, rights, sizes, matrices);
+    say_answer(to, answer)?;
+    say_lent(to, line, codes, lefts, rights, sizes, matrices)
 }
 
-fn lend(line: &[u8], marks: &[u8], lengths: &[u8], words: &[u64], unary: &[u8], binary: &[u8]) {
+fn lend(
+    to: &mut impl Write,
+    line: &[u8],
+    marks: &[u8],
+    lengths: &[u8],
+    words: &[u64],
+    unary: &[u8],
+    binary: &[u8],
+) -> io::Result<()> {
     let mut codes = [0u8; 4097];
     let mut lefts = [0u16; 4097];
     let mut rights = [0u16; 4097];
@@ -137,11 +153,11 @@ fn lend(line: &[u8], marks: &[u8], lengths: &[u8], words: &[u64], unary: &[u8], 
     let sizes = stored::bytes(line, 10, &mut sizes);
     let matrices = stored::words(line, 11, &mut matrices);
     run(
-        line, marks, lengths, words, unary, binary, codes, lefts, rights, sizes, matrices,
-    );
+        to, line, marks, lengths, words, unary, binary, codes, lefts, rights, sizes, matrices,
+    )
 }
 
-fn search(line: &[u8]) {
+fn search(to: &mut impl Write, line: &[u8]) -> io::Result<()> {
     let mut marks = [0u8; 33];
     let mut lengths = [0u8; 33];
     let mut words = [0u64; 33];
@@ -152,24 +168,26 @@ fn search(line: &[u8]) {
     let words = stored::words(line, 4, &mut words);
     let unary = stored::bytes(line, 5, &mut unary);
     let binary = stored::bytes(line, 6, &mut binary);
-    lend(line, marks, lengths, words, unary, binary);
+    lend(to, line, marks, lengths, words, unary, binary)
 }
 
-fn example(line: &[u8]) {
-    say(stored::field(line, 0));
-    say(b": ");
-    search(line);
-    say(b"\n");
+fn example(to: &mut impl Write, line: &[u8]) -> io::Result<()> {
+    say(to, stored::field(line, 0))?;
+    say(to, b": ")?;
+    search(to, line)?;
+    say(to, b"\n")?;
+    Ok(())
 }
 
-fn examples(text: &[u8]) {
+fn examples(to: &mut impl Write, text: &[u8]) -> io::Result<()> {
     for number in 0..stored::lines(text) {
-        example(stored::line(text, number));
+        example(to, stored::line(text, number))?;
     }
+    Ok(())
 }
 
-fn main() {
+fn main(rt: HostRuntime) -> io::Result<()> {
     let mut room = [0u8; 65536];
-    let text = stored::input(&mut room);
-    examples(text);
+    let text = stored::input(&mut rt.stdin(), &mut room)?;
+    examples(&mut rt.stdout(), text)
 }

@@ -4,89 +4,116 @@
 
 use operators::operator_of;
 use sequence::{Answer, CharSeq};
+use std::io;
+use std::io::Write;
 use stored::{say, say_number};
 
-fn say_token(code: u8) {
+fn say_token(to: &mut impl Write, code: u8) -> io::Result<()> {
     let op = operator_of(code);
     let token = op.token;
     let bytes = op.bytes;
-    say(&token[..bytes]);
+    say(to, &token[..bytes])?;
+    Ok(())
 }
 
-fn say_answer(answer: Answer) {
+fn say_answer(to: &mut impl Write, answer: Answer) -> io::Result<()> {
     match answer {
         Answer::Sequence(seq) => {
-            say_number(b" ", seq.values);
+            say_number(to, b" ", seq.values)?;
         }
         Answer::Refused(number) => {
-            say_number(b" refused ", number as u64);
+            say_number(to, b" refused ", number as u64)?;
         }
     }
+    Ok(())
 }
 
-fn say_length(length: usize) {
-    say_number(b"length ", length as u64);
-    say(b": ");
+fn say_length(to: &mut impl Write, length: usize) -> io::Result<()> {
+    say_number(to, b"length ", length as u64)?;
+    say(to, b": ")?;
+    Ok(())
 }
 
 // The number is that of an example P1 to P10.
-fn say_name(number: u64) {
-    say_number(b"P", number);
-    say(b", ");
+fn say_name(to: &mut impl Write, number: u64) -> io::Result<()> {
+    say_number(to, b"P", number)?;
+    say(to, b", ")?;
+    Ok(())
 }
 
-fn say_equals() {
-    say(b" =");
+fn say_equals(to: &mut impl Write) -> io::Result<()> {
+    say(to, b" =")?;
+    Ok(())
 }
 
-fn end_line() {
-    say(b"\n");
+fn end_line(to: &mut impl Write) -> io::Result<()> {
+    say(to, b"\n")?;
+    Ok(())
 }
 
-fn unary_example(number: u64, code: u8, length: usize, x: u64) {
-    say_name(number);
-    say_length(length);
-    say_token(code);
-    say_number(b" ", x);
-    say_equals();
-    say_answer(operators::apply_unary(code, CharSeq { length, values: x }));
-    end_line();
+fn unary_example(
+    to: &mut impl Write,
+    number: u64,
+    code: u8,
+    length: usize,
+    x: u64,
+) -> io::Result<()> {
+    say_name(to, number)?;
+    say_length(to, length)?;
+    say_token(to, code)?;
+    say_number(to, b" ", x)?;
+    say_equals(to)?;
+    say_answer(
+        to,
+        operators::apply_unary(code, CharSeq { length, values: x }),
+    )?;
+    end_line(to)
 }
 
-fn binary_example(number: u64, code: u8, length: usize, x: u64, y: u64) {
-    say_name(number);
-    say_length(length);
-    say_number(b"", x);
-    say(b" ");
-    say_token(code);
-    say_number(b" ", y);
-    say_equals();
-    say_answer(operators::apply_binary(
-        code,
-        CharSeq { length, values: x },
-        CharSeq { length, values: y },
-    ));
-    end_line();
+fn binary_example(
+    to: &mut impl Write,
+    number: u64,
+    code: u8,
+    length: usize,
+    x: u64,
+    y: u64,
+) -> io::Result<()> {
+    say_name(to, number)?;
+    say_length(to, length)?;
+    say_number(to, b"", x)?;
+    say(to, b" ")?;
+    say_token(to, code)?;
+    say_number(to, b" ", y)?;
+    say_equals(to)?;
+    say_answer(
+        to,
+        operators::apply_binary(
+            code,
+            CharSeq { length, values: x },
+            CharSeq { length, values: y },
+        ),
+    )?;
+    end_line(to)
 }
 
-fn settled() {
-    unary_example(1, 0, 4, 6);
-    unary_example(2, 2, 4, 6);
-    unary_example(2, 1, 4, 6);
-    unary_example(3, 3, 4, 6);
-    unary_example(3, 4, 4, 6);
-    binary_example(4, 7, 4, 3, 4);
-    binary_example(5, 8, 4, 4, 7);
-    binary_example(5, 8, 4, 0, 7);
-    binary_example(6, 9, 4, 6, 3);
-    binary_example(6, 10, 4, 6, 3);
-    unary_example(7, 1, 1, 0);
-    unary_example(7, 2, 1, 1);
-    unary_example(8, 0, 0, 0);
-    unary_example(8, 1, 0, 0);
-    unary_example(9, 0, 64, 0);
-    unary_example(9, 1, 64, 0);
-    binary_example(10, 7, 64, 0x7fff_ffff_ffff_ffff, 0x8000_0000_0000_0000);
+fn settled(to: &mut impl Write) -> io::Result<()> {
+    unary_example(to, 1, 0, 4, 6)?;
+    unary_example(to, 2, 2, 4, 6)?;
+    unary_example(to, 2, 1, 4, 6)?;
+    unary_example(to, 3, 3, 4, 6)?;
+    unary_example(to, 3, 4, 4, 6)?;
+    binary_example(to, 4, 7, 4, 3, 4)?;
+    binary_example(to, 5, 8, 4, 4, 7)?;
+    binary_example(to, 5, 8, 4, 0, 7)?;
+    binary_example(to, 6, 9, 4, 6, 3)?;
+    binary_example(to, 6, 10, 4, 6, 3)?;
+    unary_example(to, 7, 1, 1, 0)?;
+    unary_example(to, 7, 2, 1, 1)?;
+    unary_example(to, 8, 0, 0, 0)?;
+    unary_example(to, 8, 1, 0, 0)?;
+    unary_example(to, 9, 0, 64, 0)?;
+    unary_example(to, 9, 1, 64, 0)?;
+    binary_example(to, 10, 7, 64, 0x7fff_ffff_ffff_ffff, 0x8000_0000_0000_0000)
 }
 
 // How many words of that length there are, up to 4. A formula's word has the first place at length 0 too.
@@ -100,70 +127,83 @@ fn words_of(length: usize) -> u64 {
     }
 }
 
-fn unary_cell(code: u8, length: usize, x: u64) {
-    say_answer(operators::apply_unary(code, CharSeq { length, values: x }));
+fn unary_cell(to: &mut impl Write, code: u8, length: usize, x: u64) -> io::Result<()> {
+    say_answer(
+        to,
+        operators::apply_unary(code, CharSeq { length, values: x }),
+    )
 }
 
-fn unary_cells(code: u8, length: usize) {
+fn unary_cells(to: &mut impl Write, code: u8, length: usize) -> io::Result<()> {
     for x in 0..words_of(length) {
-        unary_cell(code, length, x);
+        unary_cell(to, code, length, x)?;
     }
+    Ok(())
 }
 
-fn unary_line(code: u8, length: usize) {
-    say_length(length);
-    say_token(code);
-    say_equals();
-    unary_cells(code, length);
-    end_line();
+fn unary_line(to: &mut impl Write, code: u8, length: usize) -> io::Result<()> {
+    say_length(to, length)?;
+    say_token(to, code)?;
+    say_equals(to)?;
+    unary_cells(to, code, length)?;
+    end_line(to)
 }
 
-fn unary_lines(length: usize) {
+fn unary_lines(to: &mut impl Write, length: usize) -> io::Result<()> {
     for code in 0u8..5 {
-        unary_line(code, length);
+        unary_line(to, code, length)?;
     }
+    Ok(())
 }
 
-fn binary_cell(code: u8, length: usize, x: u64, y: u64) {
-    say_answer(operators::apply_binary(
-        code,
-        CharSeq { length, values: x },
-        CharSeq { length, values: y },
-    ));
+fn binary_cell(to: &mut impl Write, code: u8, length: usize, x: u64, y: u64) -> io::Result<()> {
+    say_answer(
+        to,
+        operators::apply_binary(
+            code,
+            CharSeq { length, values: x },
+            CharSeq { length, values: y },
+        ),
+    )
 }
 
-fn binary_cells(code: u8, length: usize, x: u64) {
+fn binary_cells(to: &mut impl Write, code: u8, length: usize, x: u64) -> io::Result<()> {
     for y in 0..words_of(length) {
-        binary_cell(code, length, x, y);
+        binary_cell(to, code, length, x, y)?;
     }
+    Ok(())
 }
 
-fn binary_line(code: u8, length: usize, x: u64) {
-    say_length(length);
-    say_number(b"", x);
-    say(b" ");
-    say_token(code);
-    say_equals();
-    binary_cells(code, length, x);
-    end_line();
+fn binary_line(to: &mut impl Write, code: u8, length: usize, x: u64) -> io::Result<()> {
+    say_length(to, length)?;
+    say_number(to, b"", x)?;
+    say(to, b" ")?;
+    say_token(to, code)?;
+    say_equals(to)?;
+    binary_cells(to, code, length, x)?;
+    end_line(to)
 }
 
-fn binary_rows(code: u8, length: usize) {
+fn binary_rows(to: &mut impl Write, code: u8, length: usize) -> io::Result<()> {
     for x in 0..words_of(length) {
-        binary_line(code, length, x);
+        binary_line(to, code, length, x)?;
     }
+    Ok(())
 }
 
-fn binary_lines(length: usize) {
+fn binary_lines(to: &mut impl Write, length: usize) -> io::Result<()> {
     for code in 5u8..11 {
-        binary_rows(code, length);
+        binary_rows(to, code, length)?;
     }
+    Ok(())
 }
 
-fn main() {
-    settled();
+fn main(rt: HostRuntime) -> io::Result<()> {
+    let to = &mut rt.stdout();
+    settled(to)?;
     for length in 0usize..5 {
-        unary_lines(length);
-        binary_lines(length);
+        unary_lines(to, length)?;
+        binary_lines(to, length)?;
     }
+    Ok(())
 }

@@ -4,61 +4,60 @@
 
 use counting::Counts;
 use formula::kinds::Node;
-use libc::STDOUT_FILENO;
 use slices::{Resumed, fresh, resume};
 use state::State;
+use std::io;
+use std::io::Write;
+use stored::{say, say_number};
 
-fn say(text: &[u8]) {
-    io::write_all(STDOUT_FILENO, text);
+fn say_counts(to: &mut impl Write, counts: Counts) -> io::Result<()> {
+    say_number(to, b" tried ", counts.tried)?;
+    say_number(to, b" kept ", counts.kept as u64)?;
+    say_number(to, b" dropped ", counts.dropped)?;
+    Ok(())
 }
 
-fn say_number(text: &[u8], x: u64) {
-    say(text);
-    io::print_decimal(STDOUT_FILENO, x);
+fn say_next(to: &mut impl Write, x: u64) -> io::Result<()> {
+    say_number(to, b" ", x)?;
+    Ok(())
 }
 
-fn say_counts(counts: Counts) {
-    say_number(b" tried ", counts.tried);
-    say_number(b" kept ", counts.kept as u64);
-    say_number(b" dropped ", counts.dropped);
-}
-
-fn say_next(x: u64) {
-    say_number(b" ", x);
-}
-
-fn say_root(root: Node) {
-    say_number(b" root ", root.code as u64);
-    say_next(root.left.0 as u64);
-    say_next(root.right.0 as u64);
-    say_next(root.size as u64);
+fn say_root(to: &mut impl Write, root: Node) -> io::Result<()> {
+    say_number(to, b" root ", root.code as u64)?;
+    say_next(to, root.left.0 as u64)?;
+    say_next(to, root.right.0 as u64)?;
+    say_next(to, root.size as u64)
 }
 
 // The end that a state tells.
-fn say_end(state: State) {
-    say_number(b" end ", state.end);
-    say_number(b" size ", state.size as u64);
-    say_counts(state.counts);
-    say_root(state.root);
+fn say_end(to: &mut impl Write, state: State) -> io::Result<()> {
+    say_number(to, b" end ", state.end)?;
+    say_number(to, b" size ", state.size as u64)?;
+    say_counts(to, state.counts)?;
+    say_root(to, state.root)
 }
 
-fn say_ended(budget: u64, turns: u64, state: State) {
-    say_number(b"slices of ", budget);
-    say_number(b": turns ", turns);
-    say_end(state);
-    say(b"\n");
+fn say_ended(to: &mut impl Write, budget: u64, turns: u64, state: State) -> io::Result<()> {
+    say_number(to, b"slices of ", budget)?;
+    say_number(to, b": turns ", turns)?;
+    say_end(to, state)?;
+    say(to, b"\n")?;
+    Ok(())
 }
 
-fn say_refused() {
-    say(b"refused\n");
+fn say_refused(to: &mut impl Write) -> io::Result<()> {
+    say(to, b"refused\n")?;
+    Ok(())
 }
 
-fn say_more() {
-    say(b"more\n");
+fn say_more(to: &mut impl Write) -> io::Result<()> {
+    say(to, b"more\n")?;
+    Ok(())
 }
 
 // One search, in slices of `budget` candidates, until it ends.
 fn in_slices(
+    to: &mut impl Write,
     budget: u64,
     r: usize,
     m: usize,
@@ -69,7 +68,7 @@ fn in_slices(
     words: &[u64],
     unary: &[u8],
     binary: &[u8],
-) {
+) -> io::Result<()> {
     let mut codes = [9u8; 200];
     let mut lefts = [9u16; 200];
     let mut rights = [9u16; 200];
@@ -99,19 +98,18 @@ fn in_slices(
         );
         turn += 1;
         let Resumed::Goes(after) = answer else {
-            say_refused();
-            return;
+            return say_refused(to);
         };
         state = after;
         if after.end != 0 {
-            say_ended(budget, turn, after);
-            return;
+            return say_ended(to, budget, turn, after);
         }
     }
-    say_more();
+    say_more(to)
 }
 
 fn each(
+    to: &mut impl Write,
     name: &[u8],
     r: usize,
     m: usize,
@@ -122,18 +120,25 @@ fn each(
     words: &[u64],
     unary: &[u8],
     binary: &[u8],
-) {
-    say(name);
-    in_slices(1, r, m, bound, room, marks, lengths, words, unary, binary);
-    in_slices(2, r, m, bound, room, marks, lengths, words, unary, binary);
-    in_slices(7, r, m, bound, room, marks, lengths, words, unary, binary);
+) -> io::Result<()> {
+    say(to, name)?;
     in_slices(
-        1000, r, m, bound, room, marks, lengths, words, unary, binary,
-    );
+        to, 1, r, m, bound, room, marks, lengths, words, unary, binary,
+    )?;
+    in_slices(
+        to, 2, r, m, bound, room, marks, lengths, words, unary, binary,
+    )?;
+    in_slices(
+        to, 7, r, m, bound, room, marks, lengths, words, unary, binary,
+    )?;
+    in_slices(
+        to, 1000, r, m, bound, room, marks, lengths, words, unary, binary,
+    )
 }
 
 // With every operator offered, and room for 200.
 fn with_all(
+    to: &mut impl Write,
     name: &[u8],
     r: usize,
     m: usize,
@@ -141,8 +146,9 @@ fn with_all(
     marks: &[u8],
     lengths: &[u8],
     words: &[u64],
-) {
+) -> io::Result<()> {
     each(
+        to,
         name,
         r,
         m,
@@ -153,15 +159,16 @@ fn with_all(
         words,
         &[0, 1, 2, 3, 4],
         &[5, 6, 7, 8, 9, 10],
-    );
+    )
 }
 
-fn s1() {
-    with_all(b"S1\n", 2, 1, 4, &[1, 0], &[2, 2], &[2, 0]);
+fn s1(to: &mut impl Write) -> io::Result<()> {
+    with_all(to, b"S1\n", 2, 1, 4, &[1, 0], &[2, 2], &[2, 0])
 }
 
-fn s2(name: &[u8], bound: usize, room: usize) {
+fn s2(to: &mut impl Write, name: &[u8], bound: usize, room: usize) -> io::Result<()> {
     each(
+        to,
         name,
         2,
         1,
@@ -172,11 +179,12 @@ fn s2(name: &[u8], bound: usize, room: usize) {
         &[1, 1],
         &[0],
         &[],
-    );
+    )
 }
 
-fn s3() {
+fn s3(to: &mut impl Write) -> io::Result<()> {
     each(
+        to,
         b"S3\n",
         2,
         2,
@@ -187,15 +195,16 @@ fn s3() {
         &[3, 4, 1, 4],
         &[],
         &[7],
-    );
+    )
 }
 
-fn s4() {
-    with_all(b"S4, B = 3\n", 1, 1, 3, &[1], &[0], &[0]);
+fn s4(to: &mut impl Write) -> io::Result<()> {
+    with_all(to, b"S4, B = 3\n", 1, 1, 3, &[1], &[0], &[0])
 }
 
-fn copied() {
+fn copied(to: &mut impl Write) -> io::Result<()> {
     with_all(
+        to,
         b"p and its copy, which nothing separates, B = 7, C = 200\n",
         2,
         2,
@@ -203,15 +212,16 @@ fn copied() {
         &[1, 0],
         &[5, 5],
         &[19, 6, 19, 6],
-    );
+    )
 }
 
-fn main() {
-    s1();
-    s2(b"S2, B = 2\n", 2, 200);
-    s2(b"S2, C = 1\n", 2, 1);
-    s2(b"S2, B = 3 and C = 2\n", 3, 2);
-    s3();
-    s4();
-    copied();
+fn main(rt: HostRuntime) -> io::Result<()> {
+    let to = &mut rt.stdout();
+    s1(to)?;
+    s2(to, b"S2, B = 2\n", 2, 200)?;
+    s2(to, b"S2, C = 1\n", 2, 1)?;
+    s2(to, b"S2, B = 3 and C = 2\n", 3, 2)?;
+    s3(to)?;
+    s4(to)?;
+    copied(to)
 }

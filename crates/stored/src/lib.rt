@@ -4,10 +4,13 @@
 // digit, colon or space is passed over. Lines and fields are counted from 0.
 #![tactic(auto)]
 
-ghost use Rattle.std.specs.Prelude.{◌≡◌, ◌-◌, ◌/◌, ◌<◌, ◌≤◌, length};
-ghost use Rattle.io.specs.Digits.{IsDigitCount};
+ghost use Rattle.std.specs.Prelude.{◌≡◌, ◌-◌, ◌/◌, ◌<◌, ◌≤◌, ◌++◌, IfOk, OnOk, decimal, length};
+ghost use Rattle.std.specs.Io.KnownBytes.{Appends};
+ghost use Rattle.stored.specs.Digits.{IsDigitCount};
 
-use libc::{STDIN_FILENO, STDOUT_FILENO};
+use itoa::Buffer;
+use std::io;
+use std::io::{Read, Write};
 
 // Where a byte stands first, from a place on; the length where it doesn't.
 fn stop(text: &[u8], from: usize, end: u8) -> usize
@@ -53,11 +56,11 @@ fn part(text: &[u8], number: usize, end: u8) -> &[u8]
 }
 
 // Standard input, as much of it as there is room for.
-pub fn input<'a>(room: &'a mut [u8]) -> &'a mut [u8]
-    ensures { length result.now ≤ length room.old }
+pub fn input<'a, R: Read>(from: &mut R, room: &'a mut [u8]) -> io::Result<&'a mut [u8]>
+    ensures { IfOk result (λ r. length r.now ≤ length room.old) }
 {
-    let n = io::read_full(STDIN_FILENO, room);
-    &mut room[..n]
+    let n = whole_input::fill(from, room)?;
+    Ok(&mut room[..n])
 }
 
 // How many lines a text has.
@@ -316,23 +319,23 @@ pub fn room<'a>(line: &[u8], number: usize, to: &'a mut [u8]) -> &'a mut [u8]
     &mut to[..n]
 }
 
-// Bytes go to standard output; how many they are is answered.
-pub fn say(text: &[u8]) -> usize
-    ensures { result ≡ length text.now }
+// Bytes are written; how many they are is answered.
+pub fn say<W: Write>(to: &mut W, text: &[u8]) -> io::Result<usize>
+    ensures len { IfOk result (λ n. n ≡ length text.now) }
+    ensures said { OnOk result (Appends (W.contents to.old) (W.contents to.new) text.now) }
 {
-    io::write_all(STDOUT_FILENO, text);
-    text.len()
+    to.write_all(text)?;
+    Ok(text.len())
 }
 
 // Bytes, and then a number in decimal; its digits are counted.
-pub fn say_number(before: &[u8], x: u64) -> usize
-    ensures { IsDigitCount 10 1 x result }
+pub fn say_number<W: Write>(to: &mut W, before: &[u8], x: u64) -> io::Result<usize>
+    ensures digits { IfOk result (IsDigitCount 10 1 x) }
+    ensures said { OnOk result (Appends (W.contents to.old) (W.contents to.new) (before.now ++ decimal x)) }
 {
-    say(before);
-    let mut text = [0u8; 20];
-    let n = io::decimal(x, &mut text);
-    say(&text[..n]);
-    n
+    say(to, before)?;
+    let mut buffer = Buffer::new();
+    say(to, buffer.format(x).as_bytes())
 }
 
 fn wide16(x: u16) -> u64 {
@@ -340,47 +343,42 @@ fn wide16(x: u16) -> u64 {
 }
 
 // A bar comes before a list, and a space before each of its numbers.
-fn say_bar() {
-    say(b" |");
+fn say_bar<W: Write>(to: &mut W) -> io::Result<()> {
+    to.write_all(b" |")
 }
 
-fn say_next(x: u64) {
-    say_number(b" ", x);
+fn say_next<W: Write>(to: &mut W, x: u64) -> io::Result<()> {
+    say_number(to, b" ", x)?;
+    Ok(())
 }
 
 // A bar, and a list's numbers with a space before each; how many they are is answered.
-pub fn say_bytes(list: &[u8]) -> usize
-    ensures { result ≡ length list.now }
+pub fn say_bytes<W: Write>(to: &mut W, list: &[u8]) -> io::Result<usize>
+    ensures { IfOk result (λ n. n ≡ length list.now) }
 {
-    say_bar();
-    let mut i: usize = 0;
-    while i < list.len() {
-        say_next(wide(list[i]));
-        i += 1;
+    say_bar(to)?;
+    for x in list {
+        say_next(to, wide(*x))?;
     }
-    i
+    Ok(list.len())
 }
 
-pub fn say_places(list: &[u16]) -> usize
-    ensures { result ≡ length list.now }
+pub fn say_places<W: Write>(to: &mut W, list: &[u16]) -> io::Result<usize>
+    ensures { IfOk result (λ n. n ≡ length list.now) }
 {
-    say_bar();
-    let mut i: usize = 0;
-    while i < list.len() {
-        say_next(wide16(list[i]));
-        i += 1;
+    say_bar(to)?;
+    for x in list {
+        say_next(to, wide16(*x))?;
     }
-    i
+    Ok(list.len())
 }
 
-pub fn say_words(list: &[u64]) -> usize
-    ensures { result ≡ length list.now }
+pub fn say_words<W: Write>(to: &mut W, list: &[u64]) -> io::Result<usize>
+    ensures { IfOk result (λ n. n ≡ length list.now) }
 {
-    say_bar();
-    let mut i: usize = 0;
-    while i < list.len() {
-        say_next(list[i]);
-        i += 1;
+    say_bar(to)?;
+    for x in list {
+        say_next(to, *x)?;
     }
-    i
+    Ok(list.len())
 }

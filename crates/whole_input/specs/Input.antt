@@ -1,6 +1,8 @@
 -- What was read of standard input.
 -- Assumes nothing.
-use Rattle.std.specs.Prelude.{ℕ, ◌≤◌}
+use Rattle.std.specs.Prelude.{ℕ, ◌<◌, ◌≤◌, List, length, take, ⊤}
+use Rattle.std.specs.Io.KnownBytes.{Consumes, IsAtEnd}
+use Rattle.std.specs.declared.option.Option.{Option}
 use Rattle.whole_input.specs.declared.Taken.{Taken}
 use Rattle.whole_input.specs.declared.Taken.TheVariants.{Bytes, Failed}
 
@@ -8,3 +10,14 @@ use Rattle.whole_input.specs.declared.Taken.TheVariants.{Bytes, Failed}
 abbrev pub Within : Taken → ℕ → Type 0
 Within (Bytes n) most = n ≤ most
 Within Failed most = Unit {0}
+
+-- the reader gave n bytes, which stand at the start of the room; where they don't fill it, nothing is left to read
+pub record FirstBytes (old new : Option (List ℕ)) (room : List ℕ) (n : ℕ) : Type 0 where
+  pub within : n ≤ length room
+  pub taken : Consumes old new (take n room)
+  pub ended : n < length room → IsAtEnd new
+
+-- the same of what is answered; of a read that failed nothing is said
+abbrev pub TakesFirst : Taken → Option (List ℕ) → Option (List ℕ) → List ℕ → Type 0
+TakesFirst (Bytes n) old new room = FirstBytes old new room n
+TakesFirst Failed old new room = ⊤

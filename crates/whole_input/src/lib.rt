@@ -1,10 +1,11 @@
 // Standard input, whole or up to a room.
 #![tactic(auto)]
 
-ghost use Rattle.std.specs.Prelude.{length};
-ghost use Rattle.whole_input.specs.Input.{Within};
+ghost use Rattle.std.specs.Prelude.{length, IfOk};
+ghost use Rattle.whole_input.specs.Input.{FirstBytes, TakesFirst, Within};
 
-use libc::STDIN_FILENO;
+use std::io;
+use std::io::Read;
 
 // How many bytes were read, or that a read failed.
 #[derive(Clone, Copy)]
@@ -13,22 +14,28 @@ pub enum Taken {
     Failed,
 }
 
-// Reads until the input ends or the room is full. A file that comes in pieces is read piece by piece.
-pub fn read(file: &mut [u8]) -> Taken
-    ensures { Within result (length file.new) }
+// Reads until the input ends or the room is full, and answers how many bytes were read. What comes in pieces is read piece by piece.
+pub fn fill<R: Read>(from: &mut R, room: &mut [u8]) -> io::Result<usize>
+    ensures { IfOk result (FirstBytes (R.remaining from.old) (R.remaining from.new) room.new) }
 {
     let mut at: usize = 0;
-    while at < file.len() {
-        let rest = &mut file[at..];
-        let got = libc::read(STDIN_FILENO, rest);
-        if got < 0 {
-            return Taken::Failed;
-        }
-        let n = io::count(got, rest);
+    while at < room.len() {
+        let n = from.read(&mut room[at..])?;
         if n == 0 {
-            return Taken::Bytes(at);
+            return Ok(at);
         }
         at += n;
     }
-    Taken::Bytes(at)
+    Ok(at)
+}
+
+// The same, where a read that failed is told from an end of the input, and no more.
+pub fn read<R: Read>(from: &mut R, file: &mut [u8]) -> Taken
+    ensures within { Within result (length file.new) }
+    ensures bytes { TakesFirst result (R.remaining from.old) (R.remaining from.new) file.new }
+{
+    match fill(from, file) {
+        Ok(n) => Taken::Bytes(n),
+        Err(_) => Taken::Failed,
+    }
 }

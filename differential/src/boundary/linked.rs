@@ -1,4 +1,4 @@
-//! The library as differential/native links it, target/native/libscarfpylon.so, in this very process.
+//! The library as differential/native links it, out/native/libscarfpylon.so, in this very process.
 use std::ffi::c_void;
 use std::mem::transmute;
 use std::path::Path;
@@ -35,7 +35,7 @@ type Resume = unsafe extern "C" fn(N, N, N, N, u8,
 
 impl Linked {
     pub fn load() -> Result<Self, String> {
-        let file = root().join("target/native/libscarfpylon.so");
+        let file = root().join("out/native/libscarfpylon.so");
         if !file.is_file() {
             return Err("our library is not at hand: sh differential/native scarfpylon makes it".to_string());
         }

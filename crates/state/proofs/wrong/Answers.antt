@@ -37,7 +37,8 @@ returns-then-kept-state-2 c = inr (inr (inr (inr (inl c.if-kept-state-2.true))))
 pub returns-then-operator-lt2 : goal.returns-then-operator-lt2
 returns-then-operator-lt2 c =
     let a = c.args in
-    position-passes a.m a.constants a.unary a.binary (others (goal.at.returns-then-operator-lt2 c).Else-kept-state-2) (rw (c.if-state-eq1.true, c.if-constants-eq1.true) (omega (arith, c.if-operator-lt2.true)))
+    position-passes a.m a.constants a.unary a.binary (others (goal.at.returns-then-operator-lt2 c).Else-kept-state-2)
+    (rw (c.if-state-eq1.true, c.if-constants-eq1.true) (omega (arith, c.if-operator-lt2.true)))
 
 pub returns-then-constants-eq1 : goal.returns-then-constants-eq1
 returns-then-constants-eq1 c =

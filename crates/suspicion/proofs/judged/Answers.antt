@@ -69,6 +69,5 @@ returns-in-Nodes c =
     nodes-judged _ _ _ c.in-Nodes.is (ran (goal.at.returns-in-Nodes c).After-parse-parsed) c.checked.ensures
 
 pub returns-in_default : goal.returns-in_default
-unfolding start
 returns-in_default c =
     unread-judged _ _ _ c.parse-parsed.result (opened c.in_default.in_default-own.keys2) (ran (goal.at.returns-in_default c).After-parse-parsed) c.unread.ensures

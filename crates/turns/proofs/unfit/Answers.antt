@@ -20,5 +20,6 @@ returns-then-binary-gt-GROUP_MOST c = λ w. omega (arith, c.if-binary-gt-GROUP_M
 
 pub returns : goal.returns
 returns c =
-    state-tells _ _ _ _ _ _ _ (omega (arith, c.if-bound-gt-BOUND.false)) (omega (arith, c.if-room-gt-ROOM.false)) (omega (arith, c.if-m-gt-PROPOSITIONS.false)) (omega (arith, c.if-unary-gt-GROUP_MOST.false))
+    state-tells _ _ _ _ _ _ _ (omega (arith, c.if-bound-gt-BOUND.false)) (omega (arith, c.if-room-gt-ROOM.false))
+    (omega (arith, c.if-m-gt-PROPOSITIONS.false)) (omega (arith, c.if-unary-gt-GROUP_MOST.false))
     (omega (arith, c.if-binary-gt-GROUP_MOST.false)) c.wrong.result c.wrong.ensures

@@ -45,7 +45,7 @@ pub all_up_to-requires : goal.all_up_to-requires
 all_up_to-requires c = (rooms_in _ _ _ _ _ (rooms (goal.at.all_up_to-requires c).Else-short)).1
 
 pub all_clear-requires : goal.all_clear-requires
-all_clear-requires c = let w = rooms_in _ _ _ _ _ (rooms (goal.at.all_clear-requires c).Else-short) in (w.1, w.2, short (goal.at.all_clear-requires c).Then-all_up_to)
+all_clear-requires c = let w = rooms_in _ _ _ _ _ (rooms d.Else-short) in (w.1, w.2, short d.Then-all_up_to)
 
 pub all_up_to-requires-then-all_clear : goal.all_up_to-requires-then-all_clear
 all_up_to-requires-then-all_clear c = (rooms_in _ _ _ _ _ (rooms (goal.at.all_up_to-requires-then-all_clear c).Else-short)).0
@@ -53,23 +53,27 @@ all_up_to-requires-then-all_clear c = (rooms_in _ _ _ _ _ (rooms (goal.at.all_up
 pub returns-then-all_up_to-2 : goal.returns-then-all_up_to-2
 returns-then-all_up_to-2 c =
     let a = c.args in
-    is-0 a.r a.m a.marks.now a.lengths.now a.words.now (numbers (goal.at.returns-then-all_up_to-2 c).Else-outside) (rooms (goal.at.returns-then-all_up_to-2 c).Else-short) (short (goal.at.returns-then-all_up_to-2 c).Then-all_up_to) (clear (goal.at.returns-then-all_up_to-2 c).Then-all_clear)
+    let d = goal.at.returns-then-all_up_to-2 c in
+    is-0 a.r a.m a.marks.now a.lengths.now a.words.now (numbers d.Else-outside) (rooms d.Else-short) (short d.Then-all_up_to) (clear d.Then-all_clear)
     (subst (AllUpTo a.marks.now a.r 1) c.if-all_up_to-2.true c.all_up_to-then-all_clear.ensures)
 
 pub returns-then-all_clear : goal.returns-then-all_clear
 returns-then-all_clear c =
     let a = c.args in
-    is-6 a.r a.m a.marks.now a.lengths.now a.words.now (numbers (goal.at.returns-then-all_clear c).Else-outside) (rooms (goal.at.returns-then-all_clear c).Else-short) (short (goal.at.returns-then-all_clear c).Then-all_up_to) (clear (goal.at.returns-then-all_clear c).Then-all_clear)
+    let d = goal.at.returns-then-all_clear c in
+    is-6 a.r a.m a.marks.now a.lengths.now a.words.now (numbers d.Else-outside) (rooms d.Else-short) (short d.Then-all_up_to) (clear d.Then-all_clear)
     (subst (AllUpTo a.marks.now a.r 1) c.if-all_up_to-2.false c.all_up_to-then-all_clear.ensures)
 
 pub returns-then-all_up_to : goal.returns-then-all_up_to
 returns-then-all_up_to c =
     let a = c.args in
-    is-5 a.r a.m a.marks.now a.lengths.now a.words.now (numbers (goal.at.returns-then-all_up_to c).Else-outside) (rooms (goal.at.returns-then-all_up_to c).Else-short) (short (goal.at.returns-then-all_up_to c).Then-all_up_to)
+    let d = goal.at.returns-then-all_up_to c in
+    is-5 a.r a.m a.marks.now a.lengths.now a.words.now (numbers d.Else-outside) (rooms d.Else-short) (short d.Then-all_up_to)
     (subst (AllClear a.lengths.now a.words.now a.r a.m) c.if-all_clear.false c.all_clear.ensures)
 
 pub returns : goal.returns
 returns c =
     let a = c.args in
-    is-4 a.r a.m a.marks.now a.lengths.now a.words.now (numbers (goal.at.returns c).Else-outside) (rooms (goal.at.returns c).Else-short)
+    let d = goal.at.returns c in
+    is-4 a.r a.m a.marks.now a.lengths.now a.words.now (numbers d.Else-outside) (rooms d.Else-short)
     (subst (AllUpTo a.lengths.now a.r 64) c.if-all_up_to.false c.all_up_to.ensures)

@@ -1,0 +1,2 @@
+-- What a reader must believe of what programs say.
+pub mod Digits

@@ -1,0 +1,27 @@
+-- `fill` meets its contract: each piece is read behind those before it, and a reader that gives none has none.
+use Rattle.std.proofs.Common.{rules, arith}
+use Rattle.std.proofs.KnownBytes.{Consumes-nil}
+use Rattle.whole_input.proofs.Pieces.{more, empty}
+use Rattle.whole_input.proofs.fill.Goals as goal
+
+pub loop-at-init : goal.loop-at-init
+loop-at-init g c = (omega arith, Consumes-nil _)
+
+pub loop-at-preserved : goal.loop-at-preserved
+loop-at-preserved g c =
+    let read-so-far = c.loop-at.invariant in
+    let piece = c.in_ok-n.ensures in
+    (search rules, more _ _ _ c.loop-at.at c.in_ok-n.n _ _ _ read-so-far.0 piece.bound.0 read-so-far.1 piece.bytes.0)
+
+pub returns-then-n-eq0 : goal.returns-then-n-eq0
+returns-then-n-eq0 g c =
+    let read-so-far = c.loop-at.invariant in
+    let piece = c.in_ok-n.ensures in
+    record {
+      within = search rules;
+      taken = empty _ _ _ c.loop-at.at c.in_ok-n.n _ _ _ read-so-far.0 piece.bound.0 c.if-n-eq0.true read-so-far.1 piece.bytes.0;
+      ended = λ _. piece.bytes.1 c.if-n-eq0.true (omega arith);
+    }
+
+pub returns : goal.returns
+returns g c = record { within = c.loop-at.invariant.0; taken = c.loop-at.invariant.1; ended = search rules }
