@@ -45,7 +45,10 @@ pub all_up_to-requires : goal.all_up_to-requires
 all_up_to-requires c = (rooms_in _ _ _ _ _ (rooms (goal.at.all_up_to-requires c).Else-short)).1
 
 pub all_clear-requires : goal.all_clear-requires
-all_clear-requires c = let d = goal.at.all_clear-requires c in let w = rooms_in _ _ _ _ _ (rooms d.Else-short) in (w.1, w.2, short d.Then-all_up_to)
+all_clear-requires c =
+    let d = goal.at.all_clear-requires c in
+    let w = rooms_in _ _ _ _ _ (rooms d.Else-short) in
+    (w.1, w.2, short d.Then-all_up_to)
 
 pub all_up_to-requires-then-all_clear : goal.all_up_to-requires-then-all_clear
 all_up_to-requires-then-all_clear c = (rooms_in _ _ _ _ _ (rooms (goal.at.all_up_to-requires-then-all_clear c).Else-short)).0
