@@ -5,7 +5,7 @@ use mathlib.Core.List.{List, [], ◌∷◌, ◌++◌, flat_map, append_assoc, ap
 use Prim.Native.Nat.{ℕ, zero, suc, ◌+◌, ◌-◌, ◌≤◌, ◌<◌}
 use native.Mathlib.Omega.{arith}
 use native.Mathlib.Numerals.{add-one}
-use lib.ListN.{length, get_or, take, drop, length-append, length-take, length-drop, take-append-drop, drop_of_length-le}
+use lib.ListN.{length, get_or, take, drop, length-append, take-append-drop, drop_of_length-le}
 use lib.Seq.{drop-cons, take-suc}
 use Rattle.names.specs.Names.{name_length, name_bytes, GoodName, name, names_up_to, names_in, GoodNames}
 use Rattle.rules.specs.Limits.{most_propositions}

@@ -1,6 +1,6 @@
 -- Codes: which are in a group, what the rule reads is new, its byte stands there, and a new one is read.
 -- Assumes nothing.
-use mathlib.Core.Path.{◌≡◌, refl, sym, ap, ◌∙◌, subst}
+use mathlib.Core.Path.{◌≡◌, refl, sym, ap, subst}
 use mathlib.Core.Bool.{Bool, true, false, ◌&&◌}
 use mathlib.Core.Bool as bool
 use mathlib.Core.List.{List, Memᴰ}

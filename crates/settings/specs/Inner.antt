@@ -1,6 +1,6 @@
 -- What the private tests promise. No public contract cites this.
 -- Assumes nothing.
-use Rattle.std.specs.Prelude.{◌≡◌, Bool, true, false, List, ℕ, ◌<◌, get_or}
+use Rattle.std.specs.Prelude.{◌≡◌, List, ℕ, ◌<◌, get_or}
 
 -- the code stands at one of the first n positions
 abbrev pub SeenIn : List ℕ → ℕ → ℕ → Type 0

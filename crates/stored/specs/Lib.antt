@@ -1,2 +1,3 @@
 -- What a reader must believe of what programs say.
 pub mod Digits
+pub mod Lists

@@ -4,11 +4,12 @@
 // digit, colon or space is passed over. Lines and fields are counted from 0.
 #![tactic(auto)]
 
-ghost use Rattle.std.specs.Prelude.{◌≡◌, ◌-◌, ◌/◌, ◌<◌, ◌≤◌, ◌++◌, IfOk, OnOk, decimal, length};
-ghost use Rattle.std.specs.Io.KnownBytes.{Appends};
+ghost use Rattle.std.specs.Prelude.{◌≡◌, ◌-◌, ◌/◌, ◌<◌, ◌≤◌, ◌++◌, ◌∷◌, [], IfOk, OnOk, decimal, length};
+ghost use Rattle.std.specs.Io.KnownBytes.{Appends, Consumes, IsAtEnd};
 ghost use Rattle.stored.specs.Digits.{IsDigitCount};
+ghost use Rattle.stored.specs.Lists.{listed};
 
-use itoa::Buffer;
+use itoa::{Buffer, Integer};
 use std::io;
 use std::io::{Read, Write};
 
@@ -57,7 +58,9 @@ fn part(text: &[u8], number: usize, end: u8) -> &[u8]
 
 // Standard input, as much of it as there is room for.
 pub fn input<'a, R: Read>(from: &mut R, room: &'a mut [u8]) -> io::Result<&'a mut [u8]>
-    ensures { IfOk result (λ r. length r.now ≤ length room.old) }
+    ensures within { IfOk result (λ r. length r.now ≤ length room.old) }
+    ensures taken { IfOk result (λ r. Consumes (R.remaining from.old) (R.remaining from.new) r.now) }
+    ensures ended { IfOk result (λ r. length r.now < length room.old → IsAtEnd (R.remaining from.new)) }
 {
     let n = whole_input::fill(from, room)?;
     Ok(&mut room[..n])
@@ -338,47 +341,50 @@ pub fn say_number<W: Write>(to: &mut W, before: &[u8], x: u64) -> io::Result<usi
     say(to, buffer.format(x).as_bytes())
 }
 
-fn wide16(x: u16) -> u64 {
-    x as u64
-}
-
 // A bar comes before a list, and a space before each of its numbers.
-fn say_bar<W: Write>(to: &mut W) -> io::Result<()> {
+fn say_bar<W: Write>(to: &mut W) -> io::Result<()>
+    ensures { OnOk result (Appends (W.contents to.old) (W.contents to.new) (32 ∷ 124 ∷ [])) }
+{
     to.write_all(b" |")
 }
 
-fn say_next<W: Write>(to: &mut W, x: u64) -> io::Result<()> {
-    say_number(to, b" ", x)?;
-    Ok(())
+fn say_next<W: Write, T: Integer>(to: &mut W, x: T) -> io::Result<()>
+    ensures { OnOk result (Appends (W.contents to.old) (W.contents to.new) (32 ∷ T.text x)) }
+{
+    to.write_all(b" ")?;
+    let mut buffer = Buffer::new();
+    to.write_all(buffer.format(x).as_bytes())
 }
 
 // A bar, and a list's numbers with a space before each; how many they are is answered.
-pub fn say_bytes<W: Write>(to: &mut W, list: &[u8]) -> io::Result<usize>
-    ensures { IfOk result (λ n. n ≡ length list.now) }
-{
-    say_bar(to)?;
-    for x in list {
-        say_next(to, wide(*x))?;
-    }
-    Ok(list.len())
-}
-
-pub fn say_places<W: Write>(to: &mut W, list: &[u16]) -> io::Result<usize>
-    ensures { IfOk result (λ n. n ≡ length list.now) }
-{
-    say_bar(to)?;
-    for x in list {
-        say_next(to, wide16(*x))?;
-    }
-    Ok(list.len())
-}
-
-pub fn say_words<W: Write>(to: &mut W, list: &[u64]) -> io::Result<usize>
-    ensures { IfOk result (λ n. n ≡ length list.now) }
+fn say_list<W: Write, T: Integer>(to: &mut W, list: &[T]) -> io::Result<usize>
+    ensures count { IfOk result (λ n. n ≡ length list.now) }
+    ensures said { OnOk result (Appends (W.contents to.old) (W.contents to.new) (listed T.text list.now)) }
 {
     say_bar(to)?;
     for x in list {
         say_next(to, *x)?;
     }
     Ok(list.len())
+}
+
+pub fn say_bytes<W: Write>(to: &mut W, list: &[u8]) -> io::Result<usize>
+    ensures count { IfOk result (λ n. n ≡ length list.now) }
+    ensures said { OnOk result (Appends (W.contents to.old) (W.contents to.new) (listed decimal list.now)) }
+{
+    say_list(to, list)
+}
+
+pub fn say_places<W: Write>(to: &mut W, list: &[u16]) -> io::Result<usize>
+    ensures count { IfOk result (λ n. n ≡ length list.now) }
+    ensures said { OnOk result (Appends (W.contents to.old) (W.contents to.new) (listed decimal list.now)) }
+{
+    say_list(to, list)
+}
+
+pub fn say_words<W: Write>(to: &mut W, list: &[u64]) -> io::Result<usize>
+    ensures count { IfOk result (λ n. n ≡ length list.now) }
+    ensures said { OnOk result (Appends (W.contents to.old) (W.contents to.new) (listed decimal list.now)) }
+{
+    say_list(to, list)
 }

@@ -1,7 +1,7 @@
 -- First snapshots by trailing zeros and counts by ones: a word's lowest set place goes by its digits, lowest first, and its ones by one place more.
 -- Assumes nothing.
 use mathlib.Core.Path.{◌≡◌, refl, sym, ap, ◌∙◌, subst}
-use mathlib.Core.Logic.{◌↔◌, ◌⊎◌, inl, inr, ⊎_elim}
+use mathlib.Core.Logic.{◌↔◌, inl, inr, ⊎_elim}
 use Prim.Native.Nat.{ℕ, zero, suc, ◌+◌, ◌-◌, ◌/◌, ◌%◌, ◌^◌, ◌≤◌, ◌<◌, min}
 use native.Mathlib.Nat.{lt_of_not-le, lt_of_lt_of_le}
 use native.Mathlib.Omega.{arith}

@@ -18,7 +18,6 @@ decided : (c : After-first-refusal)
     c.args.left
     c.args.right) c.first-refusal.result
 decided c =
-
     let s = c.args in
     binary-decided s.code s.left s.right c.binary_refusal-group.result c.refusal.result c.refusal-2.result c.unequal_refusal-lengths.result
     c.binary_refusal-group.ensures c.refusal.ensures c.refusal-2.ensures c.first-ill_formed.ensures

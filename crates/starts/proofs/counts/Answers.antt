@@ -1,6 +1,5 @@
 -- The goals of `counts` that the search leaves.
 use mathlib.Core.Path.{◌≡◌}
-use mathlib.Core.Logic.{⊎_elim}
 use lib.ListN.{get_or}
 use native.Mathlib.Omega.{arith}
 use Rattle.starts.proofs.Counting.{counted_none, counted-few, counted-more, counted-out}
