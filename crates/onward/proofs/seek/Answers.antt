@@ -1,5 +1,5 @@
 -- The goals of `seek` that the search leaves.
-use mathlib.Core.Path.{refl, ap}
+use mathlib.Core.Path.{◌≡◌, refl, ap}
 use native.Mathlib.Omega.{arith}
 use Rattle.state.specs.declared.State.{State}
 use Rattle.onward.proofs.Seeking.{seeking-start, seek-ends, seek-on, ended-step, not_end}
@@ -7,7 +7,7 @@ use Rattle.onward.proofs.seek.Goals as goal
 
 pub returns-then-from-ne0 : goal.returns-then-from-ne0
 returns-then-from-ne0 c =
-    let e = c.if-from-ne0.true in
+    let e : c.args.from.end ≡ 0 → ⊥ = λ z. omega (arith, z) in
     record {
       stays = λ _. (refl, refl);
       goes = λ z. absurd (e z);

@@ -1,9 +1,10 @@
 -- `search` meets its contract: where `out` is too short by what comes before 3, and else by the search.
+use native.Mathlib.Omega.{arith}
 use Rattle.out_search.proofs.Searching.{search-short, search-long}
 use Rattle.out_search.proofs.search.Goals as goal
 
 pub returns-then-out-lt-LONG_WORDS : goal.returns-then-out-lt-LONG_WORDS
-returns-then-out-lt-LONG_WORDS c = search-short _ _ _ _ _ _ _ _ _ _ _ _ c.if-out-lt-LONG_WORDS.true _ c.unanswered.ensures
+returns-then-out-lt-LONG_WORDS c = search-short _ _ _ _ _ _ _ _ _ _ _ _ (omega arith) _ c.unanswered.ensures
 
 pub returns : goal.returns
 returns c =
