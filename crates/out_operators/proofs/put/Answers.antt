@@ -1,13 +1,14 @@
 -- `put` looks at `out` only where there is a sequence to write.
 use mathlib.Core.Logic.{inl, inr}
 use mathlib.Core.Path.{refl}
+use native.Mathlib.Omega.{arith}
 use Rattle.out_operators.proofs.put.Goals as goal
 
 pub returns-then-out-lt-OUT_WORDS : goal.returns-then-out-lt-OUT_WORDS
-returns-then-out-lt-OUT_WORDS c = rw c.in-Sequence.is (inl (c.if-out-lt-OUT_WORDS.true, refl, refl))
+returns-then-out-lt-OUT_WORDS c = rw c.in-Sequence.is (inl (omega arith, refl, refl))
 
 pub returns-else-out-lt-OUT_WORDS : goal.returns-else-out-lt-OUT_WORDS
-returns-else-out-lt-OUT_WORDS c = rw c.in-Sequence.is (inr (c.if-out-lt-OUT_WORDS.false, refl, refl))
+returns-else-out-lt-OUT_WORDS c = rw c.in-Sequence.is (inr (omega arith, refl, refl))
 
 pub returns-in-Refused : goal.returns-in-Refused
 returns-in-Refused c = rw c.in-Refused.is (refl, refl)
