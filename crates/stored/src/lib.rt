@@ -325,7 +325,7 @@ pub fn room<'a>(line: &[u8], number: usize, to: &'a mut [u8]) -> &'a mut [u8]
     &mut to[..n]
 }
 
-// One write. One that a signal interrupts is tried again, as std's `write_all` does, and as often.
+// One write. One that a signal interrupts is tried again, as std's `write_all` does, where the tries are counted up to a number that no run reaches.
 fn write_some<W: Write>(to: &mut W, text: &[u8]) -> io::Result<usize>
     ensures bound { WritesAtMost result text.now }
     ensures bytes { WriteAppends (W.contents to.old) (W.contents to.new) result text.now }
