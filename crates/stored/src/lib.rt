@@ -4,14 +4,16 @@
 // digit, colon or space is passed over. Lines and fields are counted from 0.
 #![tactic(auto)]
 
-ghost use Rattle.std.specs.Prelude.{◌≡◌, ◌-◌, ◌/◌, ◌<◌, ◌≤◌, ◌++◌, ◌∷◌, [], IfOk, OnOk, decimal, length};
-ghost use Rattle.std.specs.Io.KnownBytes.{Appends, Consumes, IsAtEnd};
+ghost use Rattle.std.specs.Prelude.{◌≡◌, ◌-◌, ◌/◌, ◌<◌, ◌≤◌, ◌++◌, ◌∷◌, [], IfOk, OnErr, OnOk, decimal, length};
+ghost use Rattle.std.specs.Io.{WritesAtMost};
+ghost use Rattle.std.specs.Io.KnownBytes.{Appends, Consumes, IsAtEnd, WriteAppends};
 ghost use Rattle.stored.specs.Digits.{IsDigitCount};
+ghost use Rattle.stored.specs.Failures.{LostAtMost, SaidFront};
 ghost use Rattle.stored.specs.Lists.{listed};
 
 use itoa::{Buffer, Integer};
 use std::io;
-use std::io::{Read, Write};
+use std::io::{ErrorKind, Read, Write};
 
 // Where a byte stands first, from a place on; the length where it doesn't.
 fn stop(text: &[u8], from: usize, end: u8) -> usize
@@ -56,11 +58,12 @@ fn part(text: &[u8], number: usize, end: u8) -> &[u8]
     until(text, at, end)
 }
 
-// Standard input, as much of it as there is room for.
+// Standard input, as much of it as there is room for. Where a read fails, what was read before it is lost.
 pub fn input<'a, R: Read>(from: &mut R, room: &'a mut [u8]) -> io::Result<&'a mut [u8]>
     ensures within { IfOk result (λ r. length r.now ≤ length room.old) }
     ensures taken { IfOk result (λ r. Consumes (R.remaining from.old) (R.remaining from.new) r.now) }
     ensures ended { IfOk result (λ r. length r.now < length room.old → IsAtEnd (R.remaining from.new)) }
+    ensures err { OnErr result (LostAtMost (R.remaining from.old) (R.remaining from.new) (length room.old)) }
 {
     let n = whole_input::fill(from, room)?;
     Ok(&mut room[..n])
@@ -322,12 +325,50 @@ pub fn room<'a>(line: &[u8], number: usize, to: &'a mut [u8]) -> &'a mut [u8]
     &mut to[..n]
 }
 
+// One write. One that a signal interrupts is tried again, as std's `write_all` does, where the tries are counted up to a number that no run reaches.
+fn write_some<W: Write>(to: &mut W, text: &[u8]) -> io::Result<usize>
+    ensures bound { WritesAtMost result text.now }
+    ensures bytes { WriteAppends (W.contents to.old) (W.contents to.new) result text.now }
+{
+    for _ in 0..u64::MAX {
+        match to.write(text) {
+            Ok(n) => return Ok(n),
+            Err(e) => {
+                if e.kind() != ErrorKind::Interrupted {
+                    return Err(e);
+                }
+            }
+        }
+    }
+    Err(io::Error::new(
+        ErrorKind::TimedOut,
+        "gave up reading or writing after 2^64 tries",
+    ))
+}
+
+// Bytes are written, all of them or a front. std's `write_all` does the same, and says nothing of the front.
+fn put<W: Write>(to: &mut W, text: &[u8]) -> io::Result<()>
+    ensures said { OnOk result (Appends (W.contents to.old) (W.contents to.new) text.now) }
+    ensures err { OnErr result (SaidFront (W.contents to.old) (W.contents to.new) text.now) }
+{
+    let mut at: usize = 0;
+    while at < text.len() {
+        let n = write_some(to, &text[at..])?;
+        if n == 0 {
+            return Err(io::Error::new(ErrorKind::WriteZero, "failed to write whole buffer"));
+        }
+        at += n;
+    }
+    Ok(())
+}
+
 // Bytes are written; how many they are is answered.
 pub fn say<W: Write>(to: &mut W, text: &[u8]) -> io::Result<usize>
     ensures len { IfOk result (λ n. n ≡ length text.now) }
     ensures said { OnOk result (Appends (W.contents to.old) (W.contents to.new) text.now) }
+    ensures err { OnErr result (SaidFront (W.contents to.old) (W.contents to.new) text.now) }
 {
-    to.write_all(text)?;
+    put(to, text)?;
     Ok(text.len())
 }
 
@@ -335,6 +376,7 @@ pub fn say<W: Write>(to: &mut W, text: &[u8]) -> io::Result<usize>
 pub fn say_number<W: Write>(to: &mut W, before: &[u8], x: u64) -> io::Result<usize>
     ensures digits { IfOk result (IsDigitCount 10 1 x) }
     ensures said { OnOk result (Appends (W.contents to.old) (W.contents to.new) (before.now ++ decimal x)) }
+    ensures err { OnErr result (SaidFront (W.contents to.old) (W.contents to.new) (before.now ++ decimal x)) }
 {
     say(to, before)?;
     let mut buffer = Buffer::new();
@@ -343,23 +385,26 @@ pub fn say_number<W: Write>(to: &mut W, before: &[u8], x: u64) -> io::Result<usi
 
 // A bar comes before a list, and a space before each of its numbers.
 fn say_bar<W: Write>(to: &mut W) -> io::Result<()>
-    ensures { OnOk result (Appends (W.contents to.old) (W.contents to.new) (32 ∷ 124 ∷ [])) }
+    ensures said { OnOk result (Appends (W.contents to.old) (W.contents to.new) (32 ∷ 124 ∷ [])) }
+    ensures err { OnErr result (SaidFront (W.contents to.old) (W.contents to.new) (32 ∷ 124 ∷ [])) }
 {
-    to.write_all(b" |")
+    put(to, b" |")
 }
 
 fn say_next<W: Write, T: Integer>(to: &mut W, x: T) -> io::Result<()>
-    ensures { OnOk result (Appends (W.contents to.old) (W.contents to.new) (32 ∷ T.text x)) }
+    ensures said { OnOk result (Appends (W.contents to.old) (W.contents to.new) (32 ∷ T.text x)) }
+    ensures err { OnErr result (SaidFront (W.contents to.old) (W.contents to.new) (32 ∷ T.text x)) }
 {
-    to.write_all(b" ")?;
+    put(to, b" ")?;
     let mut buffer = Buffer::new();
-    to.write_all(buffer.format(x).as_bytes())
+    put(to, buffer.format(x).as_bytes())
 }
 
 // A bar, and a list's numbers with a space before each; how many they are is answered.
 fn say_list<W: Write, T: Integer>(to: &mut W, list: &[T]) -> io::Result<usize>
     ensures count { IfOk result (λ n. n ≡ length list.now) }
     ensures said { OnOk result (Appends (W.contents to.old) (W.contents to.new) (listed T.text list.now)) }
+    ensures err { OnErr result (SaidFront (W.contents to.old) (W.contents to.new) (listed T.text list.now)) }
 {
     say_bar(to)?;
     for x in list {
@@ -371,6 +416,7 @@ fn say_list<W: Write, T: Integer>(to: &mut W, list: &[T]) -> io::Result<usize>
 pub fn say_bytes<W: Write>(to: &mut W, list: &[u8]) -> io::Result<usize>
     ensures count { IfOk result (λ n. n ≡ length list.now) }
     ensures said { OnOk result (Appends (W.contents to.old) (W.contents to.new) (listed decimal list.now)) }
+    ensures err { OnErr result (SaidFront (W.contents to.old) (W.contents to.new) (listed decimal list.now)) }
 {
     say_list(to, list)
 }
@@ -378,6 +424,7 @@ pub fn say_bytes<W: Write>(to: &mut W, list: &[u8]) -> io::Result<usize>
 pub fn say_places<W: Write>(to: &mut W, list: &[u16]) -> io::Result<usize>
     ensures count { IfOk result (λ n. n ≡ length list.now) }
     ensures said { OnOk result (Appends (W.contents to.old) (W.contents to.new) (listed decimal list.now)) }
+    ensures err { OnErr result (SaidFront (W.contents to.old) (W.contents to.new) (listed decimal list.now)) }
 {
     say_list(to, list)
 }
@@ -385,6 +432,7 @@ pub fn say_places<W: Write>(to: &mut W, list: &[u16]) -> io::Result<usize>
 pub fn say_words<W: Write>(to: &mut W, list: &[u64]) -> io::Result<usize>
     ensures count { IfOk result (λ n. n ≡ length list.now) }
     ensures said { OnOk result (Appends (W.contents to.old) (W.contents to.new) (listed decimal list.now)) }
+    ensures err { OnErr result (SaidFront (W.contents to.old) (W.contents to.new) (listed decimal list.now)) }
 {
     say_list(to, list)
 }

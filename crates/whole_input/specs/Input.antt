@@ -1,6 +1,6 @@
 -- What was read of standard input.
 -- Assumes nothing.
-use Rattle.std.specs.Prelude.{ℕ, ◌<◌, ◌≤◌, List, length, take, ⊤}
+use Rattle.std.specs.Prelude.{ℕ, ◌<◌, ◌≤◌, List, length, take}
 use Rattle.std.specs.Io.KnownBytes.{Consumes, IsAtEnd}
 use Rattle.std.specs.declared.option.Option.{Option}
 use Rattle.whole_input.specs.declared.Taken.{Taken}
@@ -17,7 +17,11 @@ pub record FirstBytes (old new : Option (List ℕ)) (room : List ℕ) (n : ℕ) 
   pub taken : Consumes old new (take n room)
   pub ended : n < length room → IsAtEnd new
 
--- the same of what is answered; of a read that failed nothing is said
+-- where a read failed: the reader gave some bytes before, which stand at the start of the room, and no others
+abbrev pub FirstOf : Option (List ℕ) → Option (List ℕ) → List ℕ → Type 0
+FirstOf old new room = (n : ℕ) × (n ≤ length room) × Consumes old new (take n room)
+
+-- the same of what is answered
 abbrev pub TakesFirst : Taken → Option (List ℕ) → Option (List ℕ) → List ℕ → Type 0
 TakesFirst (Bytes n) old new room = FirstBytes old new room n
-TakesFirst Failed old new room = ⊤
+TakesFirst Failed old new room = FirstOf old new room

@@ -1,8 +1,8 @@
 // Standard input, whole or up to a room.
 #![tactic(auto)]
 
-ghost use Rattle.std.specs.Prelude.{length, IfOk};
-ghost use Rattle.whole_input.specs.Input.{FirstBytes, TakesFirst, Within};
+ghost use Rattle.std.specs.Prelude.{length, IfOk, OnErr};
+ghost use Rattle.whole_input.specs.Input.{FirstBytes, FirstOf, TakesFirst, Within};
 
 use std::io;
 use std::io::Read;
@@ -14,9 +14,11 @@ pub enum Taken {
     Failed,
 }
 
-// Reads until the input ends or the room is full, and answers how many bytes were read. What comes in pieces is read piece by piece.
+// Reads until the input ends or the room is full, and answers how many bytes were read. What comes in pieces is read piece by piece, and where a read fails
+// the pieces before it are in the room.
 pub fn fill<R: Read>(from: &mut R, room: &mut [u8]) -> io::Result<usize>
-    ensures { IfOk result (FirstBytes (R.remaining from.old) (R.remaining from.new) room.new) }
+    ensures ok { IfOk result (FirstBytes (R.remaining from.old) (R.remaining from.new) room.new) }
+    ensures err { OnErr result (FirstOf (R.remaining from.old) (R.remaining from.new) room.new) }
 {
     let mut at: usize = 0;
     while at < room.len() {
