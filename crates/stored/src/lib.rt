@@ -5,8 +5,7 @@
 #![tactic(auto)]
 
 ghost use Rattle.std.specs.Prelude.{◌≡◌, ◌-◌, ◌/◌, ◌<◌, ◌≤◌, ◌++◌, ◌∷◌, [], IfOk, OnErr, OnOk, decimal, length};
-ghost use Rattle.std.specs.Io.{WritesAtMost};
-ghost use Rattle.std.specs.Io.KnownBytes.{Appends, Consumes, IsAtEnd, WriteAppends};
+ghost use Rattle.std.specs.Io.KnownBytes.{Appends, Consumes, IsAtEnd};
 ghost use Rattle.stored.specs.Digits.{IsDigitCount};
 ghost use Rattle.stored.specs.Failures.{LostAtMost, SaidFront};
 ghost use Rattle.stored.specs.Lists.{listed};
@@ -325,35 +324,14 @@ pub fn room<'a>(line: &[u8], number: usize, to: &'a mut [u8]) -> &'a mut [u8]
     &mut to[..n]
 }
 
-// One write. One that a signal interrupts is tried again, as std's `write_all` does, where the tries are counted up to a number that no run reaches.
-fn write_some<W: Write>(to: &mut W, text: &[u8]) -> io::Result<usize>
-    ensures bound { WritesAtMost result text.now }
-    ensures bytes { WriteAppends (W.contents to.old) (W.contents to.new) result text.now }
-{
-    for _ in 0..u64::MAX {
-        match to.write(text) {
-            Ok(n) => return Ok(n),
-            Err(e) => {
-                if e.kind() != ErrorKind::Interrupted {
-                    return Err(e);
-                }
-            }
-        }
-    }
-    Err(io::Error::new(
-        ErrorKind::TimedOut,
-        "gave up reading or writing after 2^64 tries",
-    ))
-}
-
-// Bytes are written, all of them or a front. std's `write_all` does the same, and says nothing of the front.
+// Bytes are written, all of them or a front: std's `write_all` says nothing of the front. A write that a signal interrupts has failed, as a read has.
 fn put<W: Write>(to: &mut W, text: &[u8]) -> io::Result<()>
     ensures said { OnOk result (Appends (W.contents to.old) (W.contents to.new) text.now) }
     ensures err { OnErr result (SaidFront (W.contents to.old) (W.contents to.new) text.now) }
 {
     let mut at: usize = 0;
     while at < text.len() {
-        let n = write_some(to, &text[at..])?;
+        let n = to.write(&text[at..])?;
         if n == 0 {
             return Err(io::Error::new(ErrorKind::WriteZero, "failed to write whole buffer"));
         }
