@@ -6,7 +6,7 @@ use mathlib.Core.List.{List, [], ◌∷◌, ◌++◌}
 use Prim.Native.Nat.{ℕ, ◌+◌, ◌*◌, ◌≤◌}
 use native.Mathlib.Nat.{mul-le-mul}
 use native.Mathlib.Omega.{arith}
-use lib.ListN.{length, take, drop, length-append, length-map}
+use lib.ListN.{length, take, drop, replicate, length-append, length-map, length-replicate}
 use lib.Dec.{leb}
 use lib.Seq.{sets-eq, length-take-le}
 use borrow.Author.Tests.{le-leb}
@@ -17,7 +17,7 @@ use Rattle.reading.specs.Reading.{section, Got, got, bad}
 use Rattle.names.specs.Names.{name_bytes, whole_names}
 use Rattle.file.specs.Offence.{whole_file}
 use Rattle.rules.specs.Answers.{Said, over}
-use Rattle.file.specs.Reading.{said_read, Lent, After, read_after, marks_of, lengths_of, words_of, room_for, handed_out, outcome, read_of}
+use Rattle.file.specs.Reading.{said_read, Lent, lent, After, read_after, marks_of, lengths_of, words_of, room_for, handed_out, outcome, read_of}
 use Rattle.file.proofs.Numbers.{Bytes}
 use Rattle.file.proofs.Positions.{length-all-words}
 use Rattle.file.proofs.CodeLaws.{good-unary, good-binary}
@@ -40,6 +40,20 @@ pub record Wide (l : Lent) : Type 0 where
   pub words : length l.words ≡ 512
   pub unary : length l.unary ≡ 5
   pub binary : length l.binary ≡ 6
+
+-- arrays of zeros are such
+unfoldable pub blank : Lent
+blank = lent (replicate 32 0) (replicate 32 0) (replicate 512 0) (replicate 5 0) (replicate 6 0)
+
+pub blank-wide : Wide blank
+unfolding blank
+blank-wide = record {
+  marks = length-replicate {A = ℕ} 32 0;
+  lengths = length-replicate {A = ℕ} 32 0;
+  words = length-replicate {A = ℕ} 512 0;
+  unary = length-replicate {A = ℕ} 5 0;
+  binary = length-replicate {A = ℕ} 6 0;
+}
 
 module _ (p : Parts) (g : Good p) (l : Lent) (wide : Wide l) where
   unary-few : length p.unary ≤ 5

@@ -6,7 +6,7 @@ use mathlib.Core.List.{List, [], append-nil}
 use Prim.Native.Nat.{ℕ, ◌*◌, ◌≤◌}
 use native.Mathlib.Nat.{mul-le-mul}
 use native.Mathlib.Omega.{arith}
-use lib.ListN.{length}
+use lib.ListN.{length, replicate, length-replicate}
 use Rattle.rules.specs.Limits.{most_room, Outside}
 use Rattle.rules.specs.Refusals.{Decided}
 use Rattle.rules.proofs.Refusals.{decided-unique}
@@ -26,7 +26,7 @@ use Rattle.formula.specs.Kinds.{node_of}
 use Rattle.formula.specs.Rule.{Broken}
 use Rattle.counting.specs.declared.Counts.{Counts}
 use Rattle.search.specs.declared.SearchAnswer.TheVariants.{Found, None, Full, Refused}
-use Rattle.search.specs.Table.{Cols, table_over}
+use Rattle.search.specs.Table.{Cols, cols, table_over}
 use Rattle.checks.specs.Refusals.{search_rows}
 use Rattle.search.specs.Search.{tally_of, walk_said, Searched}
 use Rattle.checks.proofs.Decide.{is-two, is_zero, settings-fine, room-fine, codes-fine}
@@ -44,6 +44,20 @@ pub record Roomy (t : Cols) : Type 0 where
   pub rights : length t.rights ≡ 4096
   pub sizes : length t.sizes ≡ 4096
   pub matrices : length t.matrices ≡ 131072
+
+-- a table of zeros is such
+unfoldable pub blank : Cols
+blank = cols (replicate 4096 0) (replicate 4096 0) (replicate 4096 0) (replicate 4096 0) (replicate 131072 0)
+
+pub blank-roomy : Roomy blank
+unfolding blank
+blank-roomy = record {
+  codes = length-replicate {A = ℕ} 4096 0;
+  lefts = length-replicate {A = ℕ} 4096 0;
+  rights = length-replicate {A = ℕ} 4096 0;
+  sizes = length-replicate {A = ℕ} 4096 0;
+  matrices = length-replicate {A = ℕ} 131072 0;
+}
 
 module _ (p : Parts) (g : Good p) (room : ℕ) (t : Cols) (roomy : Roomy t) where
   i : Input

@@ -324,7 +324,8 @@ pub fn room<'a>(line: &[u8], number: usize, to: &'a mut [u8]) -> &'a mut [u8]
     &mut to[..n]
 }
 
-// Bytes are written, all of them or a front: std's `write_all` says nothing of the front. A write that a signal interrupts has failed, as a read has.
+// Bytes are written, all of them or a front: std's `write_all` says nothing of the front. A write that a signal interrupts has failed, as a read has. The only
+// errors are the writer's own and that of a writer that takes no byte.
 fn put<W: Write>(to: &mut W, text: &[u8]) -> io::Result<()>
     ensures said { OnOk result (Appends (W.contents to.old) (W.contents to.new) text.now) }
     ensures err { OnErr result (SaidFront (W.contents to.old) (W.contents to.new) text.now) }

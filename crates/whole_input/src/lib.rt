@@ -15,7 +15,7 @@ pub enum Taken {
 }
 
 // Reads until the input ends or the room is full, and answers how many bytes were read. What comes in pieces is read piece by piece, and where a read fails
-// the pieces before it are in the room.
+// the pieces before it are in the room. The only error is the reader's own; that a reader had to fail no clause can say.
 pub fn fill<R: Read>(from: &mut R, room: &mut [u8]) -> io::Result<usize>
     ensures ok { IfOk result (FirstBytes (R.remaining from.old) (R.remaining from.new) room.new) }
     ensures err { OnErr result (FirstOf (R.remaining from.old) (R.remaining from.new) room.new) }

@@ -2,29 +2,15 @@
 use mathlib.Core.Path.{◌≡◌}
 use Prim.Native.Nat.{ℕ}
 use native.Mathlib.Omega.{arith}
-use lib.ListN.{length-replicate, replicate}
 use Rattle.file.specs.declared.ReadAnswer.TheVariants.{Parts}
 use Rattle.file.specs.Reading.{Lent, lent, said_read, read_after, read_of}
 use Rattle.file.proofs.Numbers.{Bytes}
-use Rattle.lines.proofs.Handed.{Wide, Handed, handed, same}
+use Rattle.lines.proofs.Handed.{blank, blank-wide, Handed, handed, same}
 use Rattle.lines.specs.Bench.{bench_room}
 use Rattle.explanation.proofs.Outcomes.{good-explained, broken-explained}
 use borrow.Enum.Refused.{opened}
 use Rattle.explanation.proofs.of_file.Goals as goal
 use Rattle.explanation.proofs.of_file.Goals.{After-read-read}
-
-blank : Lent
-blank = lent (replicate 32 0) (replicate 32 0) (replicate 512 0) (replicate 5 0) (replicate 6 0)
-
-wide : Wide blank
-unfolding blank
-wide = record {
-  marks = length-replicate {A = ℕ} 32 0;
-  lengths = length-replicate {A = ℕ} 32 0;
-  words = length-replicate {A = ℕ} 512 0;
-  unary = length-replicate {A = ℕ} 5 0;
-  binary = length-replicate {A = ℕ} 6 0;
-}
 
 -- the file is one of bytes
 bytes : (d : After-read-read) → Bytes d.args.file.now
@@ -42,10 +28,10 @@ ran d = d.read-read.ensures
 
 -- a good file's parts, and where they are
 here : (d : After-read-read) (r m n u b constants bound : ℕ) → d.read-read.result ≡ Parts r m n u b constants bound
-    → Handed d.args.file.now (bytes d) blank wide
+    → Handed d.args.file.now (bytes d) blank blank-wide
     d.read-read.result (left d).marks (left d).lengths (left d).words (left d).unary (left d).binary (ran d) r m n u b constants bound
 here d r m n u b constants bound e =
-    handed d.args.file.now (bytes d) blank wide
+    handed d.args.file.now (bytes d) blank blank-wide
     d.read-read.result (left d).marks (left d).lengths (left d).words (left d).unary (left d).binary (ran d) e
 
 pub slice_bounds-marks-end : goal.slice_bounds-marks-end
@@ -99,7 +85,7 @@ searched-requires c =
       (
         h.parts,
         h.good,
-        same c.args.file.now (bytes d) blank wide
+        same c.args.file.now (bytes d) blank blank-wide
             c.read-read.result (left d).marks (left d).lengths (left d).words (left d).unary (left d).binary (ran d) h bench_room,
       ),
       omega arith,
@@ -109,11 +95,11 @@ pub returns-in-Parts : goal.returns-in-Parts
 unfolding left
 returns-in-Parts c =
     let d = (goal.at.returns-in-Parts c).After-read-read in
-    good-explained c.args.file.now (bytes d) blank wide
+    good-explained c.args.file.now (bytes d) blank blank-wide
     c.read-read.result (left d).marks (left d).lengths (left d).words (left d).unary (left d).binary (ran d) (here d _ _ _ _ _ _ _ c.in-Parts.is) c.searched.ensures
 
 pub returns-in_default : goal.returns-in_default
 returns-in_default c =
     let d = (goal.at.returns-in_default c).After-read-read in
-    broken-explained c.args.file.now (bytes d) blank wide
+    broken-explained c.args.file.now (bytes d) blank blank-wide
     c.read-read.result (left d).marks (left d).lengths (left d).words (left d).unary (left d).binary (ran d) (opened c.in_default.in_default-own.keys2) c.bench.ensures

@@ -1,7 +1,6 @@
 -- `searched` meets its contract: a formula found passes the check, and else the bench's lines stand.
 use mathlib.Core.Path.{◌≡◌}
 use Prim.Native.Nat.{ℕ}
-use lib.ListN.{length-replicate, replicate}
 use Rattle.formula.specs.declared.kinds.Node.{Node}
 use Rattle.counting.specs.declared.Counts.{Counts}
 use Rattle.search.specs.declared.SearchAnswer.TheVariants.{Found}
@@ -9,25 +8,12 @@ use Rattle.walk.specs.Input.{Input, input_of}
 use Rattle.search.specs.Table.{Cols, cols}
 use Rattle.search.specs.Search.{Searched}
 use Rattle.lines.specs.Bench.{bench_room}
-use Rattle.lines.proofs.Searching.{Roomy, FoundAt}
+use Rattle.lines.proofs.Searching.{FoundAt, blank, blank-roomy}
 use Rattle.lines.proofs.Answered.{codes-in, codes-part, lefts_in, lefts-part, rights-in, rights-part, sizes-in, sizes-part}
 use Rattle.explanation.proofs.Outcomes.{this, found-passes, found-stands, unfound-stands}
 use borrow.Enum.Refused.{opened}
 use Rattle.explanation.proofs.searched.Goals as goal
 use Rattle.explanation.proofs.searched.Goals.{After-search-answer}
-
-blank : Cols
-blank = cols (replicate 4096 0) (replicate 4096 0) (replicate 4096 0) (replicate 4096 0) (replicate 131072 0)
-
-roomy : Roomy blank
-unfolding blank
-roomy = record {
-  codes = length-replicate {A = ℕ} 4096 0;
-  lefts = length-replicate {A = ℕ} 4096 0;
-  rights = length-replicate {A = ℕ} 4096 0;
-  sizes = length-replicate {A = ℕ} 4096 0;
-  matrices = length-replicate {A = ℕ} 131072 0;
-}
 
 -- what the search is given
 input : After-search-answer → Input
@@ -45,10 +31,10 @@ ran d = d.search-answer.ensures
 
 -- the formula found, and the table that it stands in
 here : (d : After-search-answer) (root : Node) (counts : Counts) → d.search-answer.result ≡ Found root counts
-    → FoundAt d.requires.0.0 d.requires.0.1 bench_room blank roomy (left d) root counts
+    → FoundAt d.requires.0.0 d.requires.0.1 bench_room blank blank-roomy (left d) root counts
 unfolding input
 here d root counts e =
-    this d.args.file.now (input d) d.requires.0.0 d.requires.0.1 d.requires.0.2 blank roomy (left d) d.search-answer.result (ran d) e
+    this d.args.file.now (input d) d.requires.0.0 d.requires.0.1 d.requires.0.2 blank blank-roomy (left d) d.search-answer.result (ran d) e
 
 pub slice_bounds-codes-end : goal.slice_bounds-codes-end
 unfolding left
@@ -98,5 +84,5 @@ pub returns-in_default : goal.returns-in_default
 unfolding input
 returns-in_default c =
     let d = (goal.at.returns-in_default c).After-search-answer in
-    unfound-stands c.args.file.now (input d) c.requires.0.0 c.requires.0.1 c.requires.0.2 blank roomy (left d) c.search-answer.result (ran d)
+    unfound-stands c.args.file.now (input d) c.requires.0.0 c.requires.0.1 c.requires.0.2 blank blank-roomy (left d) c.search-answer.result (ran d)
     (opened c.in_default.in_default-own.keys2) c.bench.ensures

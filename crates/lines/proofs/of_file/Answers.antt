@@ -2,26 +2,12 @@
 use mathlib.Core.Path.{◌≡◌}
 use Prim.Native.Nat.{ℕ}
 use native.Mathlib.Omega.{arith}
-use lib.ListN.{length-replicate, replicate}
 use Rattle.file.specs.declared.ReadAnswer.TheVariants.{Parts}
 use Rattle.file.specs.Reading.{Lent, lent, said_read, read_after, read_of}
 use Rattle.file.proofs.Numbers.{Bytes}
-use Rattle.lines.proofs.Handed.{Wide, Handed, handed, given_by, good-lines, broken-lines, never-room}
+use Rattle.lines.proofs.Handed.{blank, blank-wide, Handed, handed, given_by, good-lines, broken-lines, never-room}
 use Rattle.lines.proofs.of_file.Goals as goal
 use Rattle.lines.proofs.of_file.Goals.{After-read-read}
-
-blank : Lent
-blank = lent (replicate 32 0) (replicate 32 0) (replicate 512 0) (replicate 5 0) (replicate 6 0)
-
-wide : Wide blank
-unfolding blank
-wide = record {
-  marks = length-replicate {A = ℕ} 32 0;
-  lengths = length-replicate {A = ℕ} 32 0;
-  words = length-replicate {A = ℕ} 512 0;
-  unary = length-replicate {A = ℕ} 5 0;
-  binary = length-replicate {A = ℕ} 6 0;
-}
 
 -- the file is one of bytes
 bytes : (d : After-read-read) → Bytes d.args.file.now
@@ -39,10 +25,10 @@ ran d = d.read-read.ensures
 
 -- a good file's parts, and where they are
 here : (d : After-read-read) (r m n u b constants bound : ℕ) → d.read-read.result ≡ Parts r m n u b constants bound
-    → Handed d.args.file.now (bytes d) blank wide
+    → Handed d.args.file.now (bytes d) blank blank-wide
     d.read-read.result (left d).marks (left d).lengths (left d).words (left d).unary (left d).binary (ran d) r m n u b constants bound
 here d r m n u b constants bound e =
-    handed d.args.file.now (bytes d) blank wide
+    handed d.args.file.now (bytes d) blank blank-wide
     d.read-read.result (left d).marks (left d).lengths (left d).words (left d).unary (left d).binary (ran d) e
 
 pub slice_bounds-searched-end : goal.slice_bounds-searched-end
@@ -95,7 +81,7 @@ pub searched-requires : goal.searched-requires
 unfolding left
 searched-requires c =
     let d = (goal.at.searched-requires c).After-read-read in (
-      given_by c.args.file.now (bytes d) blank wide
+      given_by c.args.file.now (bytes d) blank blank-wide
           c.read-read.result (left d).marks (left d).lengths (left d).words (left d).unary (left d).binary
           (ran d) (here d _ _ _ _ _ _ _ c.in-Parts.is) c.args.room,
       omega arith,
@@ -105,19 +91,19 @@ pub returns-in-Parts : goal.returns-in-Parts
 unfolding left
 returns-in-Parts c =
     let d = (goal.at.returns-in-Parts c).After-read-read in
-    good-lines c.args.file.now (bytes d) blank wide
+    good-lines c.args.file.now (bytes d) blank blank-wide
     c.read-read.result (left d).marks (left d).lengths (left d).words (left d).unary (left d).binary
     (ran d) (here d _ _ _ _ _ _ _ c.in-Parts.is) c.args.room c.searched.ensures
 
 pub returns-in-Broken : goal.returns-in-Broken
 returns-in-Broken c =
     let d = (goal.at.returns-in-Broken c).After-read-read in
-    broken-lines c.args.file.now (bytes d) blank wide
+    broken-lines c.args.file.now (bytes d) blank blank-wide
     c.read-read.result (left d).marks (left d).lengths (left d).words (left d).unary (left d).binary
     (ran d) c.args.room c.in-Broken.is (omega arith) c.broken.ensures
 
 pub returns-in-Room : goal.returns-in-Room
 returns-in-Room c =
     let d = (goal.at.returns-in-Room c).After-read-read in
-    absurd (never-room c.args.file.now (bytes d) blank wide
+    absurd (never-room c.args.file.now (bytes d) blank blank-wide
     c.read-read.result (left d).marks (left d).lengths (left d).words (left d).unary (left d).binary (ran d) c.in-Room.is)

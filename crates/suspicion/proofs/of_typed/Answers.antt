@@ -2,27 +2,13 @@
 use mathlib.Core.Path.{◌≡◌}
 use Prim.Native.Nat.{ℕ}
 use native.Mathlib.Omega.{arith}
-use lib.ListN.{length-replicate, replicate}
 use Rattle.file.specs.declared.ReadAnswer.TheVariants.{Parts}
 use Rattle.file.specs.Reading.{Lent, lent, said_read, read_after, read_of}
 use Rattle.file.proofs.Numbers.{Bytes}
-use Rattle.lines.proofs.Handed.{Wide, Handed, handed, never-room}
+use Rattle.lines.proofs.Handed.{blank, blank-wide, Handed, handed, never-room}
 use Rattle.suspicion.proofs.Answered.{good-said, broken-said}
 use Rattle.suspicion.proofs.of_typed.Goals as goal
 use Rattle.suspicion.proofs.of_typed.Goals.{After-read-read}
-
-blank : Lent
-blank = lent (replicate 32 0) (replicate 32 0) (replicate 512 0) (replicate 5 0) (replicate 6 0)
-
-wide : Wide blank
-unfolding blank
-wide = record {
-  marks = length-replicate {A = ℕ} 32 0;
-  lengths = length-replicate {A = ℕ} 32 0;
-  words = length-replicate {A = ℕ} 512 0;
-  unary = length-replicate {A = ℕ} 5 0;
-  binary = length-replicate {A = ℕ} 6 0;
-}
 
 -- the file is one of bytes
 bytes : (d : After-read-read) → Bytes d.args.file.now
@@ -40,10 +26,10 @@ ran d = d.read-read.ensures
 
 -- a good file's parts, and where they are
 here : (d : After-read-read) (r m n u b constants bound : ℕ) → d.read-read.result ≡ Parts r m n u b constants bound
-    → Handed d.args.file.now (bytes d) blank wide
+    → Handed d.args.file.now (bytes d) blank blank-wide
     d.read-read.result (left d).marks (left d).lengths (left d).words (left d).unary (left d).binary (ran d) r m n u b constants bound
 here d r m n u b constants bound e =
-    handed d.args.file.now (bytes d) blank wide
+    handed d.args.file.now (bytes d) blank blank-wide
     d.read-read.result (left d).marks (left d).lengths (left d).words (left d).unary (left d).binary (ran d) e
 
 pub slice_bounds-judged-end : goal.slice_bounds-judged-end
@@ -80,19 +66,19 @@ pub returns-in-Parts : goal.returns-in-Parts
 unfolding left
 returns-in-Parts c =
     let d = (goal.at.returns-in-Parts c).After-read-read in
-    good-said c.args.file.now (bytes d) blank wide
+    good-said c.args.file.now (bytes d) blank blank-wide
     c.read-read.result (left d).marks (left d).lengths (left d).words (left d).unary (left d).binary
     (ran d) c.args.typed.now (here d _ _ _ _ _ _ _ c.in-Parts.is) c.judged.ensures
 
 pub returns-in-Broken : goal.returns-in-Broken
 returns-in-Broken c =
     let d = (goal.at.returns-in-Broken c).After-read-read in
-    broken-said c.args.file.now (bytes d) blank wide
+    broken-said c.args.file.now (bytes d) blank blank-wide
     c.read-read.result (left d).marks (left d).lengths (left d).words (left d).unary (left d).binary
     (ran d) c.args.typed.now c.in-Broken.is c.refused_at.ensures
 
 pub returns-in-Room : goal.returns-in-Room
 returns-in-Room c =
     let d = (goal.at.returns-in-Room c).After-read-read in
-    absurd (never-room c.args.file.now (bytes d) blank wide
+    absurd (never-room c.args.file.now (bytes d) blank blank-wide
     c.read-read.result (left d).marks (left d).lengths (left d).words (left d).unary (left d).binary (ran d) c.in-Room.is)
