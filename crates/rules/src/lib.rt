@@ -1,7 +1,8 @@
-// The documents' own vocabulary: their limits for the code (for the contracts they are in specs/Limits.antt) and the kinds of numbers.
+// The documents' own vocabulary: their limits for the code (for the contracts they are in specs/Limits.antt) and the kinds of numbers and of refusals.
 #![tactic(auto)]
 
 pub mod kinds;
+pub mod refusal;
 
 // "sessions r 1 to 32"
 pub const SESSIONS: usize = 32;
