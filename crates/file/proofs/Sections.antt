@@ -143,15 +143,15 @@ module _ (file : List ℕ) where
           answer : Result Tail Broken → Result Numbers Broken
           answer (Ok t) =
               Ok (
-                record {
-                  sessions = r.value;
-                  propositions = m.value;
-                  names = m.next;
-                  unary = u.value;
-                  binary = v.value;
-                  constants = t.constants;
-                  bound = t.bound;
-                })
+              record {
+                sessions = r.value;
+                propositions = m.value;
+                names = m.next;
+                unary = u.value;
+                binary = v.value;
+                constants = t.constants;
+                bound = t.bound;
+              })
           answer (Err o) = Err o
 
           answer-is : (z : Got Settings) → answer (tail_of z) ≡ judged (and_then z (λ z n. got (whole z) n))
@@ -168,14 +168,14 @@ module _ (file : List ℕ) where
 
           pub judge-whole : {t : Tail} → Ok t ≡ tail_of (tail_at file v.next)
               → Ok (
-                record {
-                  sessions = r.value;
-                  propositions = m.value;
-                  names = m.next;
-                  unary = u.value;
-                  binary = v.value;
-                  constants = t.constants;
-                  bound = t.bound;
-                }) ≡ judged_of file
+              record {
+                sessions = r.value;
+                propositions = m.value;
+                names = m.next;
+                unary = u.value;
+                binary = v.value;
+                constants = t.constants;
+                bound = t.bound;
+              }) ≡ judged_of file
           unfolding answer
           judge-whole y = found y

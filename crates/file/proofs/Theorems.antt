@@ -151,11 +151,22 @@ binary-once p g i j h k e = (each_at GoodBinary 0 p.binary [] g.binary j k).1 (M
 
 -- ---- any two allowed results are equal
 
+-- the numbers of the parts that these values say
+numbers : List ℕ → Numbers
+numbers l =
+    record {
+      sessions = get_or l 0 0;
+      propositions = get_or l 1 0;
+      names = get_or l 2 0;
+      unary = get_or l 3 0;
+      binary = get_or l 4 0;
+      constants = get_or l 5 0;
+      bound = get_or l 6 0;
+    }
+
 said-one : (a b : Result Numbers ReadError) → said_read a ≡ said_read b → a ≡ b
-said-one (Ok n) (Ok m) e =
-    let t = ap (λ (s : Said). s.values) e in
-    let q : n ≡ m = cc in
-    ap Ok q
+unfolding numbers
+said-one (Ok n) (Ok m) e = ap (λ (s : Said). Ok (numbers s.values)) e
 said-one (Ok n) (Err (Broken o)) e = let t : ◌≡◌ {A = ℕ} 0 8 = ap (λ (s : Said). s.number) e in absurd (omega arith)
 said-one (Ok n) (Err Room) e = let t : ◌≡◌ {A = ℕ} 0 3 = ap (λ (s : Said). s.number) e in absurd (omega arith)
 said-one (Err (Broken o)) (Ok n) e = let t : ◌≡◌ {A = ℕ} 8 0 = ap (λ (s : Said). s.number) e in absurd (omega arith)

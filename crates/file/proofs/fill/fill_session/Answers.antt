@@ -1,6 +1,4 @@
 -- The goals of `fill_session` that the search leaves.
-use mathlib.Core.Path.{◌≡◌, sym, subst}
-use Prim.Native.Nat.{ℕ, ◌+◌, ◌*◌}
 use native.Mathlib.Omega.{arith}
 use Rattle.file.proofs.Filling.{words-start, words-turn, words-end}
 use Rattle.file.proofs.fill.fill_session.Goals as goal
