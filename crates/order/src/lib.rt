@@ -10,7 +10,7 @@ ghost use Rattle.order.specs.Inner.{InLeaves, part_of, part_start, InParts};
 
 use formula::kinds::{FALSE, PROPOSITION, TRUE};
 use rules::kinds::{Place, Proposition};
-use split::{Cursor, Part, Step};
+use split::{Candidate, Cursor, Part};
 
 fn leaf_cursor(o: usize) -> Cursor
     ensures { result ≡ leaf_cursor o }
@@ -25,40 +25,40 @@ fn leaf_cursor(o: usize) -> Cursor
 }
 
 // The leaves: the propositions in order, then, if constants are asked for, false, then true.
-fn leaf_step(at: Cursor, propositions: u8, constants: u8) -> Step
+fn leaf_step(at: Cursor, propositions: u8, constants: u8) -> Option<Candidate>
     ensures { InLeaves propositions constants at result }
 {
     let o = at.operator;
     let m = propositions as usize;
     if o < m {
         let left = Proposition(o as u8).to_left();
-        return Step::Candidate {
+        return Some(Candidate {
             code: PROPOSITION,
             left,
             right: Place(0),
             next: leaf_cursor(o + 1),
-        };
+        });
     }
     if constants != 1 {
-        return Step::End;
+        return None;
     }
     if o == m {
-        return Step::Candidate {
+        return Some(Candidate {
             code: FALSE,
             left: Place(0),
             right: Place(0),
             next: leaf_cursor(o + 1),
-        };
+        });
     }
     if o == m + 1 {
-        return Step::Candidate {
+        return Some(Candidate {
             code: TRUE,
             left: Place(0),
             right: Place(0),
             next: leaf_cursor(o + 1),
-        };
+        });
     }
-    Step::End
+    None
 }
 
 // The places of split i of size s. Split 0 has the unary operators: places of size s-1 to the left, and to the right the one number 0.
@@ -95,7 +95,7 @@ fn part_start(starts: &[u16], s: usize, i: usize) -> Cursor
 }
 
 // The cursor's split.
-fn split_step(at: Cursor, part: Part, unary: &[u8], binary: &[u8]) -> Step
+fn split_step(at: Cursor, part: Part, unary: &[u8], binary: &[u8]) -> Option<Candidate>
     ensures { InPart (split_codes unary.now binary.now at.split) part at result }
 {
     if at.split == 0 {
@@ -105,7 +105,13 @@ fn split_step(at: Cursor, part: Part, unary: &[u8], binary: &[u8]) -> Step
 }
 
 // The splits of size s: the unary operators, then i from 1 while i < ceil(s/2).
-fn splits_step(at: Cursor, starts: &[u16], s: usize, unary: &[u8], binary: &[u8]) -> Step
+fn splits_step(
+    at: Cursor,
+    starts: &[u16],
+    s: usize,
+    unary: &[u8],
+    binary: &[u8],
+) -> Option<Candidate>
     requires { (2 ≤ s) × (s < length starts.now) }
     ensures { InParts starts.now s unary.now binary.now at result }
 {
@@ -115,12 +121,12 @@ fn splits_step(at: Cursor, starts: &[u16], s: usize, unary: &[u8], binary: &[u8]
         let i = here.split;
         let part = part_of(starts, s, i);
         let step = split_step(here, part, unary, binary);
-        let Step::End = step else {
+        if step.is_some() {
             return step;
-        };
+        }
         here = part_start(starts, s, i + 1);
     }
-    Step::End
+    None
 }
 
 // The candidate of size s at a cursor and the cursor after it, whatever the cursor's numbers. `starts` has the first place of each size: the places of
@@ -133,14 +139,14 @@ pub fn next(
     constants: u8,
     unary: &[u8],
     binary: &[u8],
-) -> Step
+) -> Option<Candidate>
     ensures { Steps (layer_of s starts.now propositions constants unary.now binary.now) at result }
 {
     if s == 0 {
-        return Step::End;
+        return None;
     }
     if starts.len() <= s {
-        return Step::End;
+        return None;
     }
     if s == 1 {
         return leaf_step(at, propositions, constants);

@@ -13,7 +13,7 @@ use counting::Counts;
 use formula::kinds::Node;
 use rules::kinds::Place;
 use split::Cursor;
-use state::State;
+use state::{End, State};
 
 // The state after a call, which tells the answer; or a refusal, and then the state is the one that was handed in.
 #[derive(Clone, Copy)]
@@ -40,7 +40,7 @@ pub fn fresh() -> State
             kept: 0,
             dropped: 0,
         },
-        end: 0,
+        end: End::More,
         root: Node {
             code: 0,
             left: Place(0),

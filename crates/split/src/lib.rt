@@ -19,16 +19,13 @@ pub struct Cursor {
     pub second: bool,
 }
 
-// The candidate at a cursor and the cursor after it; or the size has none left.
+// The candidate at a cursor and the cursor after it. A step tells one, or none where the size has none left.
 #[derive(Clone, Copy)]
-pub enum Step {
-    Candidate {
-        code: u8,
-        left: Place,
-        right: Place,
-        next: Cursor,
-    },
-    End,
+pub struct Candidate {
+    pub code: u8,
+    pub left: Place,
+    pub right: Place,
+    pub next: Cursor,
 }
 
 // The places of a split: the left ones end before `end`, the right ones go from `from` to before `to`.
@@ -50,7 +47,7 @@ fn twice(split: usize, code: u8) -> bool
 }
 
 // The candidate at a cursor whose numbers are in range: op(l, q), and after it op(q, l) where there are two orders.
-fn over(at: Cursor, codes: &[u8]) -> Step
+fn over(at: Cursor, codes: &[u8]) -> Option<Candidate>
     requires { (at.operator < length codes.now) × (at.left < 2 ^ 16) × (at.right < 2 ^ 16) }
     ensures { result ≡ told (cand_in codes.now (stand codes.now at)) (after_in codes.now (stand codes.now at)) }
 {
@@ -73,40 +70,40 @@ fn over(at: Cursor, codes: &[u8]) -> Step
         second: false,
     };
     if !twice(at.split, code) {
-        return Step::Candidate {
+        return Some(Candidate {
             code,
             left: l,
             right: q,
             next: after,
-        };
+        });
     }
     if at.second {
-        return Step::Candidate {
+        return Some(Candidate {
             code,
             left: q,
             right: l,
             next: after,
-        };
+        });
     }
-    Step::Candidate {
+    Some(Candidate {
         code,
         left: l,
         right: q,
         next: halfway,
-    }
+    })
 }
 
 // A split where the cursor's left place has none left: the next left place.
-fn next_left(at: Cursor, part: Part, codes: &[u8]) -> Step
+fn next_left(at: Cursor, part: Part, codes: &[u8]) -> Option<Candidate>
     requires { (at.left < part.end) × (0 < length codes.now) × (column_from codes.now part.to at at.left ≡ []) }
     ensures { InPart codes.now part at result }
 {
     let l = at.left + 1;
     if (part.end as usize) <= l {
-        return Step::End;
+        return None;
     }
     if part.to <= part.from {
-        return Step::End;
+        return None;
     }
     over(
         Cursor {
@@ -121,16 +118,16 @@ fn next_left(at: Cursor, part: Part, codes: &[u8]) -> Step
 }
 
 // A split: its left places, under each its right ones, over each pair the operators.
-pub fn part_step(at: Cursor, part: Part, codes: &[u8]) -> Step
+pub fn part_step(at: Cursor, part: Part, codes: &[u8]) -> Option<Candidate>
     ensures { InPart codes.now part at result }
 {
     let q = at.right;
     let to = part.to as usize;
     if (part.end as usize) <= at.left {
-        return Step::End;
+        return None;
     }
     if codes.len() == 0 {
-        return Step::End;
+        return None;
     }
     if to <= q {
         return next_left(at, part, codes);
