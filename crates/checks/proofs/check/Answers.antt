@@ -1,9 +1,9 @@
--- `refusal` meets its contract: the tests go through the rows in their order.
+-- `check` meets its contract: the tests go through the rows in their order.
 use borrow.Author.Tests.{not-true, not-false}
 use Rattle.table.specs.Slices.{cols}
 use Rattle.walk.specs.Input.{input_of}
 use Rattle.checks.proofs.Decide.{is_one, is-two, is-three, no-room, is-data, is-seven, is_zero, settings-fine, room-fine, unary-bad, binary-bad, codes-fine, not-one-in}
-use Rattle.checks.proofs.refusal.Goals as goal
+use Rattle.checks.proofs.check.Goals as goal
 
 pub returns-then-data-eq1 : goal.returns-then-data-eq1
 returns-then-data-eq1 c =
