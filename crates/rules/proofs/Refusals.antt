@@ -1,12 +1,14 @@
 -- The laws of the decision list: it decides one number, and lists decide one after the other.
 -- Assumes nothing.
 use mathlib.Core.Path.{◌≡◌, refl, sym, ap, ◌∙◌, subst}
+use mathlib.Core.Bool.{true≢false}
 use mathlib.Core.Logic.{inl, inr}
 use mathlib.Core.List.{List, [], ◌∷◌, ◌++◌}
 use Prim.Native.Nat.{ℕ, zero, suc, ◌<◌}
 use native.Mathlib.Omega.{arith}
 use lib.Dec.{lit<}
 use lib.ListN.{get_or}
+use Rattle.std.specs.Prelude.{Result, Ok, Err, IsErr, IsErrAnd}
 use Rattle.rules.specs.declared.refusal.Refusal.{Refusal}
 use Rattle.rules.specs.declared.refusal.Refusal.TheVariants.{Numbers, Settings, Room, Length, Bit, Mark, Code, Nodes, Unequal, Large, State}
 use Rattle.rules.specs.Refusals.{Row, Decided, first_of, refusal_number}
@@ -34,6 +36,10 @@ unfolding Decided
 decided-both [] more a b n p q = rw p q
 decided-both (row ∷ rows) more a b n (inl p) q = inl (p.0, first_some a b (subst (λ (k : ℕ). 0 < k) (sym p.1) n.0) ∙ p.1)
 decided-both (row ∷ rows) more a b n (inr p) q = inr (p.0, decided-both rows more a b n.1 p.1 q)
+
+-- of which the first gives nothing
+pub decided-later : (rows more : List Row) (k : ℕ) → Numbered rows → Decided rows 0 → Decided more k → Decided (rows ++ more) k
+decided-later rows more k n d e = decided-both rows more 0 k n d e
 
 -- a number that is decided stays, whatever comes after
 pub decided-early : (rows more : List Row) (a : ℕ) → Decided rows a → (a ≡ 0 → ⊥) → Decided (rows ++ more) a
@@ -97,3 +103,8 @@ refusal-one a b e = sym (numbered-back a) ∙ ap numbered e ∙ numbered-back b
 -- a refusal that is decided stays, whatever comes after
 pub refused-early : (rows more : List Row) (refusal : Refusal) → Decided rows (refusal_number refusal) → Decided (rows ++ more) (refusal_number refusal)
 refused-early rows more refusal d = decided-early rows more _ d (λ e. omega (arith, refusal-positive refusal))
+
+-- what `?` hands up of it
+pub handed-up : {A : Type 0} (r : Result A Refusal) (refusal : Refusal) → IsErr r × IsErrAnd r (λ e. e ≡ refusal) → r ≡ Err refusal
+handed-up (Ok a) refusal h = absurd (true≢false (sym h.0))
+handed-up (Err e) refusal h = ap Err h.1

@@ -1,6 +1,6 @@
 -- What passes the operators' rows: well-formed sequences, and two of one length; and what a constructor's answer tells of a word.
 -- Assumes nothing.
-use mathlib.Core.Path.{◌≡◌, refl, sym}
+use mathlib.Core.Path.{◌≡◌, refl, sym, subst}
 use mathlib.Core.Bool.{true≢false}
 use mathlib.Core.Logic.{inr}
 use mathlib.Core.List.{List, [], ◌∷◌, ◌++◌}
@@ -11,12 +11,18 @@ use lib.Dec.{lit<}
 use Rattle.words.specs.Word.{width, WfRecorded, places}
 use Rattle.words.proofs.At.{not_at}
 use Rattle.sequence.specs.declared.CharSeq.{CharSeq}
-use Rattle.std.specs.Prelude.{Result, Ok, Err, is_ok, true, ◌↔◌}
+use Rattle.std.specs.Prelude.{Result, Ok, Err, is_ok, IsErr, IsErrAnd, true, ◌↔◌}
 use Rattle.rules.specs.declared.refusal.Refusal.{Refusal}
 use Rattle.sequence.specs.Operators.{Unary, Binary, unary_code, binary_code}
-use Rattle.rules.specs.Refusals.{Row, Decided}
-use Rattle.sequence.specs.Sequence.{seq, WellFormed, unequal, ill_formed, ill_recorded, RecordedAnswer, unary_rows, binary_rows}
-use Rattle.rules.proofs.Refusals.{Numbered, decided-unique, decided-none, decided-not, refusal-positive}
+use Rattle.rules.specs.Refusals.{Row, Decided, refusal_number}
+use Rattle.sequence.specs.Sequence.{seq, WellFormed, unequal, ill_formed, ill_recorded, Answers, RecordedAnswer, unary_rows, binary_rows}
+use Rattle.rules.proofs.Refusals.{Numbered, decided-unique, decided-none, decided-not, refusal-positive, handed-up}
+
+-- ---- an answer that is a refusal: what `?` hands up of a check that decided
+
+pub refused-answers : (rows : List Row) (asked : CharSeq → Type 0) (a : Result CharSeq Refusal) (refusal : Refusal) → Decided rows (refusal_number refusal)
+    → IsErr a × IsErrAnd a (λ e. e ≡ refusal) → Answers rows asked a
+refused-answers rows asked a refusal d h = subst (Answers rows asked) (sym (handed-up a refusal h)) (d, refusal-positive refusal)
 
 -- ---- what passes
 
