@@ -32,7 +32,8 @@ fn has_room(
         && room * r <= matrices.len()
 }
 
-// The first of the rows in document 01's order that is given: 1, 2, 3, 3, the data's 4, 5 and 6, 7. The data's rows stand between the others by their refusal alone.
+// The first of the rows in document 01's order that is given: 1, 2, 3, the data's 3, 4, 5 and 6, then 7. The data's tests begin with 1, which comes before the
+// 2 of the search: so 1 is tested by itself first.
 pub fn check(
     r: usize,
     m: usize,
@@ -54,20 +55,16 @@ pub fn check(
         (input_of r m bound room constants marks.now lengths.now words.now unary.now binary.now)
         (cols codes.now lefts.now rights.now sizes.now matrices.now)) (number_of result) }
 {
-    let data = session::data::test(r, m, marks, lengths, words);
-    if data == Err(Refusal::Numbers) {
-        return data;
+    if session::data::outside(r, m) {
+        return Err(Refusal::Numbers);
     }
     if !settings::settings_good(bound, room, constants) {
         return Err(Refusal::Settings);
     }
-    if data == Err(Refusal::Room) {
-        return data;
-    }
     if !has_room(r, room, codes, lefts, rights, sizes, matrices) {
         return Err(Refusal::Room);
     }
-    data?;
+    session::data::test(r, m, marks, lengths, words)?;
     if !settings::codes_good(unary, true) {
         return Err(Refusal::Code);
     }
