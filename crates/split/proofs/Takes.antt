@@ -1,12 +1,14 @@
 -- Steps over whatever is ahead: an end, a step taken, and the same from another cursor.
 -- Assumes nothing.
 use mathlib.Core.Path.{◌≡◌, sym, ap, ◌∙◌}
+use mathlib.Core.Bool.{false}
 use mathlib.Core.List.{List, []}
 use Prim.Native.Nat.{ℕ, ◌<◌}
 use native.Mathlib.Omega.{arith}
 use lib.ListN.{length}
-use Rattle.std.specs.Prelude.{Option, None}
-use Rattle.std.proofs.lemmas.Option.{none-some}
+use Rattle.std.specs.Prelude.{Option}
+use Rattle.std.specs.Option.{is_some}
+use Rattle.std.proofs.lemmas.Bool.{true≢false}
 use Rattle.split.specs.declared.Cursor.{Cursor}
 use Rattle.split.specs.declared.Part.{Part}
 use Rattle.split.specs.declared.Candidate.{Candidate}
@@ -16,9 +18,9 @@ use Rattle.split.proofs.Splits.{part-stands}
 
 module _ {F : Cursor → List Cursor} {cand : Cursor → Cand} {after : Cursor → Cursor} {P : Cursor → Type 0} {at : Cursor} where
   -- of what tells none, none is ahead
-  pub ended : {step : Option Candidate} → step ≡ None → Takes F cand after P at step → F at ≡ []
+  pub ended : {step : Option Candidate} → is_some step ≡ false → Takes F cand after P at step → F at ≡ []
   ended e (Takes.ends f d) = f
-  ended e (Takes.takes here f d p) = absurd (none-some _ (sym e ∙ d))
+  ended e (Takes.takes here f d p) = absurd (true≢false (sym (ap is_some d) ∙ e))
 
   -- as much is ahead of another cursor
   pub carried : {other : Cursor} {step : Option Candidate} → F at ≡ F other → Takes F cand after P other step → Takes F cand after P at step
