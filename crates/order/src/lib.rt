@@ -1,8 +1,8 @@
 // The candidates of a size in document 01's order, one at a time, by a cursor that knows no matrix (the loops of aux.rs and cache.rs).
 #![tactic(auto)]
 
-ghost use Rattle.std.specs.Prelude.{◌≡◌, ◌≤◌, ◌<◌, length};
-ghost use Rattle.split.specs.Split.{InPart};
+ghost use Rattle.std.specs.Prelude.{◌≡◌, ◌+◌, ◌^◌, ◌≤◌, ◌<◌, length};
+ghost use Rattle.split.specs.Split.{cand, candidate_of, InPart};
 ghost use Rattle.order.specs.Size.{layer_of};
 ghost use Rattle.order.specs.Ahead.{leaf_cursor, split_codes, first};
 ghost use Rattle.order.specs.Steps.{Steps};
@@ -12,15 +12,16 @@ use formula::kinds::{FALSE, PROPOSITION, TRUE};
 use rules::kinds::{Place, Proposition};
 use split::{Candidate, Cursor, Part};
 
-fn leaf_cursor(o: usize) -> Cursor
-    ensures { result ≡ leaf_cursor o }
+// A leaf by its code and left field, at a position in the list of leaves, and the cursor before the next one.
+fn leaf(code: u8, left: Place, position: usize) -> Candidate
+    requires { position + 1 < 2 ^ 64 }
+    ensures { result ≡ candidate_of (cand code left.0 0) (leaf_cursor (position + 1)) }
 {
-    Cursor {
-        split: 0,
-        left: 0,
-        right: 0,
-        operator: o,
-        second: false,
+    Candidate {
+        code,
+        left,
+        right: Place(0),
+        next: Cursor::at_leaf(position + 1),
     }
 }
 
@@ -31,32 +32,16 @@ fn leaf_step(at: Cursor, propositions: u8, constants: u8) -> Option<Candidate>
     let o = at.operator;
     let m = propositions as usize;
     if o < m {
-        let left = Proposition(o as u8).to_left();
-        return Some(Candidate {
-            code: PROPOSITION,
-            left,
-            right: Place(0),
-            next: leaf_cursor(o + 1),
-        });
+        return Some(leaf(PROPOSITION, Proposition(o as u8).to_left(), o));
     }
     if constants != 1 {
         return None;
     }
     if o == m {
-        return Some(Candidate {
-            code: FALSE,
-            left: Place(0),
-            right: Place(0),
-            next: leaf_cursor(o + 1),
-        });
+        return Some(leaf(FALSE, Place(0), o));
     }
     if o == m + 1 {
-        return Some(Candidate {
-            code: TRUE,
-            left: Place(0),
-            right: Place(0),
-            next: leaf_cursor(o + 1),
-        });
+        return Some(leaf(TRUE, Place(0), o));
     }
     None
 }
@@ -85,13 +70,7 @@ fn part_start(starts: &[u16], s: usize, i: usize) -> Cursor
     requires { (1 ≤ i) × (i < s) × (s < length starts.now) }
     ensures { result ≡ part_start starts.now s i }
 {
-    Cursor {
-        split: i,
-        left: starts[i] as usize,
-        right: starts[s - 1 - i] as usize,
-        operator: 0,
-        second: false,
-    }
+    Cursor::at_pair(i, starts[i] as usize, starts[s - 1 - i] as usize)
 }
 
 // The cursor's split.
@@ -117,10 +96,8 @@ fn splits_step(
 {
     let half = (s + 1) / 2;
     let mut here = at;
-    while here.split < half {
-        let i = here.split;
-        let part = part_of(starts, s, i);
-        let step = split_step(here, part, unary, binary);
+    for i in at.split..half {
+        let step = split_step(here, part_of(starts, s, i), unary, binary);
         if step.is_some() {
             return step;
         }
@@ -159,16 +136,8 @@ pub fn first(starts: &[u16], s: usize) -> Cursor
     ensures { result ≡ first starts.now s }
 {
     if s < 2 {
-        return leaf_cursor(0);
+        return Cursor::at_leaf(0);
     }
-    if starts.len() < s {
-        return leaf_cursor(0);
-    }
-    Cursor {
-        split: 0,
-        left: starts[s - 1] as usize,
-        right: 0,
-        operator: 0,
-        second: false,
-    }
+    let left = starts.get(s - 1).copied().unwrap_or(0);
+    Cursor::at_pair(0, left as usize, 0)
 }

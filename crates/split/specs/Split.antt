@@ -21,8 +21,11 @@ abbrev pub cursor : ℕ → ℕ → ℕ → ℕ → Bool → Cursor
 cursor i l q o second = record { split = i; left = l; right = q; operator = o; second = second }
 
 -- a step that tells a candidate and the cursor after it
+abbrev pub candidate_of : Cand → Cursor → Candidate
+candidate_of c next = record { code = c.code; left = record { 0 = c.left }; right = record { 0 = c.right }; next = next }
+
 abbrev pub told : Cand → Cursor → Option Candidate
-told c next = Some (record { code = c.code; left = record { 0 = c.left }; right = record { 0 = c.right }; next = next })
+told c next = Some (candidate_of c next)
 
 -- the numbers from a to before b
 unfoldable pub range : ℕ → ℕ → List ℕ

@@ -1,8 +1,8 @@
 // One split of a size, one candidate at a time, by a cursor that knows no matrix (the inner loops of aux.rs and cache.rs).
 #![tactic(auto)]
 
-ghost use Rattle.std.specs.Prelude.{◌≡◌, [], ◌^◌, ◌<◌, length};
-ghost use Rattle.split.specs.Split.{told, twice, column_from, cand_in, after_in, InPart};
+ghost use Rattle.std.specs.Prelude.{◌≡◌, false, [], ◌^◌, ◌<◌, length};
+ghost use Rattle.split.specs.Split.{cursor, told, twice, column_from, cand_in, after_in, InPart};
 ghost use Rattle.split.specs.Inner.{stand};
 
 use operators::operator_of;
@@ -17,6 +17,31 @@ pub struct Cursor {
     pub right: usize,
     pub operator: usize,
     pub second: bool,
+}
+
+impl Cursor {
+    // Before the first operator over a pair of places.
+    pub fn at_pair(split: usize, left: usize, right: usize) -> Cursor
+        ensures { result ≡ cursor split left right 0 false }
+    {
+        Cursor {
+            split,
+            left,
+            right,
+            operator: 0,
+            second: false,
+        }
+    }
+
+    // Before a leaf, by its position in their list.
+    pub fn at_leaf(position: usize) -> Cursor
+        ensures { result ≡ cursor 0 0 0 position false }
+    {
+        Cursor {
+            operator: position,
+            ..Cursor::at_pair(0, 0, 0)
+        }
+    }
 }
 
 // The candidate at a cursor and the cursor after it. A step tells one, or none where the size has none left.
@@ -51,23 +76,14 @@ fn over(at: Cursor, codes: &[u8]) -> Option<Candidate>
     requires { (at.operator < length codes.now) × (at.left < 2 ^ 16) × (at.right < 2 ^ 16) }
     ensures { result ≡ told (cand_in codes.now (stand codes.now at)) (after_in codes.now (stand codes.now at)) }
 {
-    let o = at.operator;
-    let code = codes[o];
+    let code = codes[at.operator];
     let l = Place(at.left as u16);
     let q = Place(at.right as u16);
-    let halfway = Cursor {
-        split: at.split,
-        left: at.left,
-        right: at.right,
-        operator: o,
-        second: true,
-    };
+    let halfway = Cursor { second: true, ..at };
     let after = Cursor {
-        split: at.split,
-        left: at.left,
-        right: at.right,
-        operator: o + 1,
+        operator: at.operator + 1,
         second: false,
+        ..at
     };
     if !twice(at.split, code) {
         return Some(Candidate {
@@ -105,16 +121,7 @@ fn next_left(at: Cursor, part: Part, codes: &[u8]) -> Option<Candidate>
     if part.to <= part.from {
         return None;
     }
-    over(
-        Cursor {
-            split: at.split,
-            left: l,
-            right: part.from as usize,
-            operator: 0,
-            second: false,
-        },
-        codes,
-    )
+    over(Cursor::at_pair(at.split, l, part.from as usize), codes)
 }
 
 // A split: its left places, under each its right ones, over each pair the operators.
@@ -126,7 +133,7 @@ pub fn part_step(at: Cursor, part: Part, codes: &[u8]) -> Option<Candidate>
     if (part.end as usize) <= at.left {
         return None;
     }
-    if codes.len() == 0 {
+    if codes.is_empty() {
         return None;
     }
     if to <= q {
@@ -138,14 +145,5 @@ pub fn part_step(at: Cursor, part: Part, codes: &[u8]) -> Option<Candidate>
     if to <= q + 1 {
         return next_left(at, part, codes);
     }
-    over(
-        Cursor {
-            split: at.split,
-            left: at.left,
-            right: q + 1,
-            operator: 0,
-            second: false,
-        },
-        codes,
-    )
+    over(Cursor::at_pair(at.split, at.left, q + 1), codes)
 }
