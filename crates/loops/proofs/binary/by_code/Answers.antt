@@ -41,6 +41,7 @@ returns-in-6 c = told Binary.and (sym c.in-6.is) (omega arith) (omega arith) (om
 pub returns-in-7 : goal.returns-in-7
 returns-in-7 c = told Binary.until (sym c.in-7.is) (omega arith) (omega arith) (omega arith) (omega arith) (λ j w l p. search rules) c.fill-in-7.ensures
 
+-- the search for a release goes as far as the bits
 pub returns-in-8 : goal.returns-in-8
 unfolding word.bit
 returns-in-8 c = told Binary.release (sym c.in-8.is) (omega arith) (omega arith) (omega arith) (omega arith) (λ j w l p. search rules) c.fill-in-8.ensures
