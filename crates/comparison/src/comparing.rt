@@ -4,7 +4,7 @@ ghost use Rattle.rules.specs.Limits.{most_sessions};
 ghost use Rattle.comparison.specs.Compare.{KnownAsk, KnownAnswer};
 ghost use Rattle.comparison.specs.Inner.{ComparedAt};
 
-use crate::{Compared, Known};
+use crate::Compared;
 use rules::kinds::{Place, Session};
 
 // A matrix against x, the kept one at the place, row by row up to the first that differs.
@@ -24,7 +24,7 @@ pub(crate) fn compare_at(r: usize, place: Place, x: &[u64], rows: &[u64]) -> Com
 }
 
 // The first place whose matrix is equal, or none.
-pub(crate) fn first_equal(r: usize, matrices: &[u64], rows: &[u64], kept: usize) -> Known
+pub(crate) fn first_equal(r: usize, matrices: &[u64], rows: &[u64], kept: usize) -> Option<Place>
     requires { KnownAsk r matrices.now rows.now kept }
     ensures { KnownAnswer r matrices.now rows.now kept result }
 {
@@ -33,10 +33,10 @@ pub(crate) fn first_equal(r: usize, matrices: &[u64], rows: &[u64], kept: usize)
     while p < kept {
         let compared = compare_at(r, Place(p as u16), &matrices[from..], rows);
         if let Compared::Equal(place) = compared {
-            return Known::At(place);
+            return Some(place);
         }
         from += r;
         p += 1;
     }
-    Known::New
+    None
 }

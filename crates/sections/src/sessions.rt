@@ -7,7 +7,7 @@ ghost use Rattle.sections.specs.Inner.{nothing, word_count};
 
 use crate::bytes::{bytes_left, word_at};
 use reading::{Broken, Read, byte_within};
-use sequence::{Answer, CharSeq};
+use sequence::CharSeq;
 
 // The most sessions of a file; for the contracts it is in specs/Numbers.antt. It is the file's own, since a later request raises the library's alone.
 const SESSIONS: usize = 32;
@@ -17,10 +17,7 @@ fn is_clear(n: usize, w: u64) -> bool
     requires { n ≤ width }
     ensures { result ≡ ltb w (2 ^ n) }
 {
-    let Answer::Sequence(_) = CharSeq::recorded(n, w) else {
-        return false;
-    };
-    true
+    CharSeq::recorded(n, w).is_ok()
 }
 
 // The word at an offset, of a session of length n.
