@@ -21,8 +21,9 @@ pub enum JudgeError {
 
 impl From<Broken> for JudgeError {
     ghost use Rattle.std.specs.Prelude.{◌≡◌};
+    ghost use Rattle.descent.specs.declared.judge.JudgeError.TheVariants.{Broken as BrokenNames};
 
-    ghost from_gives = { λ broken e. e ≡ JudgeError.Broken broken.0 };
+    ghost from_gives = { λ broken e. e ≡ BrokenNames broken.0 };
 
     fn from(broken: Broken) -> JudgeError {
         JudgeError::Broken(broken.0)
@@ -31,8 +32,9 @@ impl From<Broken> for JudgeError {
 
 impl From<Stop> for JudgeError {
     ghost use Rattle.std.specs.Prelude.{◌≡◌};
+    ghost use Rattle.descent.specs.declared.judge.JudgeError.TheVariants.{Stops};
 
-    ghost from_gives = { λ stop e. e ≡ JudgeError.Stops stop.0 };
+    ghost from_gives = { λ stop e. e ≡ Stops stop.0 };
 
     fn from(stop: Stop) -> JudgeError {
         JudgeError::Stops(stop.0)

@@ -4,21 +4,7 @@
 use Rattle.std.specs.Prelude.{◌≡◌, List, [], ◌∷◌, map, ℕ, ◌/◌, ◌%◌, ◌≤◌, length, take}
 use Rattle.std.proofs.lemmas.List.Edits.{sets}
 use Rattle.rules.specs.Answers.{Said}
-use Rattle.rules.specs.declared.refusal.Refusal.TheVariants.{Large as TooLarge, Room as NoRoom}
-use Rattle.descent.specs.declared.judge.JudgeError.{JudgeError}
-use Rattle.descent.specs.declared.judge.JudgeError.TheVariants.{Broken as BrokenNames, Long, Room, Stops as StopsAt, Unknown as UnknownName, Large}
-use Rattle.reader.specs.declared.ParseError.{ParseError}
-use Rattle.reader.specs.declared.ParseError.TheVariants.{Broken, Stops, Unknown, Refused}
 use Rattle.reader.specs.Parsing.{Columns, Decides, long_text, no_formula, unknown_name, large_formula, short_node_room, Taken}
-
--- what is answered of a text that the judge refuses
-abbrev pub refused_by : JudgeError → ParseError
-refused_by (BrokenNames o) = Broken o
-refused_by Long = Refused TooLarge
-refused_by Room = Refused NoRoom
-refused_by (StopsAt k) = Stops k
-refused_by (UnknownName k) = Unknown k
-refused_by Large = Refused TooLarge
 
 pub record Enough (n : ℕ) (s c l r z : List ℕ) : Type 0 where
   pub scratch : n ≤ length s

@@ -14,6 +14,9 @@ use Rattle.grammar.specs.Token.{Typed}
 use Rattle.grammar.specs.Grammar.{Reads, Refused11}
 use Rattle.grammar.specs.Naming.{typed}
 use Rattle.grammar.specs.Nodes.{nodes_of}
+use Rattle.rules.specs.declared.refusal.Refusal.TheVariants.{Large as TooLarge, Room as NoRoom}
+use Rattle.descent.specs.declared.judge.JudgeError.{JudgeError}
+use Rattle.descent.specs.declared.judge.JudgeError.TheVariants.{Broken as BrokenNames, Long, Room, Stops as StopsAt, Unknown as UnknownName, Large}
 use Rattle.reader.specs.declared.ParseError.{ParseError}
 use Rattle.reader.specs.declared.ParseError.TheVariants.{Broken, Stops, Unknown, Refused}
 use Rattle.reader.specs.Words.{most_bytes, FirstUnknown, Deep}
@@ -25,6 +28,15 @@ said_parsed (Err (Broken o)) = record { number = 8; values = o ∷ [] }
 said_parsed (Err (Stops o)) = record { number = 11; values = o ∷ [] }
 said_parsed (Err (Unknown o)) = record { number = 13; values = o ∷ [] }
 said_parsed (Err (Refused refusal)) = record { number = refusal_number refusal; values = [] }
+
+-- what is answered of a text that the judge refuses
+abbrev pub refused_by : JudgeError → ParseError
+refused_by (BrokenNames o) = Broken o
+refused_by Long = Refused TooLarge
+refused_by Room = Refused NoRoom
+refused_by (StopsAt k) = Stops k
+refused_by (UnknownName k) = Unknown k
+refused_by Large = Refused TooLarge
 
 -- ---- refusals
 

@@ -22,7 +22,7 @@ pub enum ParseError {
 
 impl From<JudgeError> for ParseError {
     ghost use Rattle.std.specs.Prelude.{◌≡◌};
-    ghost use Rattle.reader.specs.Lent.{refused_by};
+    ghost use Rattle.reader.specs.Parsing.{refused_by};
 
     ghost from_gives = { λ judged e. e ≡ refused_by judged };
 
