@@ -1,6 +1,6 @@
 -- The nodes of a typed text, each packed into one number of a scratch, and a name's number in its leaf's node.
 -- Assumes nothing.
-use Rattle.std.specs.Prelude.{◌≡◌, true, false, List, map, Option, Some, None, ℕ, ◌+◌, ◌*◌}
+use Rattle.std.specs.Prelude.{◌≡◌, true, false, List, map, Option, unwrap_or, ℕ, ◌+◌, ◌*◌}
 use Rattle.std.proofs.lemmas.List.Edits.{sets}
 use Rattle.sequence.specs.Operators.{Unary, Binary, unary_code, binary_code}
 use Rattle.formula.specs.Nodes.{Node, Codes}
@@ -13,8 +13,7 @@ use Rattle.grammar.specs.Token.{Typed, Atom, name, constant}
 
 -- the number of a name that was found; for none, 0
 abbrev pub name_number : Option ℕ → ℕ
-name_number (Some k) = k
-name_number None = 0
+name_number found = unwrap_or found 0
 
 -- ---- the nodes of what is typed
 
