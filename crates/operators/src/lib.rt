@@ -148,6 +148,7 @@ fn check_lengths(left: CharSeq, right: CharSeq) -> Result<(), Refusal>
 }
 
 // The unary operator of a code on a sequence, or a refusal.
+#[tactic(auto, using(crate::proofs::Checks::unary_off, crate::proofs::Checks::unary_ill))]
 pub fn apply_unary(code: u8, seq: CharSeq) -> Result<CharSeq, Refusal>
     ensures { UnaryAnswer code seq result }
 {
@@ -157,6 +158,7 @@ pub fn apply_unary(code: u8, seq: CharSeq) -> Result<CharSeq, Refusal>
 }
 
 // The binary operator of a code on two sequences of one length, or a refusal.
+#[tactic(auto, using(crate::proofs::Checks::binary_off, crate::proofs::Checks::left_ill, crate::proofs::Checks::right_ill, crate::proofs::Checks::lengths_apart))]
 pub fn apply_binary(code: u8, left: CharSeq, right: CharSeq) -> Result<CharSeq, Refusal>
     ensures { BinaryAnswer code left right result }
 {

@@ -1,21 +1,12 @@
--- `unary_refusal` meets its contract: the row's group says whether an operator of the group has the code.
-use Rattle.sequence.specs.Sequence.{not_unary}
-use Rattle.rules.proofs.Refusals.{decided-given, decided-not}
-use Rattle.operators.proofs.Groups.{in-unary, binary-not-unary, in-neither}
-use Rattle.operators.proofs.unary_refusal.Goals as goal
+-- `check_group` meets its contract: the table says whether an operator of the group has the code.
+use mathlib.Core.Path.{subst}
+use Rattle.rules.specs.Answers.{Tested}
+use Rattle.operators.specs.Table.{GroupIs}
+use Rattle.operators.proofs.Groups.{group-passes, group-refused}
+use Rattle.operators.proofs.check_group.Goals as goal
 
-pub returns-in-Unary : goal.returns-in-Unary
-returns-in-Unary c =
-    let f = c.operator_of-group in
-    let op = in-unary _ f.result f.ensures c.in-Unary.is in
-    decided-not (not_unary _) (λ h. h op.0 op.1)
+pub returns-then-in_group : goal.returns-then-in_group
+returns-then-in_group c = let s = c.args in group-passes s.unary s.code (subst (Tested (GroupIs s.unary s.code)) c.if-in_group.true c.in_group.ensures)
 
-pub returns-in-Binary : goal.returns-in-Binary
-returns-in-Binary c =
-    let f = c.operator_of-group in
-    decided-given (not_unary _) (binary-not-unary _ f.result f.ensures c.in-Binary.is)
-
-pub returns-in-Neither : goal.returns-in-Neither
-returns-in-Neither c =
-    let f = c.operator_of-group in
-    decided-given (not_unary _) (in-neither _ f.result f.ensures c.in-Neither.is).0
+pub returns-else-in_group : goal.returns-else-in_group
+returns-else-in_group c = let s = c.args in group-refused s.unary s.code (subst (Tested (GroupIs s.unary s.code)) c.if-in_group.false c.in_group.ensures)

@@ -1,4 +1,4 @@
--- `CharSeq::refusal` meets its contract: what is not too long and not well formed has a bit at or above its length.
+-- `CharSeq::check` meets its contract: what is not too long and not well formed has a bit at or above its length.
 use mathlib.Core.Path.{refl, sym, ◌∙◌}
 use mathlib.Core.Bool.{true≢false}
 use mathlib.Core.Logic.{inl, inr, ⊎_elim}
@@ -6,7 +6,7 @@ use native.Mathlib.Omega.{arith}
 use Rattle.words.specs.Word.{places}
 use Rattle.words.proofs.At.{wf-or-above}
 use Rattle.rules.specs.Refusals.{Decided}
-use Rattle.sequence.proofs.CharSeq.refusal.Goals as goal
+use Rattle.sequence.proofs.CharSeq.check.Goals as goal
 
 pub returns-then-self-gt-MAX_LENGTH : goal.returns-then-self-gt-MAX_LENGTH
 unfolding Decided
