@@ -63,15 +63,15 @@ module _ (file text : List ℕ) (old : Columns) where
 
   module _ (scratch new : List ℕ) where
     -- what the judge refuses; a scratch for the longest text is no shorter than a text that is not too long
-    pub answer-refused : most_bytes ≤ length scratch → (e : JudgeError) → JudgedIs file text scratch new (Err e) → Parses file text old old (said_parsed (Err (refused_by e)))
+    pub answer-refused : (e : JudgeError) → JudgedIs file text scratch new (Err e) → most_bytes ≤ length scratch → Parses file text old old (said_parsed (Err (refused_by e)))
     unfolding Decides
-    answer-refused l (BrokenNames o) x = record { answer = inl (refl, (o, refl, x)); refused = λ n. refl }
-    answer-refused l Long x = with-names x.1 (record { answer = inl (refl, (refl, x.0)); refused = λ n. refl })
-    answer-refused l NoRoom x = absurd (omega (arith, x.0, x.1))
-    answer-refused l (StopsAt k) x = with-names x.2 (record { answer = inr (not-long x.0, inl (refl, (k, refl, x.1))); refused = λ n. refl })
-    answer-refused l (UnknownName k) x =
+    answer-refused (BrokenNames o) x l = record { answer = inl (refl, (o, refl, x)); refused = λ n. refl }
+    answer-refused Long x l = with-names x.1 (record { answer = inl (refl, (refl, x.0)); refused = λ n. refl })
+    answer-refused NoRoom x l = absurd (omega (arith, x.0, x.1))
+    answer-refused (StopsAt k) x l = with-names x.2 (record { answer = inr (not-long x.0, inl (refl, (k, refl, x.1))); refused = λ n. refl })
+    answer-refused (UnknownName k) x l =
         with-names x.4 (record { answer = inr (not-long x.0, inr (not-refused x.2, inl (refl, (k, refl, x.3)))); refused = λ n. refl })
-    answer-refused l Large x =
+    answer-refused Large x l =
         let given : ((t : Typed) × Reads text t × (most_size < size t)) ⊎ Deep text = ⊎_elim (λ l. inl (x.1, x.2, l)) inr x.4 in
         with-names x.5
         (record { answer = inr (not-long x.0, inr (not-refused x.2, inr (not-unknown x.3, inl (refl, (refl, given))))); refused = λ n. refl })

@@ -21,6 +21,7 @@ use Rattle.grammar.specs.Naming.{typed, atom_of}
 use Rattle.grammar.specs.Nodes.{nodes_of}
 use Rattle.grammar.proofs.Theorems.{one-tree, one-offset}
 use Rattle.std.proofs.Common.{Result, Ok, Err}
+use Rattle.rules.proofs.Refusals.{refusal-one}
 use Rattle.reader.specs.declared.ParseError.{ParseError}
 use Rattle.reader.specs.declared.ParseError.TheVariants.{Broken, Stops, Unknown, Refused}
 use Rattle.typed.proofs.Unique.{first_one}
@@ -179,7 +180,7 @@ parsed-one (Err (Refused a)) (Ok b) e = absurd (nil≢cons (ap (λ (s : Said). s
 parsed-one (Err (Refused a)) (Err (Broken b)) e = absurd (nil≢cons (ap (λ (s : Said). s.values) e))
 parsed-one (Err (Refused a)) (Err (Stops b)) e = absurd (nil≢cons (ap (λ (s : Said). s.values) e))
 parsed-one (Err (Refused a)) (Err (Unknown b)) e = absurd (nil≢cons (ap (λ (s : Said). s.values) e))
-parsed-one (Err (Refused a)) (Err (Refused b)) e = ap (λ v. Err (Refused v)) (one-refusal a b (ap (λ (s : Said). s.number) e))
+parsed-one (Err (Refused a)) (Err (Refused b)) e = ap (λ v. Err (Refused v)) (refusal-one a b (ap (λ (s : Said). s.number) e))
 
 -- the answer, and what the four lent slices hold
 pub parse-unique : (file text : List ℕ) (old : Columns) (p q : Result ℕ ParseError) (m n : Columns)

@@ -10,11 +10,12 @@ use stored::{say, say_number};
 
 fn say_refused(to: &mut impl Write, error: ParseError) -> io::Result<()> {
     match error {
-        ParseError::Broken(o) => say_number(to, b"refused 8 at ", o as u64),
-        ParseError::Stops(o) => say_number(to, b"refused 11 at ", o as u64),
-        ParseError::Unknown(o) => say_number(to, b"refused 13 at ", o as u64),
-        ParseError::Refused(refusal) => say_number(to, b"refused ", u64::from(u8::from(refusal))),
-    }
+        ParseError::Broken(o) => say_number(to, b"refused 8 at ", o as u64)?,
+        ParseError::Stops(o) => say_number(to, b"refused 11 at ", o as u64)?,
+        ParseError::Unknown(o) => say_number(to, b"refused 13 at ", o as u64)?,
+        ParseError::Refused(refusal) => say_number(to, b"refused ", u64::from(u8::from(refusal)))?,
+    };
+    Ok(())
 }
 
 // A node: code, left place, right place, size.
@@ -22,7 +23,8 @@ fn say_node(to: &mut impl Write, code: u8, left: u16, right: u16, size: u8) -> i
     say_number(to, b" / ", u64::from(code))?;
     say_number(to, b" ", u64::from(left))?;
     say_number(to, b" ", u64::from(right))?;
-    say_number(to, b" ", u64::from(size))
+    say_number(to, b" ", u64::from(size))?;
+    Ok(())
 }
 
 fn parse(to: &mut impl Write, text: &[u8]) -> io::Result<()> {
