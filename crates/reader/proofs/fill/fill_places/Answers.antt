@@ -26,4 +26,5 @@ shape_of-to c =
 pub returns : goal.returns
 returns c =
     let l = c.loop-i in
-    filled-all (λ e. e / c.args.unit % 65536) c.args.scratch.now _ (omega arith) l.invariant
+    let z : l.i ≡ c.args.n = omega (arith, c.loop-i-test.false) in
+    filled-all (λ e. e / c.args.unit % 65536) c.args.scratch.now _ z l.invariant
