@@ -6,10 +6,8 @@ pub(crate) fn fill_bytes(scratch: &[u64], n: usize, unit: u64, to: &mut [u8])
     requires { (0 < unit) × (n ≤ length scratch.now) × (n ≤ length to.old) }
     ensures { to.new ≡ sets to.old 0 (map (λ e. e / unit % 256) (take n scratch.now)) }
 {
-    let mut i: usize = 0;
-    while i < n {
+    for i in 0..n {
         to[i] = (scratch[i] / unit % 256) as u8;
-        i += 1;
     }
 }
 
@@ -17,9 +15,7 @@ pub(crate) fn fill_places(scratch: &[u64], n: usize, unit: u64, to: &mut [u16])
     requires { (0 < unit) × (n ≤ length scratch.now) × (n ≤ length to.old) }
     ensures { to.new ≡ sets to.old 0 (map (λ e. e / unit % 65536) (take n scratch.now)) }
 {
-    let mut i: usize = 0;
-    while i < n {
+    for i in 0..n {
         to[i] = (scratch[i] / unit % 65536) as u16;
-        i += 1;
     }
 }

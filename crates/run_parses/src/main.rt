@@ -3,82 +3,28 @@
 // A line of standard input has two fields, what is said of the text and the text.
 #![tactic(auto)]
 
-use reader::Parsed;
+use reader::ParseError;
 use std::io;
 use std::io::Write;
 use stored::{say, say_number};
 
-fn say_parsed(to: &mut impl Write, p: Parsed) -> io::Result<()> {
-    match p {
-        Parsed::Nodes(n) => {
-            say_number(to, b"nodes ", n as u64)?;
-        }
-        Parsed::Broken(o) => {
-            say_number(to, b"refused 8 at ", o as u64)?;
-        }
-        Parsed::Stops(o) => {
-            say_number(to, b"refused 11 at ", o as u64)?;
-        }
-        Parsed::Unknown(o) => {
-            say_number(to, b"refused 13 at ", o as u64)?;
-        }
-        Parsed::Refused(k) => {
-            say_number(to, b"refused ", k as u64)?;
-        }
-    }
+fn say_refused(to: &mut impl Write, error: ParseError) -> io::Result<()> {
+    match error {
+        ParseError::Broken(o) => say_number(to, b"refused 8 at ", o as u64)?,
+        ParseError::Stops(o) => say_number(to, b"refused 11 at ", o as u64)?,
+        ParseError::Unknown(o) => say_number(to, b"refused 13 at ", o as u64)?,
+        ParseError::Refused(refusal) => say_number(to, b"refused ", u64::from(u8::from(refusal)))?,
+    };
     Ok(())
 }
 
-fn wide(x: u8) -> u64 {
-    x as u64
-}
-
-fn wide16(x: u16) -> u64 {
-    x as u64
-}
-
-fn say_node(to: &mut impl Write, code: u64, left: u64, right: u64, size: u64) -> io::Result<()> {
-    say_number(to, b" / ", code)?;
-    say_number(to, b" ", left)?;
-    say_number(to, b" ", right)?;
-    say_number(to, b" ", size)?;
+// A node: code, left place, right place, size.
+fn say_node(to: &mut impl Write, code: u8, left: u16, right: u16, size: u8) -> io::Result<()> {
+    say_number(to, b" / ", u64::from(code))?;
+    say_number(to, b" ", u64::from(left))?;
+    say_number(to, b" ", u64::from(right))?;
+    say_number(to, b" ", u64::from(size))?;
     Ok(())
-}
-
-// The first nodes of the four lists: code, left place, right place, size.
-fn say_nodes(
-    to: &mut impl Write,
-    codes: &[u8; 31],
-    lefts: &[u16; 31],
-    rights: &[u16; 31],
-    sizes: &[u8; 31],
-    n: usize,
-) -> io::Result<()> {
-    let mut i: usize = 0;
-    while i < 31 {
-        if n <= i {
-            return Ok(());
-        }
-        say_node(
-            to,
-            wide(codes[i]),
-            wide16(lefts[i]),
-            wide16(rights[i]),
-            wide(sizes[i]),
-        )?;
-        i += 1;
-    }
-    Ok(())
-}
-
-fn count(p: Parsed) -> usize {
-    match p {
-        Parsed::Nodes(n) => n,
-        Parsed::Broken(_) => 0,
-        Parsed::Stops(_) => 0,
-        Parsed::Unknown(_) => 0,
-        Parsed::Refused(_) => 0,
-    }
 }
 
 fn parse(to: &mut impl Write, text: &[u8]) -> io::Result<()> {
@@ -86,7 +32,7 @@ fn parse(to: &mut impl Write, text: &[u8]) -> io::Result<()> {
     let mut lefts = [0u16; 31];
     let mut rights = [0u16; 31];
     let mut sizes = [0u8; 31];
-    let p = reader::parse(
+    let parsed = reader::parse(
         b"\x03\x01p\x01q\x01r",
         text,
         &mut codes,
@@ -94,9 +40,16 @@ fn parse(to: &mut impl Write, text: &[u8]) -> io::Result<()> {
         &mut rights,
         &mut sizes,
     );
-    say_parsed(to, p)?;
-    let n = count(p);
-    say_nodes(to, &codes, &lefts, &rights, &sizes, n)
+    match parsed {
+        Ok(n) => {
+            say_number(to, b"nodes ", n as u64)?;
+            for i in 0..n.min(31) {
+                say_node(to, codes[i], lefts[i], rights[i], sizes[i])?;
+            }
+            Ok(())
+        }
+        Err(error) => say_refused(to, error),
+    }
 }
 
 fn example(to: &mut impl Write, line: &[u8]) -> io::Result<()> {

@@ -4,8 +4,6 @@ use mathlib.Core.Path.{◌≡◌, refl, sym, ap, ◌∙◌, subst}
 use mathlib.Core.List.{List, [], ◌∷◌}
 use Prim.Native.Nat.{ℕ, ◌*◌, ◌-◌}
 use lib.ListN.{length, take}
-use denote.Enum.Declared.{tag_of}
-use types.Run.{OneOf}
 use Rattle.reading.specs.Reading.{Got, got, section}
 use Rattle.names.specs.Names.{name_bytes}
 use Rattle.names.proofs.Theorems.{names-accepts}
@@ -18,48 +16,39 @@ use Rattle.file.proofs.Numbers.{Bytes}
 use Rattle.formula.specs.Nodes.{Node, node_at}
 use Rattle.verdict.specs.Check.{said_verdict, CheckAnswer}
 use Rattle.verdict.specs.declared.Verdict.{Verdict}
-use Rattle.reader.specs.declared.Parsed.{Parsed}
-use Rattle.reader.specs.declared.Parsed.TheVariants.{Nodes, Stops, Unknown}
-use Rattle.reader.specs.declared.Parsed.TheVariants as parsed
-use Rattle.reader.specs.contracts.Parsed.{the_type as parsed-type}
+use Rattle.std.proofs.Common.{Result, Ok, Err}
+use Rattle.rules.specs.declared.refusal.Refusal.{Refusal}
+use Rattle.reader.specs.declared.ParseError.{ParseError}
+use Rattle.reader.specs.declared.ParseError.TheVariants as parsed
 use Rattle.reader.specs.Parsing.{Columns, said_parsed, Parses}
 use Rattle.writing.specs.Writing.{Wrote}
 use Rattle.lines.proofs.Handed.{Wide, Handed, broken-at}
 use Rattle.line.specs.Line.{refused_at_line}
 use Rattle.suspicion.specs.Suspicion.{roomy, first_nodes, verdict_line, Shows, TypedSays, FileSays, TypedLinesOf, recording_of}
 use Rattle.suspicion.specs.Inner.{Checked, unread_lines, JudgedBy}
-use Rattle.suspicion.proofs.Typed.{none_read}
 
 -- a verdict has its line
-pub check-line : (i : Recording) (k : List Node) (at : ℕ) {root : Node} {v w : Verdict} {old new : List ℕ} {r : ℕ} → root ≡ node_at k at
+pub check-line : (i : Recording) (k : List Node) (at : ℕ) {root : Node} {v w : Result Verdict Refusal} {old new : List ℕ} {r : ℕ} → root ≡ node_at k at
     → CheckAnswer i k root (said_verdict v) → v ≡ w → Wrote old 0 (verdict_line w) new r → Checked i k at old new r
 check-line i k at {root} {v} {w} e a q x =
-    (w, subst (λ (u : Verdict). CheckAnswer i k (node_at k at) (said_verdict u)) q (subst (λ (n : Node). CheckAnswer i k n (said_verdict v)) e a), x)
+    (w, subst (λ (u : Result Verdict Refusal). CheckAnswer i k (node_at k at) (said_verdict u)) q (subst (λ (n : Node). CheckAnswer i k n (said_verdict v)) e a), x)
 
-module _ (typed names : List ℕ) (i : Recording) {left : Columns} {p : Parsed} {old new : List ℕ} {r : ℕ} where
-  pub shown-judged : {q : Parsed} {lines : List ℕ} → p ≡ q → Parses names typed roomy left (said_parsed p) → Shows i typed left q lines → Wrote old 0 lines new r
-      → JudgedBy typed names i old new r
-  shown-judged {q} {lines} e a s x =
-      (lines, record { answer = p; left = left; parses = a; shows = subst (λ (u : Parsed). Shows i typed left u lines) (sym e) s }, x)
+module _ (typed names : List ℕ) (i : Recording) {left : Columns} {old new : List ℕ} {r : ℕ} where
+  pub nodes-judged : {n : ℕ} → Parses names typed roomy left (said_parsed (Ok n)) → Checked i (first_nodes n left) (n - 1) old new r → JudgedBy typed names i old new r
+  nodes-judged {n} a c = (verdict_line c.0, record { answer = Ok n; left = left; parses = a; shows = (c.0, c.1, refl) }, c.2)
 
-  pub nodes-judged : {n : ℕ} → p ≡ Nodes n → Parses names typed roomy left (said_parsed p) → Checked i (first_nodes n left) (n - 1) old new r
-      → JudgedBy typed names i old new r
-  nodes-judged {n} e a c = shown-judged {q = Nodes n} {lines = verdict_line c.0} e a (c.0, c.1, refl) c.2
+  -- what is not read has its own lines
+  pub unread-judged : (e : ParseError) → Parses names typed roomy left (said_parsed (Err e)) → Wrote old 0 (unread_lines typed e) new r → JudgedBy typed names i old new r
+  unread-judged e a x = (unread_lines typed e, record { answer = Err e; left = left; parses = a; shows = go e }, x)
+    where
+      go : (q : ParseError) → Shows i typed left (Err q) (unread_lines typed q)
+      go (parsed.Broken o) = refl
+      go (parsed.Stops o) = refl
+      go (parsed.Unknown o) = refl
+      go (parsed.Refused c) = refl
 
--- what is not read has its own lines
-pub unread-judged : (typed names : List ℕ) (i : Recording) {left : Columns} (p : Parsed) {old new : List ℕ} {r : ℕ} → OneOf (1 ∷ 2 ∷ 3 ∷ 4 ∷ []) (tag_of parsed-type p)
-    → Parses names typed roomy left (said_parsed p) → Wrote old 0 (unread_lines typed p) new r → JudgedBy typed names i old new r
-unread-judged typed names i {left} p k a x = (unread_lines typed p, record { answer = p; left = left; parses = a; shows = go p k }, x)
-  where
-    go : (q : Parsed) → OneOf (1 ∷ 2 ∷ 3 ∷ 4 ∷ []) (tag_of parsed-type q) → Shows i typed left q (unread_lines typed q)
-    go (Nodes n) z = absurd (none_read z)
-    go (parsed.Broken o) z = refl
-    go (Stops o) z = refl
-    go (Unknown o) z = refl
-    go (parsed.Refused c) z = refl
-
-pub unread-wrote : (typed : List ℕ) {p q : Parsed} {old new : List ℕ} {r : ℕ} → p ≡ q → Wrote old 0 (unread_lines typed q) new r → Wrote old 0 (unread_lines typed p) new r
-unread-wrote typed {p} {q} {old} {new} {r} e x = subst (λ (z : Parsed). Wrote old 0 (unread_lines typed z) new r) (sym e) x
+pub unread-wrote : (typed : List ℕ) {p q : ParseError} {old new : List ℕ} {r : ℕ} → p ≡ q → Wrote old 0 (unread_lines typed q) new r → Wrote old 0 (unread_lines typed p) new r
+unread-wrote typed {p} {q} {old} {new} {r} e x = subst (λ (z : ParseError). Wrote old 0 (unread_lines typed z) new r) (sym e) x
 
 module _ (file : List ℕ) (bytes : Bytes file) (l : Lent) (wide : Wide l) (a : ReadAnswer) (marks lengths words unary binary : List ℕ)
     (e : read_after (said_read a) marks lengths words unary binary ≡ read_of file l) (typed : List ℕ) {old new : List ℕ} {k : ℕ} where

@@ -23,14 +23,16 @@ use Rattle.formula.specs.Nodes.{Node, node_at, Spells, codes}
 use Rattle.formula.specs.Rule.{Broken as NodesBroken}
 use Rattle.verdict.specs.Check.{said_verdict, check_rows, FirstDisagrees, VerdictSays, CheckAnswer}
 use Rattle.verdict.specs.declared.Verdict.{Verdict}
-use Rattle.verdict.specs.declared.Verdict.TheVariants.{Accepted, Disagrees, Refused}
+use Rattle.verdict.specs.declared.Verdict.TheVariants.{Accepted, Disagrees}
 use Rattle.verdict.proofs.Checking.{decided-list}
 use Rattle.formula.proofs.Spelled.{one-formula}
 use Rattle.grammar.specs.Grammar.{Refused11}
 use Rattle.grammar.proofs.Theorems.{one-tree, formula-or-offset}
-use Rattle.reader.specs.declared.Parsed.{Parsed}
-use Rattle.reader.specs.declared.Parsed.TheVariants.{Nodes, Broken, Stops, Unknown}
-use Rattle.reader.specs.declared.Parsed.TheVariants as parsed
+use Rattle.std.proofs.Common.{Result, Ok, Err}
+use Rattle.rules.specs.declared.refusal.Refusal.{Refusal}
+use Rattle.rules.specs.Refusals.{refusal_number}
+use Rattle.reader.specs.declared.ParseError.{ParseError}
+use Rattle.reader.specs.declared.ParseError.TheVariants.{Broken, Stops, Unknown, Refused}
 use Rattle.reader.specs.Words.{FirstUnknown}
 use Rattle.reader.specs.Parsing.{Columns, said_parsed, Decides, parse_rows, Taken, Parses}
 use Rattle.reader.proofs.Unique as reader
@@ -66,15 +68,15 @@ module _ (p : Parts) (g : Good p) (text : List ℕ) where
   names-are : names_in front ≡ p.names
   names-are = ap listed ((names-accepts front p.names).1 ((g.some_names, g.few_names, g.names), refl))
 
-  module _ (left : Columns) (n : ℕ) (a : Parses front text roomy left (said_parsed (Nodes n))) where
+  module _ (left : Columns) (n : ℕ) (a : Parses front text roomy left (said_parsed (Ok n))) where
     abbrev k : List Node
     k = first_nodes n left
 
     abbrev root : Node
     root = node_at k (n - 1)
 
-    this : Passed front text roomy left (said_parsed (Nodes n))
-    this = parse-passed front text roomy left (said_parsed (Nodes n)) a refl
+    this : Passed front text roomy left (said_parsed (Ok n))
+    this = parse-passed front text roomy left (said_parsed (Ok n)) a refl
 
     abbrev t : Formula
     t = this.taken.formula
@@ -95,7 +97,7 @@ module _ (p : Parts) (g : Good p) (text : List ℕ) where
         subst (λ (m : ℕ). Spells codes (first_nodes m left) (node_at (first_nodes m left) (m - 1)) t) (sym (head-eq_of_cons-eq this.taken.values))
         (read-spells roomy t this.taken.nodes)
 
-    checked : (i : Recording) (v : Verdict) → CheckAnswer i k root (said_verdict v) → (said_verdict v).number ≡ 0 → VerdictSays i t (said_verdict v).values
+    checked : (i : Recording) (v : Result Verdict Refusal) → CheckAnswer i k root (said_verdict v) → (said_verdict v).number ≡ 0 → VerdictSays i t (said_verdict v).values
     checked i v c z = let (u, s, o) = c.passed z in subst (λ (f : Formula). VerdictSays i f (said_verdict v).values) (one-formula k root u t s spelled) o
 
     -- and the check takes them: a good file's sessions pass its tests, and what is read passes number 9
@@ -110,16 +112,16 @@ module _ (p : Parts) (g : Good p) (text : List ℕ) where
   -- ---- what is answered
 
   module _ (out : List ℕ) (left : Columns) where
-    verdict : (n : ℕ) (a : Parses front text roomy left (said_parsed (Nodes n))) (v : Verdict)
+    verdict : (n : ℕ) (a : Parses front text roomy left (said_parsed (Ok n))) (v : Result Verdict Refusal)
         → CheckAnswer (recording_of p) (first_nodes n left) (node_at (first_nodes n left) (n - 1)) (said_verdict v) → out ≡ verdict_line v → TypedAnswer p text out
-    verdict n a Accepted c e =
-        is-separates (t left n a) e (is-typed left n a) (said-separates (recording_of p) (t left n a) (checked left n a (recording_of p) Accepted c refl))
-    verdict n a (Disagrees s) c e =
+    verdict n a (Ok Accepted) c e =
+        is-separates (t left n a) e (is-typed left n a) (said-separates (recording_of p) (t left n a) (checked left n a (recording_of p) (Ok Accepted) c refl))
+    verdict n a (Ok (Disagrees s)) c e =
         is-disagrees (t left n a) s.0 e (is-typed left n a)
-        (said-disagrees (recording_of p) (t left n a) s.0 (checked left n a (recording_of p) (Disagrees s) c refl))
-    verdict n a (Refused m) c e =
-        let z : m ≡ 0 = decided-unique (check_rows (recording_of p) (first_nodes n left) (node_at (first_nodes n left) (n - 1))) m 0 c.number (taken left n a) in
-        absurd (none_said (recording_of p) (t left n a) (checked left n a (recording_of p) (Refused m) c z))
+        (said-disagrees (recording_of p) (t left n a) s.0 (checked left n a (recording_of p) (Ok (Disagrees s)) c refl))
+    verdict n a (Err refusal) c e =
+        let z : refusal_number refusal ≡ 0 = decided-unique (check_rows (recording_of p) (first_nodes n left) (node_at (first_nodes n left) (n - 1))) (refusal_number refusal) 0 c.number (taken left n a) in
+        absurd (none_said (recording_of p) (t left n a) (checked left n a (recording_of p) (Err refusal) c z))
 
     no_names : {o : ℕ} → whole_names front ≡ bad o → ⊥
     no_names {o} e =
@@ -127,10 +129,10 @@ module _ (p : Parts) (g : Good p) (text : List ℕ) where
         let z : ◌≡◌ {A = ℕ} 0 1 = cc in omega arith
 
     -- a refusal, by the row that is given
-    abbrev Given : Parsed → Type 0
+    abbrev Given : Result ℕ ParseError → Type 0
     Given x = Decides (parse_rows front text roomy) (Taken front text roomy left) (said_parsed x)
 
-    not-broken : (o : ℕ) → Given (Broken o) → ⊥
+    not-broken : (o : ℕ) → Given (Err (Broken o)) → ⊥
     unfolding Decides
     not-broken o (inl a) = no_names a.1.2
     not-broken o (inr (_, inl a)) = omega (arith, a.0)
@@ -140,7 +142,7 @@ module _ (p : Parts) (g : Good p) (text : List ℕ) where
     not-broken o (inr (_, inr (_, inr (_, inr (_, inr (_, inl a)))))) = omega (arith, a.0)
     not-broken o (inr (_, inr (_, inr (_, inr (_, inr (_, inr (_, x))))))) = omega (arith, x.number)
 
-    stops : (o : ℕ) → Given (Stops o) → out ≡ pointed_lines text o 11 → TypedAnswer p text out
+    stops : (o : ℕ) → Given (Err (Stops o)) → out ≡ pointed_lines text o 11 → TypedAnswer p text out
     unfolding Decides
     stops o (inl a) s = absurd (omega (arith, a.0))
     stops o (inr (_, inl a)) s = absurd (omega (arith, a.0))
@@ -150,7 +152,7 @@ module _ (p : Parts) (g : Good p) (text : List ℕ) where
     stops o (inr (_, inr (_, inr (_, inr (_, inr (_, inl a)))))) s = absurd (omega (arith, a.0))
     stops o (inr (_, inr (_, inr (_, inr (_, inr (_, inr (_, x))))))) s = absurd (omega (arith, x.number))
 
-    unknown : (o : ℕ) → Given (Unknown o) → out ≡ pointed_lines text o 13 → TypedAnswer p text out
+    unknown : (o : ℕ) → Given (Err (Unknown o)) → out ≡ pointed_lines text o 13 → TypedAnswer p text out
     unfolding Decides
     unknown o (inl a) s = absurd (omega (arith, a.0))
     unknown o (inr (_, inl a)) s = absurd (omega (arith, a.0))
@@ -162,7 +164,7 @@ module _ (p : Parts) (g : Good p) (text : List ℕ) where
     unknown o (inr (_, inr (_, inr (_, inr (_, inr (_, inl a)))))) s = absurd (omega (arith, a.0))
     unknown o (inr (_, inr (_, inr (_, inr (_, inr (_, inr (_, x))))))) s = absurd (omega (arith, x.number))
 
-    large : (m : ℕ) → Given (parsed.Refused m) → out ≡ refused_line m → TypedAnswer p text out
+    large : (m : Refusal) → Given (Err (Refused m)) → out ≡ refused_line (refusal_number m) → TypedAnswer p text out
     unfolding Decides
     large m (inl a) s = absurd (nil≢cons a.1.1)
     large m (inr (_, inl (e, (_, l)))) s = is-large (s ∙ ap refused_line e) (inl l)
@@ -172,12 +174,12 @@ module _ (p : Parts) (g : Good p) (text : List ℕ) where
     large m (inr (_, inr (_, inr (_, inr (_, inr (f, inl (_, (_, (u, r, h))))))))) s = absurd (f [] (refl, inl (u, r, h)))
     large m (inr (_, inr (_, inr (_, inr (_, inr (_, inr (_, x))))))) s = absurd (nil≢cons x.values)
 
-    answer : (x : Parsed) → Parses front text roomy left (said_parsed x) → Shows (recording_of p) text left x out → TypedAnswer p text out
-    answer (Nodes n) a (v, c, e) = verdict n a v c e
-    answer (Broken o) a s = absurd (not-broken o a.answer)
-    answer (Stops o) a s = stops o a.answer s
-    answer (Unknown o) a s = unknown o a.answer s
-    answer (parsed.Refused m) a s = large m a.answer s
+    answer : (x : Result ℕ ParseError) → Parses front text roomy left (said_parsed x) → Shows (recording_of p) text left x out → TypedAnswer p text out
+    answer (Ok n) a (v, c, e) = verdict n a v c e
+    answer (Err (Broken o)) a s = absurd (not-broken o a.answer)
+    answer (Err (Stops o)) a s = stops o a.answer s
+    answer (Err (Unknown o)) a s = unknown o a.answer s
+    answer (Err (Refused m)) a s = large m a.answer s
 
   -- ---- what the lines say
 

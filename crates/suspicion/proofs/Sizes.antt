@@ -10,11 +10,13 @@ use Rattle.session.specs.Recording.{Recording}
 use Rattle.file.specs.Format.{Parts}
 use Rattle.file.specs.Offence.{whole_file}
 use Rattle.verdict.specs.declared.Verdict.{Verdict}
-use Rattle.verdict.specs.declared.Verdict.TheVariants.{Accepted, Disagrees, Refused}
+use Rattle.verdict.specs.declared.Verdict.TheVariants.{Accepted, Disagrees}
 use Rattle.reader.specs.Words.{most_bytes}
-use Rattle.reader.specs.declared.Parsed.{Parsed}
-use Rattle.reader.specs.declared.Parsed.TheVariants.{Nodes, Broken, Stops, Unknown}
-use Rattle.reader.specs.declared.Parsed.TheVariants as parsed
+use Rattle.std.proofs.Common.{Result, Ok, Err}
+use Rattle.rules.specs.declared.refusal.Refusal.{Refusal}
+use Rattle.rules.specs.Refusals.{refusal_number}
+use Rattle.reader.specs.declared.ParseError.{ParseError}
+use Rattle.reader.specs.declared.ParseError.TheVariants.{Broken, Stops, Unknown, Refused}
 use Rattle.reader.specs.Parsing.{Columns, said_parsed, Parses}
 use Rattle.writing.specs.Writing.{decimal, most_digits, newline}
 use Rattle.writing.proofs.Writing.{wrote-whole}
@@ -50,22 +52,22 @@ pointed-short typed at number h k =
       length-replicate {A = ℕ} at 32,
     )
 
-verdict-short : (v : Verdict) → length (verdict_line v) ≤ 114
-verdict-short Accepted = omega arith
-verdict-short (Disagrees j) = omega (arith, disagrees-short j.0)
-verdict-short (Refused k) = refused-short k
+verdict-short : (v : Result Verdict Refusal) → length (verdict_line v) ≤ 114
+verdict-short (Ok Accepted) = omega arith
+verdict-short (Ok (Disagrees j)) = omega (arith, disagrees-short j.0)
+verdict-short (Err refusal) = refused-short (refusal_number refusal)
 
 module _ (i : Recording) (names typed : List ℕ) (c : Columns) where
-  shows-short : (p : Parsed) (out : List ℕ) → Parses names typed roomy c (said_parsed p) → Shows i typed c p out → length out ≤ 8248
-  shows-short (Nodes n) out a s = omega (arith, verdict-short s.0, ap length s.2)
-  shows-short (Broken o) out a s = omega (arith, refused-at-short 8 o, ap length s)
-  shows-short (Stops o) out a s =
-      let w = stops-within names typed roomy c {p = Stops o} refl a in
+  shows-short : (p : Result ℕ ParseError) (out : List ℕ) → Parses names typed roomy c (said_parsed p) → Shows i typed c p out → length out ≤ 8248
+  shows-short (Ok n) out a s = omega (arith, verdict-short s.0, ap length s.2)
+  shows-short (Err (Broken o)) out a s = omega (arith, refused-at-short 8 o, ap length s)
+  shows-short (Err (Stops o)) out a s =
+      let w = stops-within names typed roomy c a in
       omega (arith, pointed-short typed o 11 w.1 w.0, ap length s)
-  shows-short (Unknown o) out a s =
-      let w = unknown-within names typed roomy c {p = Unknown o} refl a in
+  shows-short (Err (Unknown o)) out a s =
+      let w = unknown-within names typed roomy c a in
       omega (arith, pointed-short typed o 13 w.1 w.0, ap length s)
-  shows-short (parsed.Refused k) out a s = omega (arith, refused-short k, ap length s)
+  shows-short (Err (Refused refusal)) out a s = omega (arith, refused-short (refusal_number refusal), ap length s)
 
 pub says-short : (g : Got Parts) (typed out : List ℕ) → FileSays g typed out → length out ≤ 8248
 says-short (bad o) typed out s = omega (arith, refused-at-short 8 o, ap length s)

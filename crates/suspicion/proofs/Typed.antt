@@ -7,8 +7,6 @@ use mathlib.Core.List.{List, [], ◌∷◌, map, head-eq_of_cons-eq}
 use Prim.Native.Nat.{ℕ, zero, suc, ◌≤◌}
 use native.Mathlib.Omega.{arith}
 use lib.ListN.{length, take, drop, replicate, length-append, length-map}
-use denote.Enum.Declared.{tag_of}
-use types.Run.{OneOf}
 use Rattle.rules.specs.Answers.{Said, over}
 use Rattle.rules.specs.Limits.{most_size}
 use Rattle.formula.specs.Formula.{Formula, size}
@@ -16,21 +14,14 @@ use Rattle.formula.proofs.Trees.{size-pos}
 use Rattle.formula.specs.Nodes.{Node, codes}
 use Rattle.grammar.specs.Nodes.{nodes_of}
 use Rattle.reader.specs.Words.{most_bytes}
-use Rattle.reader.specs.declared.Parsed.{Parsed}
-use Rattle.reader.specs.declared.Parsed.TheVariants.{Nodes, Stops, Unknown}
-use Rattle.reader.specs.contracts.Parsed.{the_type as parsed-type}
+use Rattle.std.proofs.Common.{Ok, Err}
+use Rattle.reader.specs.declared.ParseError.{ParseError}
+use Rattle.reader.specs.declared.ParseError.TheVariants.{Stops, Unknown}
 use Rattle.reader.specs.Parsing.{Decides, Columns, said_parsed, parse_rows, Taken, Parses}
 use Rattle.reader.proofs.Scratch.{nodes-length}
 use Rattle.reader.proofs.Offsets.{within-11, within-13, at_most}
 use Rattle.round_trip.proofs.Contracts.{parse-passed}
 use Rattle.suspicion.specs.Inner.{Unread}
-
--- the nodes are the first of the reader's answers
-pub none_read : OneOf (1 ∷ 2 ∷ 3 ∷ 4 ∷ []) 0 → ⊥
-none_read (inl e) = omega (arith, e)
-none_read (inr (inl e)) = omega (arith, e)
-none_read (inr (inr (inl e))) = omega (arith, e)
-none_read (inr (inr (inr e))) = omega (arith, e)
 
 module _ (names text : List ℕ) (old left : Columns) where
   -- an offset carried by a refusal is within the text
@@ -55,19 +46,18 @@ module _ (names text : List ℕ) (old left : Columns) where
   within s (inr (_, inr (_, inr (_, inr (_, inr (_, inl a)))))) o v n = other a.0 (λ z. omega arith) (λ z. omega arith) n
   within s (inr (_, inr (_, inr (_, inr (_, inr (_, inr (_, t))))))) o v n = other t.number (λ z. omega arith) (λ z. omega arith) n
 
-  pub stops-within : {p : Parsed} {o : ℕ} → p ≡ Stops o → Parses names text old left (said_parsed p) → (o ≤ most_bytes) × (length text ≤ most_bytes)
+  pub stops-within : {o : ℕ} → Parses names text old left (said_parsed (Err (Stops o))) → (o ≤ most_bytes) × (length text ≤ most_bytes)
   unfolding Within
-  stops-within {p} {o} e a = within (said_parsed p) a.answer o (ap (λ (q : Parsed). (said_parsed q).values) e) (inl (ap (λ (q : Parsed). (said_parsed q).number) e))
+  stops-within {o} a = within (said_parsed (Err (Stops o))) a.answer o refl (inl refl)
 
-  pub unknown-within : {p : Parsed} {o : ℕ} → p ≡ Unknown o → Parses names text old left (said_parsed p) → (o ≤ most_bytes) × (length text ≤ most_bytes)
+  pub unknown-within : {o : ℕ} → Parses names text old left (said_parsed (Err (Unknown o))) → (o ≤ most_bytes) × (length text ≤ most_bytes)
   unfolding Within
-  unknown-within {p} {o} e a = within (said_parsed p) a.answer o (ap (λ (q : Parsed). (said_parsed q).values) e) (inr (ap (λ (q : Parsed). (said_parsed q).number) e))
+  unknown-within {o} a = within (said_parsed (Err (Unknown o))) a.answer o refl (inr refl)
 
-  pub unread : {p : Parsed} → OneOf (1 ∷ 2 ∷ 3 ∷ 4 ∷ []) (tag_of parsed-type p) → Parses names text old left (said_parsed p) → Unread p
-  unread {p} k a = record {
-    no-nodes = λ n e. none_read (subst (λ (q : Parsed). OneOf (1 ∷ 2 ∷ 3 ∷ 4 ∷ []) (tag_of parsed-type q)) e k);
-    stops = λ o e. (stops-within e a).0;
-    unknown = λ o e. (unknown-within e a).0;
+  pub unread : {e : ParseError} → Parses names text old left (said_parsed (Err e)) → Unread e
+  unread {e} a = record {
+    stops = λ o q. (stops-within (subst (λ (x : ParseError). Parses names text old left (said_parsed (Err x))) q a)).0;
+    unknown = λ o q. (unknown-within (subst (λ (x : ParseError). Parses names text old left (said_parsed (Err x))) q a)).0;
   }
 
   -- what is read: from 1 to 31 nodes, within each slice
@@ -83,12 +73,12 @@ module _ (names text : List ℕ) (old left : Columns) where
   front-in f t list =
       omega (arith, length-append (map f (nodes_of codes 0 t)) (drop (length (map f (nodes_of codes 0 t))) list), length-map (nodes_of codes 0 t) f, nodes-length codes 0 t)
 
-  pub few-nodes : {p : Parsed} {n : ℕ} → p ≡ Nodes n → Parses names text old left (said_parsed p) → Few n
-  few-nodes {p} {n} e a =
-      let d = parse-passed names text old left (said_parsed p) a (ap (λ (q : Parsed). (said_parsed q).number) e) in
+  pub few-nodes : {n : ℕ} → Parses names text old left (said_parsed (Ok n)) → Few n
+  few-nodes {n} a =
+      let d = parse-passed names text old left (said_parsed (Ok n)) a refl in
       let t = d.taken in
       let f = t.formula in
-      let h : size f ≡ n = head-eq_of_cons-eq (sym t.values ∙ ap (λ (q : Parsed). (said_parsed q).values) e) in
+      let h : size f ≡ n = head-eq_of_cons-eq (sym t.values) in
       subst Few h (record {
         some = size-pos f;
         most = d.small;

@@ -12,8 +12,10 @@ use Rattle.file.specs.Offence.{whole_file}
 use Rattle.formula.specs.Nodes.{node_at}
 use Rattle.verdict.specs.declared.Verdict.{Verdict}
 use Rattle.verdict.proofs.Unique.{check-unique}
-use Rattle.reader.specs.declared.Parsed.{Parsed}
-use Rattle.reader.specs.declared.Parsed.TheVariants.{Nodes, Broken, Stops, Unknown, Refused}
+use Rattle.std.proofs.Common.{Result, Ok, Err}
+use Rattle.rules.specs.declared.refusal.Refusal.{Refusal}
+use Rattle.reader.specs.declared.ParseError.{ParseError}
+use Rattle.reader.specs.declared.ParseError.TheVariants.{Broken, Stops, Unknown, Refused}
 use Rattle.reader.specs.Parsing.{Columns}
 use Rattle.reader.proofs.Unique.{parse-unique}
 use Rattle.writing.specs.Writing.{Wrote}
@@ -21,20 +23,20 @@ use Rattle.writing.proofs.Writing.{wrote-unique, wrote-length}
 use Rattle.suspicion.specs.Suspicion.{roomy, first_nodes, verdict_line, Shows, FileSays, TypedLinesOf}
 
 -- one answer has one list of lines
-shows-one : (i : Recording) (typed : List ℕ) (c : Columns) (p : Parsed) (x y : List ℕ) → Shows i typed c p x → Shows i typed c p y → x ≡ y
-shows-one i typed c (Nodes n) x y a b =
-    a.2 ∙ ap (λ (v : Verdict). verdict_line v) (check-unique i (first_nodes n c) (node_at (first_nodes n c) (n - 1)) a.0 b.0 a.1 b.1) ∙ sym b.2
-shows-one i typed c (Broken o) x y a b = a ∙ sym b
-shows-one i typed c (Stops o) x y a b = a ∙ sym b
-shows-one i typed c (Unknown o) x y a b = a ∙ sym b
-shows-one i typed c (Refused k) x y a b = a ∙ sym b
+shows-one : (i : Recording) (typed : List ℕ) (c : Columns) (p : Result ℕ ParseError) (x y : List ℕ) → Shows i typed c p x → Shows i typed c p y → x ≡ y
+shows-one i typed c (Ok n) x y a b =
+    a.2 ∙ ap (λ (v : Result Verdict Refusal). verdict_line v) (check-unique i (first_nodes n c) (node_at (first_nodes n c) (n - 1)) a.0 b.0 a.1 b.1) ∙ sym b.2
+shows-one i typed c (Err (Broken o)) x y a b = a ∙ sym b
+shows-one i typed c (Err (Stops o)) x y a b = a ∙ sym b
+shows-one i typed c (Err (Unknown o)) x y a b = a ∙ sym b
+shows-one i typed c (Err (Refused k)) x y a b = a ∙ sym b
 
 says-one : (g : Got Parts) (typed x y : List ℕ) → FileSays g typed x → FileSays g typed y → x ≡ y
 says-one (bad o) typed x y a b = a ∙ sym b
 says-one (got p next) typed x y a b =
     let e = parse-unique _ typed roomy a.answer b.answer a.left b.left a.parses b.parses in
     shows-one _ typed b.left b.answer x y
-    (subst (λ (c : Columns). Shows _ typed c b.answer x) e.1 (subst (λ (q : Parsed). Shows _ typed a.left q x) e.0 a.shows)) b.shows
+    (subst (λ (c : Columns). Shows _ typed c b.answer x) e.1 (subst (λ (q : Result ℕ ParseError). Shows _ typed a.left q x) e.0 a.shows)) b.shows
 
 -- how many bytes are written, and what the text holds
 pub suspicion-unique : (typed file old : List ℕ) (r s : ℕ) (new later : List ℕ) → TypedLinesOf typed file old new r → TypedLinesOf typed file old later s → (r ≡ s) × (new ≡ later)

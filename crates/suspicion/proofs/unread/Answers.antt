@@ -1,4 +1,4 @@
--- `unread` meets its contract: each refusal has its lines, and what is read does not come here.
+-- `unread` meets its contract: each refusal has its lines.
 use Rattle.suspicion.proofs.Answered.{unread-wrote}
 use Rattle.suspicion.proofs.unread.Goals as goal
 
@@ -9,9 +9,6 @@ pointed-requires c =
 pub pointed-requires-in-Unknown : goal.pointed-requires-in-Unknown
 pointed-requires-in-Unknown c =
     c.requires.unknown _ c.in-Unknown.is
-
-pub returns-in-Nodes : goal.returns-in-Nodes
-returns-in-Nodes c = absurd (c.requires.no-nodes _ c.in-Nodes.is)
 
 pub returns-in-Broken : goal.returns-in-Broken
 returns-in-Broken c =

@@ -1,13 +1,10 @@
 -- `fill_places` meets its contract: node by node.
 use mathlib.Core.Path.{◌≡◌}
 use mathlib.Core.List.{map}
-use Prim.Native.Nat.{◌-◌, ◌≤◌, ◌/◌, ◌%◌}
+use Prim.Native.Nat.{◌/◌, ◌%◌}
 use lib.ListN.{take}
 use lib.Seq.{sets}
 use Rattle.reader.proofs.fill.fill_places.Given as goal
 
 abbrev pub invariant-loop-i : goal.invariant-loop-i
-invariant-loop-i l = (l.i ≤ l.n) × (l.to ≡ sets l.initial.to 0 (map (λ e. e / l.unit % 65536) (take l.i l.scratch)))
-
-abbrev pub decreases-loop-i : goal.decreases-loop-i
-decreases-loop-i l = l.n - l.i
+invariant-loop-i l = l.to ≡ sets l.initial.to 0 (map (λ e. e / l.unit % 65536) (take l.i l.scratch))
