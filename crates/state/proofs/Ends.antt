@@ -1,6 +1,6 @@
 -- Whether a walk goes on is decided by its end.
 -- Assumes nothing.
-use mathlib.Core.Path.{◌≡◌, refl, sym, ap}
+use mathlib.Core.Path.{◌≡◌, refl, sym, ap, ◌∙◌}
 use mathlib.Core.Bool.{false}
 use Rattle.std.proofs.lemmas.Bool.{false≢true}
 use Rattle.state.specs.declared.End.{End}
@@ -18,3 +18,7 @@ dec_more End.More = yes refl
 dec_more End.Found = no (λ h. false≢true (ap more_to_try h))
 dec_more End.None = no (λ h. false≢true (ap more_to_try h))
 dec_more End.Full = no (λ h. false≢true (ap more_to_try h))
+
+-- after an end that is none there is no more to try
+pub not_on : {e : End} → more_to_try e ≡ false → e ≡ End.More → ⊥
+not_on f h = false≢true (sym f ∙ ap more_to_try h)
