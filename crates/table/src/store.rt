@@ -50,9 +50,5 @@ pub(crate) fn put(r: usize, matrices: &mut [u64], rows: &[u64], from: usize)
     requires { WordForEach r rows.now × (from + r ≤ length matrices.old) }
     ensures { matrices.new ≡ paste matrices.old from rows.now r }
 {
-    let mut j: usize = 0;
-    while j < r {
-        matrices[from + j] = rows[j];
-        j += 1;
-    }
+    matrices[from..from + r].copy_from_slice(&rows[..r]);
 }
