@@ -64,7 +64,7 @@ at-range n j h = get_or-range_with_len 0 n j 0 h ∙ (let e : 0 + j ≡ j = omeg
 -- what `all` over a range answers
 pub every-answer : (n : ℕ) (f : ℕ → Bool) (b : Bool)
     → MatchBool b (AllWithin (λ j. f j ≡ true) (range_with_len 0 n) 0 (length (range_with_len 0 n)))
-        ((k : ℕ) × (k < length (range_with_len 0 n)) × HoldsAt (λ j. f j ≡ false) (range_with_len 0 n) k)
+    ((k : ℕ) × (k < length (range_with_len 0 n)) × HoldsAt (λ j. f j ≡ false) (range_with_len 0 n) k)
     → b ≡ every (count 0 n) f
 every-answer n f true h = sym (every-true 0 n f (λ j l m. subst (λ (x : ℕ). f x ≡ true) (at-range n j (omega arith)) (h j 0 (omega arith) (omega (arith, length-range_with_len 0 n)))))
 every-answer n f false (k, l, h) = let m : k < n = omega (arith, l, length-range_with_len 0 n) in

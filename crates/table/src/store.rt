@@ -20,29 +20,14 @@ pub(crate) fn fits(
 ) -> bool
     ensures { Tested (FitsAt r place.0 rows codes lefts rights sizes matrices) result }
 {
-    if rules::SESSIONS < r {
-        return false;
-    }
-    if rows < r {
-        return false;
-    }
     let at = place.0 as usize;
-    if codes <= at {
-        return false;
-    }
-    if lefts <= at {
-        return false;
-    }
-    if rights <= at {
-        return false;
-    }
-    if sizes <= at {
-        return false;
-    }
-    if matrices < at * r + r {
-        return false;
-    }
-    true
+    r <= rules::SESSIONS
+        && r <= rows
+        && at < codes
+        && at < lefts
+        && at < rights
+        && at < sizes
+        && at * r + r <= matrices
 }
 
 // Writes the rows from `from` on.
