@@ -6,7 +6,7 @@ use mathlib.Core.List.{List, []}
 use Prim.Native.Nat.{ℕ, ◌+◌, ◌*◌, ◌<◌}
 use native.Mathlib.Omega.{arith}
 use native.Mathlib.Decide.{dec_lt}
-use Rattle.std.specs.Prelude.{Result, Ok, Err}
+use Rattle.std.specs.Prelude.{Option, Some, None, Result, Ok, Err}
 use lib.ListN.{get_or}
 use Rattle.rules.specs.Answers.{Said}
 use Rattle.rules.proofs.Refusals.{decided-unique, refusal-positive, refusal-one}
@@ -16,7 +16,7 @@ use Rattle.rules.specs.declared.kinds.Place.{Place}
 use Rattle.rules.specs.declared.kinds.Session.{Session}
 use Rattle.comparison.specs.declared.Compared.{Compared}
 use Rattle.comparison.specs.declared.Compared.TheVariants.{Equal, Differs}
-use Rattle.comparison.specs.Compare.{Same, FirstDiffers, equal_said, differs_said, said_compared, compare_rows_with, CompareOutcome, Compares}
+use Rattle.comparison.specs.Compare.{Same, FirstDiffers, equal_said, differs_said, said_compared, compare_rows_with, CompareOutcome, Compares, KnownAnswer}
 
 -- ---- the first one
 
@@ -90,3 +90,11 @@ module _ (r place : ℕ) (matrices rows : List ℕ) where
   compare-unique (Ok c) (Err k) p q = absurd (one-refuses c k p q)
   compare-unique (Err k) (Ok d) p q = absurd (one-refuses d k q p)
   compare-unique (Err k) (Err l) p q = ap Err (refusal-one k l (numbered (Err k) (Err l) p q))
+
+pub known-unique : (r : ℕ) (matrices rows : List ℕ) (kept : ℕ) (c d : Option Place) → KnownAnswer r matrices rows kept c → KnownAnswer r matrices rows kept d → c ≡ d
+unfolding spot
+known-unique r matrices rows kept (Some a) (Some b) p q =
+    ap (λ (n : ℕ). Some (spot n)) (first (λ t. Same r matrices rows t r → ⊥) a.0 b.0 p.3 (λ n. n p.2) q.3 (λ n. n q.2))
+known-unique r matrices rows kept (Some a) None p q = absurd (q p.0 a.0 p.1 p.2)
+known-unique r matrices rows kept None (Some b) p q = absurd (p q.0 b.0 q.1 q.2)
+known-unique r matrices rows kept None None p q = refl

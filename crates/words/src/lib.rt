@@ -83,6 +83,7 @@ pub fn until(x: u64, y: u64, mask: u64) -> u64
     let mut x = x;
     let mut y = y & mask;
     let mut d: u64 = 1;
+    // A while: the distance doubles, so it counts no index that a range could give.
     while d < 64 {
         if x == 0 {
             return y;

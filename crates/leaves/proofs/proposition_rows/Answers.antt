@@ -28,17 +28,17 @@ returns-then-rows-r c = record { did = λ a. absurd (omega (arith, a.rows-there)
 pub overflow_mul-rows : goal.overflow_mul-rows
 overflow_mul-rows c =
     let a = c.args in
-    omega (arith, word_in c.loop-j.j a.r a.m a.p.0 (omega arith) (omega arith), at_most a.m most_propositions a.r most_sessions (omega arith) (omega arith))
+    omega (arith, at_most c.loop-j.j most_sessions a.m most_sessions (omega arith) (omega arith), at_most c.loop-j.j most_sessions a.r most_sessions (omega arith) (omega arith))
 
 pub overflow_add-rows : goal.overflow_add-rows
 overflow_add-rows c =
     let a = c.args in
-    omega (arith, word_in c.loop-j.j a.r a.m a.p.0 (omega arith) (omega arith), at_most a.m most_propositions a.r most_sessions (omega arith) (omega arith))
+    omega (arith, at_most c.loop-j.j most_sessions a.m most_sessions (omega arith) (omega arith), at_most c.loop-j.j most_sessions a.r most_sessions (omega arith) (omega arith))
 
 pub offset_bounds-words-j : goal.offset_bounds-words-j
 offset_bounds-words-j c =
     let a = c.args in
-    omega (arith, word_in c.loop-j.j a.r a.m a.p.0 (omega arith) (omega arith), at_most a.m most_propositions a.r most_sessions (omega arith) (omega arith))
+    omega (arith, at_most c.loop-j.j most_sessions a.m most_sessions (omega arith) (omega arith), at_most c.loop-j.j most_sessions a.r most_sessions (omega arith) (omega arith))
 
 pub bounds-words-j : goal.bounds-words-j
 bounds-words-j c =

@@ -19,35 +19,35 @@ overflow_mul-from c =
 pub offset_bounds-matrices-from : goal.offset_bounds-matrices-from
 offset_bounds-matrices-from c =
     let a = c.args in
-    omega (arith, place_end c.loop-p.p a.kept a.r c.loop-p-test.true, at_most a.kept most_room a.r most_sessions (omega arith) (omega arith))
+    omega (arith, place_end c.loop-p.p a.kept a.r (omega arith), at_most a.kept most_room a.r most_sessions (omega arith) (omega arith))
 
 pub slice_bounds-compare_at-count : goal.slice_bounds-compare_at-count
-slice_bounds-compare_at-count c = let a = c.args in omega (arith, place_end c.loop-p.p a.kept a.r c.loop-p-test.true)
+slice_bounds-compare_at-count c = let a = c.args in omega (arith, place_end c.loop-p.p a.kept a.r (omega arith))
 
 pub slice_bounds-compare_at-start : goal.slice_bounds-compare_at-start
-slice_bounds-compare_at-start c = let a = c.args in omega (arith, place_end c.loop-p.p a.kept a.r c.loop-p-test.true)
+slice_bounds-compare_at-start c = let a = c.args in omega (arith, place_end c.loop-p.p a.kept a.r (omega arith))
 
 pub compare_at-compared-requires : goal.compare_at-compared-requires
 compare_at-compared-requires c =
     let a = c.args in
     let p = c.loop-p.p in
-    (omega arith, part-long a.matrices.now (p * a.r) a.r (omega (arith, place_end p a.kept a.r c.loop-p-test.true)), omega arith)
+    (omega arith, part-long a.matrices.now (p * a.r) a.r (omega (arith, place_end p a.kept a.r (omega arith))), omega arith)
 
 pub returns-in-Equal : goal.returns-in-Equal
 returns-in-Equal c =
     let a = c.args in
     let v = c.loop-p in
     let w = rw c.in-Equal.is at c.compare_at-compared.ensures in
-    let end = place_end v.p a.kept a.r c.loop-p-test.true in
+    let end = place_end v.p a.kept a.r (omega arith) in
     let same = same-below a.r v.p a.matrices.now a.rows.now (omega (arith, end, c.requires.matrices-there)) a.r (omega arith) w.1 in
     let z = subst (λ (n : ℕ). (n < a.kept) × Same a.r a.matrices.now a.rows.now n a.r × ((q : ℕ) → q < n → Same a.r a.matrices.now a.rows.now q a.r → ⊥))
-    (sym w.0) (c.loop-p-test.true, same, v.invariant) in
+    (sym w.0) (omega arith, same, v.invariant) in
     (c.requires, z.0, z.1, z.2)
 
 pub loop-p-preserved : goal.loop-p-preserved
 loop-p-preserved c =
     let a = c.args in
     let v = c.loop-p in
-    let end = place_end v.p a.kept a.r c.loop-p-test.true in
+    let end = place_end v.p a.kept a.r (omega arith) in
     below_more _ _ v.invariant
     (unequal a.r v.p a.matrices.now a.rows.now (omega (arith, end, c.requires.matrices-there)) c.compare_at-compared.result (search rules) c.compare_at-compared.ensures)
