@@ -20,8 +20,8 @@ use verdict::Verdict;
 fn node(line: &[u8], number: usize) -> Node {
     let mut bytes = [0u8; 4];
     let mut places = [0u16; 4];
-    stored::bytes(line, number, &mut bytes);
-    stored::places(line, number, &mut places);
+    stored::list(line, number, &mut bytes);
+    stored::list(line, number, &mut places);
     Node {
         code: bytes[0],
         left: Place(places[1]),
@@ -58,7 +58,7 @@ fn check(
     words: &[u64],
 ) -> io::Result<()> {
     let mut head = [0u64; 2];
-    stored::words(line, 0, &mut head);
+    stored::list(line, 0, &mut head);
     let root = node(line, 8);
     say_verdict(
         to,
@@ -88,9 +88,9 @@ fn check_nodes(
     let mut marks = [0u8; 64];
     let mut lengths = [0u8; 64];
     let mut words = [0u64; 1024];
-    let marks = stored::bytes(line, 1, &mut marks);
-    let lengths = stored::bytes(line, 2, &mut lengths);
-    let words = stored::words(line, 3, &mut words);
+    let marks = stored::list(line, 1, &mut marks);
+    let lengths = stored::list(line, 2, &mut lengths);
+    let words = stored::list(line, 3, &mut words);
     check(to, line, codes, lefts, rights, sizes, marks, lengths, words)
 }
 
@@ -120,7 +120,7 @@ fn print_nodes(
 ) -> io::Result<()> {
     let mut names = [0u8; 400];
     let mut dots = [b'.'; 500];
-    let names = stored::bytes(line, 0, &mut names);
+    let names = stored::list(line, 0, &mut names);
     let room = stored::room(line, 6, &mut dots);
     let root = node(line, 5);
     say_printed(
@@ -138,10 +138,10 @@ fn check_line(to: &mut impl Write, line: &[u8]) -> io::Result<()> {
     let mut lefts = [0u16; 4200];
     let mut rights = [0u16; 4200];
     let mut sizes = [0u8; 4200];
-    let codes = stored::bytes(line, 4, &mut codes);
-    let lefts = stored::places(line, 5, &mut lefts);
-    let rights = stored::places(line, 6, &mut rights);
-    let sizes = stored::bytes(line, 7, &mut sizes);
+    let codes = stored::list(line, 4, &mut codes);
+    let lefts = stored::list(line, 5, &mut lefts);
+    let rights = stored::list(line, 6, &mut rights);
+    let sizes = stored::list(line, 7, &mut sizes);
     check_nodes(to, line, codes, lefts, rights, sizes)
 }
 
@@ -150,10 +150,10 @@ fn print_line(to: &mut impl Write, line: &[u8]) -> io::Result<()> {
     let mut lefts = [0u16; 4200];
     let mut rights = [0u16; 4200];
     let mut sizes = [0u8; 4200];
-    let codes = stored::bytes(line, 1, &mut codes);
-    let lefts = stored::places(line, 2, &mut lefts);
-    let rights = stored::places(line, 3, &mut rights);
-    let sizes = stored::bytes(line, 4, &mut sizes);
+    let codes = stored::list(line, 1, &mut codes);
+    let lefts = stored::list(line, 2, &mut lefts);
+    let rights = stored::list(line, 3, &mut rights);
+    let sizes = stored::list(line, 4, &mut sizes);
     print_nodes(to, line, codes, lefts, rights, sizes)
 }
 
