@@ -153,8 +153,8 @@ pub fn list<'a, T: Number>(line: &[u8], number: usize, to: &'a mut [T]) -> &'a m
         }
         begun = begun.with(*b);
     }
-    n = push(to, n, begun);
-    &mut to[..n]
+    let end = push(to, n, begun);
+    &mut to[..end]
 }
 
 // The value of a hex digit in capitals; 0 for any other byte.
