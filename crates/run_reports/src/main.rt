@@ -70,13 +70,12 @@ fn report(
 ) -> io::Result<()> {
     let mut head = [0u64; 2];
     stored::list(line, 1, &mut head);
-    let r = head[0] as usize;
-    let m = head[1] as usize;
+    let [r, m] = head;
     let node = root(line);
     let mut dots = [b'.'; report::LONGEST];
     let text = stored::room(line, 10, &mut dots);
     let reported = report::report(
-        r, m, marks, lengths, words, codes, lefts, rights, sizes, node, text,
+        r as usize, m as usize, marks, lengths, words, codes, lefts, rights, sizes, node, text,
     );
     say_example(to, stored::field(line, 0), reported, text)
 }

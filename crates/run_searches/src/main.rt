@@ -88,12 +88,13 @@ struct Head {
 fn read_head(line: &[u8]) -> Head {
     let mut head = [0u64; 5];
     stored::list(line, 1, &mut head);
+    let [r, m, bound, room, constants] = head;
     Head {
-        r: head[0] as usize,
-        m: head[1] as usize,
-        bound: head[2] as usize,
-        room: head[3] as usize,
-        constants: (head[4] % 256) as u8,
+        r: r as usize,
+        m: m as usize,
+        bound: bound as usize,
+        room: room as usize,
+        constants: (constants % 256) as u8,
     }
 }
 
