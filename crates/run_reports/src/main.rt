@@ -43,6 +43,7 @@ fn say_example(
     Ok(())
 }
 
+// As `node` of run_formulas: `stored` stands below the crates that have nodes, and a public function there of four numbers alone would promise nothing.
 fn root(line: &[u8]) -> Node {
     let mut bytes = [0u8; 4];
     let mut places = [0u16; 4];

@@ -13,6 +13,7 @@ pub fn fill<R: Read>(from: &mut R, room: &mut [u8]) -> io::Result<usize>
     ensures ok { IfOk result (FirstBytes (R.remaining from.old) (R.remaining from.new) room.new) }
     ensures err { OnErr result (FirstOf (R.remaining from.old) (R.remaining from.new) room.new) }
 {
+    // A loop of its own: std's `read_exact` takes an end of the input for an error, and says nothing of what stands in the room then.
     let mut at: usize = 0;
     while at < room.len() {
         let n = from.read(&mut room[at..])?;
