@@ -1,12 +1,14 @@
 -- The comparison of two matrices, read at the place of the kept one.
 -- Assumes nothing.
-use mathlib.Core.Path.{◌≡◌, refl, sym, ap, ◌∙◌}
+use mathlib.Core.Path.{◌≡◌, refl, sym, ap, ◌∙◌, subst}
 use mathlib.Core.Logic.{◌⊎◌, inl, inr, ⊎_elim}
 use mathlib.Core.List.{List, []}
 use Rattle.std.specs.Prelude.{Ok, Err}
 use Prim.Native.Nat.{ℕ, ◌+◌, ◌-◌, ◌*◌, ◌≤◌, ◌<◌}
 use native.Mathlib.Omega.{arith}
 use lib.ListN.{length, get_or, take, drop}
+use Rattle.std.specs.List.{AllWithin, HoldsAt, range_with_len}
+use Rattle.std.proofs.lemmas.List.FromFn.{length-range_with_len, get_or-range_with_len}
 use denote.Enum.Declared.{tag_of}
 use Rattle.rules.specs.Limits.{most_sessions, Outside}
 use Rattle.rules.specs.declared.refusal.Refusal.TheVariants.{Numbers, Room}
@@ -18,6 +20,17 @@ use Rattle.comparison.specs.Compare.{Same, equal_said, said_compared, compare_ro
 use Rattle.rows.proofs.Parts.{part_at}
 use Rattle.leaves.proofs.Products.{next_row}
 use Rattle.comparison.specs.Inner.{ComparedAt}
+
+-- the first number of a range that passes, by its place in the range
+pub first-from_range : (r j : ℕ) (Yes No : ℕ → Type 0)
+    → (j < length (range_with_len 0 r)) × HoldsAt Yes (range_with_len 0 r) j × AllWithin No (range_with_len 0 r) 0 j
+    → (j < r) × ((t : ℕ) → t < j → No t) × Yes j
+first-from_range r j Yes No (l, y, n) =
+    let h : j < r = omega (arith, l, length-range_with_len 0 r) in
+    (h, λ t g. subst No (at r t (omega arith)) (n t 0 (omega arith) g), subst Yes (at r j h) (y 0))
+  where
+    at : (n i : ℕ) → i < n → get_or (range_with_len 0 n) i 0 ≡ i
+    at n i g = get_or-range_with_len 0 n i 0 g ∙ (let e : 0 + i ≡ i = omega arith in e)
 
 -- the words of a slice from a word on
 abbrev part : List ℕ → ℕ → List ℕ

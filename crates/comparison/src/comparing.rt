@@ -12,12 +12,10 @@ pub(crate) fn compare_at(r: usize, place: Place, x: &[u64], rows: &[u64]) -> Com
     requires { (r ≤ most_sessions) × (r ≤ length x.now) × (r ≤ length rows.now) }
     ensures { ComparedAt r place.0 x.now rows.now result }
 {
-    for j in 0..r {
-        if rows[j] != x[j] {
-            return Compared::Differs(Session(j as u8));
-        }
+    match (0..r).position(|j| rows[j] != x[j]) {
+        Some(j) => Compared::Differs(Session(j as u8)),
+        None => Compared::Equal(place),
     }
-    Compared::Equal(place)
 }
 
 // The first place whose matrix is equal, or none.
