@@ -13,7 +13,6 @@ ghost use Rattle.explanation.specs.Explanation.{ExplanationOf};
 ghost use Rattle.explanation.specs.Inner.{Stands, OfGood, BenchSays, ToldOf, ReportOf};
 
 use formula::kinds::Node;
-use report::Reported;
 use search::SearchAnswer;
 
 // What the bench says, by the bench's own function.
@@ -48,9 +47,9 @@ fn reported(
         r, m, marks, lengths, words, codes, lefts, rights, sizes, root, text,
     );
     match said {
-        Reported::Text(length) => length,
+        Ok(length) => length,
         // Can't come up: the formula has passed the check, and there is room.
-        Reported::Refused(_) => 0,
+        Err(_) => 0,
     }
 }
 
@@ -96,7 +95,7 @@ fn searched(
         &mut matrices,
     );
     match answer {
-        SearchAnswer::Found { root, counts } => reported(
+        Ok(SearchAnswer::Found { root, counts }) => reported(
             r,
             m,
             marks,

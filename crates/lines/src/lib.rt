@@ -10,7 +10,7 @@ ghost use Rattle.lines.specs.Inner.{Showable, ShownBy, GivenBy, WrittenFor};
 use file::ReadError;
 use formula::kinds::Node;
 use search::SearchAnswer;
-use text::Printed;
+use text::PrintError;
 use writing::put;
 
 // The bench's room, and that of what explains its answer: "searches with C = 200".
@@ -39,13 +39,13 @@ fn found(
     let mut shown = [0u8; text::LONGEST];
     let printed = text::print(names, codes, lefts, rights, sizes, root, &mut shown);
     match printed {
-        Printed::Text(length) => {
+        Ok(length) => {
             let a = line::found(text, root.size, tried, codes.len(), dropped);
             let b = put(text, a, &shown[..length]);
             put(text, b, b"\n")
         }
-        Printed::Broken(at) => line::broken(text, at),
-        Printed::Refused(number) => line::refused(text, number),
+        Err(PrintError::Broken(at)) => line::broken(text, at),
+        Err(PrintError::Refused(refusal)) => line::refused(text, refusal.into()),
     }
 }
 
@@ -92,7 +92,7 @@ fn searched(
         &mut matrices,
     );
     match answer {
-        SearchAnswer::Found { root, counts } => found(
+        Ok(SearchAnswer::Found { root, counts }) => found(
             names,
             &codes[..counts.kept],
             &lefts[..counts.kept],
@@ -103,11 +103,13 @@ fn searched(
             counts.dropped,
             text,
         ),
-        SearchAnswer::None(counts) => line::none(text, counts.tried, counts.kept, counts.dropped),
-        SearchAnswer::Full { size, counts } => {
+        Ok(SearchAnswer::None(counts)) => {
+            line::none(text, counts.tried, counts.kept, counts.dropped)
+        }
+        Ok(SearchAnswer::Full { size, counts }) => {
             line::full(text, size, counts.tried, counts.kept, counts.dropped)
         }
-        SearchAnswer::Refused(number) => line::refused(text, number),
+        Err(refusal) => line::refused(text, refusal.into()),
     }
 }
 

@@ -1,12 +1,12 @@
 -- scarfpylon_resume: what it returns and leaves in the lent slices, in the state's words and in `out`, for every input.
 -- Assumes nothing.
-use Rattle.std.specs.Prelude.{◌≡◌, cond, List, [], ◌∷◌, ◌++◌, ℕ, eqb}
+use Rattle.std.specs.Prelude.{◌≡◌, List, [], ◌∷◌, ◌++◌, ℕ, Ok}
 use Rattle.rules.specs.Refusals.{Row, Decided}
 use Rattle.formula.specs.declared.kinds.Node.{Node}
 use Rattle.walk.specs.Input.{Input}
 use Rattle.table.specs.Slices.{Cols}
-use Rattle.slices.specs.declared.Resumed.TheVariants.{Goes}
 use Rattle.state.specs.declared.State.{State}
+use Rattle.state.specs.declared.End.{End}
 use Rattle.slices.specs.Slices.{resume_rows_with}
 use Rattle.slices.specs.Resume.{Called}
 use Rattle.out.specs.Out.{OutWord, word_from, written, long_short}
@@ -19,10 +19,14 @@ found_words root =
     word_from 0 1 ∷ word_from 1 root.size ∷ word_from 4 root.code ∷ word_from 5 root.left.0 ∷ word_from 6 root.right.0 ∷ word_from 7 root.size ∷ []
 
 -- ".. with case 4 MORE": 2 is NONE, and 3 is FULL with its size
+abbrev pub words_at : End → State → List OutWord
+words_at End.More s = word_from 0 4 ∷ []
+words_at End.Found s = found_words s.root
+words_at End.None s = word_from 0 2 ∷ []
+words_at End.Full s = word_from 0 3 ∷ word_from 1 s.size ∷ []
+
 abbrev pub end_words : State → List OutWord
-end_words s =
-    cond (eqb s.end 1) (found_words s.root)
-    (cond (eqb s.end 2) (word_from 0 2 ∷ []) (cond (eqb s.end 3) (word_from 0 3 ∷ word_from 1 s.size ∷ []) (word_from 0 4 ∷ [])))
+end_words s = words_at s.end s
 
 -- words 2, 3 and 8: tried, kept, dropped
 abbrev pub told_words : State → List OutWord
@@ -39,4 +43,4 @@ module _ (i : Input) (t : Cols) (budget : ℕ) (state old : List ℕ) where
     pub number : Decided out_resume_rows returned
     pub refused : (returned ≡ 0 → ⊥) → (t' ≡ t) × (state' ≡ state) × (new ≡ old)
     pub passed : returned ≡ 0
-        → (after : State) × Called i t budget (state_read state) (Goes after) t' × Narrow after.root × (state' ≡ state_over after state) × (new ≡ written (told_words after) old)
+        → (after : State) × Called i t budget (state_read state) (Ok after) t' × Narrow after.root × (state' ≡ state_over after state) × (new ≡ written (told_words after) old)

@@ -7,13 +7,11 @@ ghost use Rattle.checks.specs.Refusals.{search_rows};
 ghost use Rattle.walk.specs.Input.{input_of};
 ghost use Rattle.table.specs.Slices.{cols};
 ghost use Rattle.out.specs.Out.{long_words, written};
-ghost use Rattle.state_words.specs.Words.{state_words};
 ghost use Rattle.out_resume.specs.Resume.{found_words, told_words, ResumeDone};
-ghost use Rattle.out_resume.specs.Inner.{ResumeUnanswered, ResumePut};
+ghost use Rattle.out_resume.specs.Inner.{ResumeUnanswered};
 
 use formula::kinds::Node;
-use slices::Resumed;
-use state::State;
+use state::{End, State};
 
 // The search from the state in the words on, for at most `budget` candidates.
 pub fn resume(
@@ -55,7 +53,13 @@ pub fn resume(
         r, m, bound, room, constants, marks, lengths, words, unary, binary, budget, from, codes,
         lefts, rights, sizes, matrices,
     );
-    put(answer, state, out)
+    match answer {
+        Ok(after) => {
+            tell(after, out);
+            state_words::put(after, state)
+        }
+        Err(refusal) => u8::from(refusal) as u64,
+    }
 }
 
 // Where `out` or the state is too short: the number that the core's tests give when nothing is lent. They have to refuse then, with 3 at the latest, and in
@@ -75,13 +79,27 @@ fn unanswered(r: usize, m: usize, bound: usize, room: usize, constants: u8, budg
 fn refusal(r: usize, m: usize, bound: usize, room: usize, constants: u8) -> u64
     ensures { Decided (search_rows (input_of r m bound room constants [] [] [] [] []) (cols [] [] [] [] [])) result }
 {
-    let bytes: &[u8] = &[];
-    let places: &[u16] = &[];
-    let words: &[u64] = &[];
-    checks::refusal(
-        r, m, bound, room, constants, bytes, bytes, words, bytes, bytes, bytes, places, places,
-        bytes, words,
-    ) as u64
+    let answer = checks::check(
+        r,
+        m,
+        bound,
+        room,
+        constants,
+        &[],
+        &[],
+        &[],
+        &[],
+        &[],
+        &[],
+        &[],
+        &[],
+        &[],
+        &[],
+    );
+    match answer {
+        Ok(()) => 0,
+        Err(refusal) => u8::from(refusal) as u64,
+    }
 }
 
 fn tell_found(root: Node, out: &mut [u64])
@@ -104,32 +122,13 @@ fn tell(after: State, out: &mut [u64])
     out[2] = after.counts.tried;
     out[3] = after.counts.kept as u64;
     out[8] = after.counts.dropped;
-    if after.end == 1 {
-        tell_found(after.root, out);
-        return;
-    }
-    if after.end == 2 {
-        out[0] = 2;
-        return;
-    }
-    if after.end == 3 {
-        out[0] = 3;
-        out[1] = after.size as u64;
-        return;
-    }
-    out[0] = 4;
-}
-
-// The state after the call and what it tells, or a refusal's number.
-fn put(answer: Resumed, state: &mut [u64], out: &mut [u64]) -> u64
-    requires { (state_words ≤ length state.old) × (long_words ≤ length out.old) }
-    ensures { ResumePut answer state.old out.old result state.new out.new }
-{
-    match answer {
-        Resumed::Goes(after) => {
-            tell(after, out);
-            state_words::put(after, state)
+    match after.end {
+        End::Found => tell_found(after.root, out),
+        End::None => out[0] = 2,
+        End::Full => {
+            out[0] = 3;
+            out[1] = after.size as u64;
         }
-        Resumed::Refused(number) => number as u64,
+        End::More => out[0] = 4,
     }
 }

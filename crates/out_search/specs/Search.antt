@@ -1,10 +1,10 @@
 -- scarfpylon_search: what it returns and leaves in the lent slices and in `out`, for every input.
 -- Assumes nothing.
-use Rattle.std.specs.Prelude.{◌≡◌, List, [], ◌∷◌, ℕ}
+use Rattle.std.specs.Prelude.{◌≡◌, List, [], ◌∷◌, ℕ, Ok}
 use Rattle.rules.specs.Refusals.{Row, Decided}
 use Rattle.walk.specs.Input.{Input}
 use Rattle.search.specs.declared.SearchAnswer.{SearchAnswer}
-use Rattle.search.specs.declared.SearchAnswer.TheVariants.{Found, None, Full, Refused}
+use Rattle.search.specs.declared.SearchAnswer.TheVariants.{Found, None, Full}
 use Rattle.table.specs.Slices.{Cols}
 use Rattle.checks.specs.Refusals.{search_rows_with}
 use Rattle.search.specs.Search.{Searched}
@@ -26,7 +26,6 @@ search_words (Found root n) =
     ∷ []
 search_words (None n) = word_from 0 2 ∷ word_from 2 n.tried ∷ word_from 3 n.kept ∷ word_from 8 n.dropped ∷ []
 search_words (Full size n) = word_from 0 3 ∷ word_from 1 size ∷ word_from 2 n.tried ∷ word_from 3 n.kept ∷ word_from 8 n.dropped ∷ []
-search_words (Refused k) = []
 
 module _ (i : Input) (t : Cols) (old : List ℕ) where
   -- the search's rows, with that of `out` "at the place that 3 has"
@@ -37,4 +36,4 @@ module _ (i : Input) (t : Cols) (old : List ℕ) where
   pub record SearchDone (returned : ℕ) (t' : Cols) (new : List ℕ) : Type 0 where
     pub number : Decided out_search_rows returned
     pub refused : (returned ≡ 0 → ⊥) → (t' ≡ t) × (new ≡ old)
-    pub passed : returned ≡ 0 → (answer : SearchAnswer) × Searched i t answer t' × (new ≡ written (search_words answer) old)
+    pub passed : returned ≡ 0 → (answer : SearchAnswer) × Searched i t (Ok answer) t' × (new ≡ written (search_words answer) old)

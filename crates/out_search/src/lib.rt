@@ -7,7 +7,7 @@ ghost use Rattle.table.specs.Slices.{cols};
 ghost use Rattle.search.specs.declared.SearchAnswer.TheVariants.{Found, None, Full};
 ghost use Rattle.out.specs.Out.{long_words, written};
 ghost use Rattle.out_search.specs.Search.{search_words, SearchDone};
-ghost use Rattle.out_search.specs.Inner.{SearchUnanswered, SearchPut};
+ghost use Rattle.out_search.specs.Inner.{SearchUnanswered};
 
 use counting::Counts;
 use formula::kinds::Node;
@@ -47,7 +47,13 @@ pub fn search(
         r, m, bound, room, constants, marks, lengths, words, unary, binary, codes, lefts, rights,
         sizes, matrices,
     );
-    put(answer, out)
+    match answer {
+        Ok(answer) => {
+            put(answer, out);
+            0
+        }
+        Err(refusal) => u8::from(refusal) as u64,
+    }
 }
 
 // Where `out` is too short for an answer: the number that the core's tests give when nothing is lent. They have to refuse then, with 3 at the latest, and in
@@ -55,13 +61,27 @@ pub fn search(
 fn unanswered(r: usize, m: usize, bound: usize, room: usize, constants: u8) -> u64
     ensures { SearchUnanswered r m bound room constants result }
 {
-    let bytes: &[u8] = &[];
-    let places: &[u16] = &[];
-    let words: &[u64] = &[];
-    checks::refusal(
-        r, m, bound, room, constants, bytes, bytes, words, bytes, bytes, bytes, places, places,
-        bytes, words,
-    ) as u64
+    let answer = checks::check(
+        r,
+        m,
+        bound,
+        room,
+        constants,
+        &[],
+        &[],
+        &[],
+        &[],
+        &[],
+        &[],
+        &[],
+        &[],
+        &[],
+        &[],
+    );
+    match answer {
+        Ok(()) => 0,
+        Err(refusal) => u8::from(refusal) as u64,
+    }
 }
 
 fn put_found(root: Node, counts: Counts, out: &mut [u64])
@@ -100,18 +120,14 @@ fn put_full(size: u8, counts: Counts, out: &mut [u64])
     out[8] = counts.dropped;
 }
 
-// The answer's words, and its number.
-fn put(answer: SearchAnswer, out: &mut [u64]) -> u64
+// The answer's words.
+fn put(answer: SearchAnswer, out: &mut [u64])
     requires { long_words ≤ length out.old }
-    ensures { SearchPut answer out.old result out.new }
+    ensures { out.new ≡ written (search_words answer) out.old }
 {
     match answer {
         SearchAnswer::Found { root, counts } => put_found(root, counts, out),
         SearchAnswer::None(counts) => put_none(counts, out),
         SearchAnswer::Full { size, counts } => put_full(size, counts, out),
-        SearchAnswer::Refused(number) => {
-            return number as u64;
-        }
     }
-    0
 }

@@ -2,12 +2,13 @@
 -- larger bounds and rooms.
 -- Assumes nothing.
 use mathlib.Core.Path.{◌≡◌, refl, sym, ap, ap₂, ◌∙◌, subst}
+use Rattle.std.specs.Prelude.{Ok, Err}
 use mathlib.Core.List.{List}
 use Prim.Native.Nat.{ℕ}
 use native.Mathlib.Omega.{arith}
 use lib.ListN.{length}
 use Rattle.rules.specs.Refusals.{Decided}
-use Rattle.rules.proofs.Refusals.{decided-unique}
+use Rattle.rules.proofs.Refusals.{decided-unique, refusal-one}
 use Rattle.rules.specs.Answers.{Said}
 use Rattle.walk.specs.Walk.{Ending, found, full, none, Tally, tally, WalkState, ended, kept}
 use Rattle.walk.specs.Input.{Input, Passes, search}
@@ -21,10 +22,10 @@ use Rattle.formula.specs.declared.kinds.Node.{Node}
 use Rattle.formula.specs.Kinds.{node_of}
 use Rattle.counting.specs.declared.Counts.{Counts}
 use Rattle.search.specs.declared.SearchAnswer.{SearchAnswer}
-use Rattle.search.specs.declared.SearchAnswer.TheVariants.{Found, None, Full, Refused}
+use Rattle.search.specs.declared.SearchAnswer.TheVariants.{Found, None, Full}
 use Rattle.search.specs.Table.{Cols, table_over}
 use Rattle.checks.specs.Refusals.{search_rows}
-use Rattle.search.specs.Search.{tally_of, counts, said_search, walk_said, end_said, found_said, none_said, full_said, Searched}
+use Rattle.search.specs.Search.{Answer, tally_of, counts, said_search, walk_said, end_said, found_said, none_said, full_said, Searched}
 use Rattle.search.specs.Promises.{SearchUnique, SearchSameWhereRead, Holding, SearchFoundSmallest, SearchNoneMeansNone, SearchFullNeedsRoom, SearchLargerSame}
 use Rattle.search.specs.Promises.{SearchTriedIsPosition, SearchTriedAddsUp}
 use Rattle.checks.proofs.Passing.{search-passes, decided-same}
@@ -47,7 +48,7 @@ same-counts a b e f g =
 same-tally : (a b : Tally) → a.tried ≡ b.tried → a.dropped ≡ b.dropped → a ≡ b
 same-tally a b e f = ap₂ tally e f
 
-pub said_same : (a b : SearchAnswer) → said_search a ≡ said_search b → a ≡ b
+pub said_same : (a b : SearchAnswer) → said_search (Ok a) ≡ said_search (Ok b) → a ≡ b
 said_same (Found n c) (Found n' c') e =
     let v = values e in
     let p : n.code ≡ n'.code = cc v in
@@ -61,75 +62,39 @@ said_same (Found n c) (Found n' c') e =
     ∙ ap (Found n') (same-counts c c' (cc v) (cc v) (cc v))
 said_same (Found n c) (None c') e = let v = values e in let z : ◌≡◌ {A = ℕ} 0 1 = cc v in absurd (omega arith)
 said_same (Found n c) (Full s' c') e = let v = values e in let z : ◌≡◌ {A = ℕ} 0 1 = cc v in absurd (omega arith)
-said_same (Found n c) (Refused k') e = let v = values e in let z : ◌≡◌ {A = ℕ} 0 1 = cc v in absurd (omega arith)
 said_same (None c) (Found n' c') e = let v = values e in let z : ◌≡◌ {A = ℕ} 0 1 = cc v in absurd (omega arith)
 said_same (None c) (None c') e = let v = values e in ap None (same-counts c c' (cc v) (cc v) (cc v))
 said_same (None c) (Full s' c') e = let v = values e in let z : ◌≡◌ {A = ℕ} 0 1 = cc v in absurd (omega arith)
-said_same (None c) (Refused k') e = let v = values e in let z : ◌≡◌ {A = ℕ} 0 1 = cc v in absurd (omega arith)
 said_same (Full s c) (Found n' c') e = let v = values e in let z : ◌≡◌ {A = ℕ} 0 1 = cc v in absurd (omega arith)
 said_same (Full s c) (None c') e = let v = values e in let z : ◌≡◌ {A = ℕ} 0 1 = cc v in absurd (omega arith)
 said_same (Full s c) (Full s' c') e =
     let v = values e in
     ap (λ (z : ℕ). Full z c) (let x : s ≡ s' = cc v in x) ∙ ap (Full s') (same-counts c c' (cc v) (cc v) (cc v))
-said_same (Full s c) (Refused k') e = let v = values e in let z : ◌≡◌ {A = ℕ} 0 1 = cc v in absurd (omega arith)
-said_same (Refused k) (Found n' c') e = let v = values e in let z : ◌≡◌ {A = ℕ} 0 1 = cc v in absurd (omega arith)
-said_same (Refused k) (None c') e = let v = values e in let z : ◌≡◌ {A = ℕ} 0 1 = cc v in absurd (omega arith)
-said_same (Refused k) (Full s' c') e = let v = values e in let z : ◌≡◌ {A = ℕ} 0 1 = cc v in absurd (omega arith)
-said_same (Refused k) (Refused k') e = ap Refused (ap (λ (x : Said). x.number) e)
 
-module _ {i : Input} {t : Cols} where
-  one_number : {a b : SearchAnswer} {u v : Cols} → Searched i t a u → Searched i t b v → (said_search a).number ≡ (said_search b).number
-  one_number p q = decided-unique (search_rows i t) _ _ p.decided q.decided
+-- an answer that is no refusal has the number 0
+pub answered_zero : (a : SearchAnswer) → (said_search (Ok a)).number ≡ 0
+answered_zero (Found n c) = refl
+answered_zero (None c) = refl
+answered_zero (Full s c) = refl
 
-  -- an answer that is no refusal is the walk's
-  answered : (a : SearchAnswer) (u : Cols) → (said_search a).number ≡ 0 → Searched i t a u → (said_search a ≡ walk_said (search i)) × (u ≡ table_over (kept (search i)) t)
-  answered (Found n c) u e w = w.outcome
-  answered (None c) u e w = w.outcome
-  answered (Full s c) u e w = w.outcome
-  answered (Refused k) u e w = absurd (omega (arith, w.outcome.0, e))
-
-  same : (a b : SearchAnswer) (u v : Cols) → (said_search a).number ≡ 0 → Searched i t a u → Searched i t b v → (a ≡ b) × (u ≡ v)
-  same a b u v e p q =
-      let x = answered a u e p in
-      let y = answered b v (sym (one_number p q) ∙ e) q in
-      (said_same a b (x.0 ∙ sym y.0), x.1 ∙ sym y.1)
-
-  -- (a) of document 01's "How tight the statements have to be"
-  unique : (a b : SearchAnswer) (u v : Cols) → Searched i t a u → Searched i t b v → (a ≡ b) × (u ≡ v)
-  unique (Refused k) (Refused l) u v p q = (ap Refused (one_number p q), p.outcome.1 ∙ sym q.outcome.1)
-  unique (Refused k) (Found n c) u v p q = absurd (omega (arith, p.outcome.0, one_number p q))
-  unique (Refused k) (None c) u v p q = absurd (omega (arith, p.outcome.0, one_number p q))
-  unique (Refused k) (Full s c) u v p q = absurd (omega (arith, p.outcome.0, one_number p q))
-  unique (Found n c) b u v p q = same (Found n c) b u v refl p q
-  unique (None c) b u v p q = same (None c) b u v refl p q
-  unique (Full s c) b u v p q = same (Full s c) b u v refl p q
+-- two results by one walk and with one number are equal
+same : (i j : Input) (t : Cols) (a b : Answer) (u v : Cols) → search i ≡ search j → (said_search a).number ≡ (said_search b).number → Searched i t a u → Searched j t b v
+    → (a ≡ b) × (u ≡ v)
+same i j t (Ok a) (Ok b) u v e n p q = (
+  ap Ok (said_same a b (p.outcome.0 ∙ ap walk_said e ∙ sym q.outcome.0)),
+  p.outcome.1 ∙ ap (λ (st : WalkState (List ℕ)). table_over (kept st) t) e ∙ sym q.outcome.1,
+)
+same i j t (Ok a) (Err k) u v e n p q = absurd (omega (arith, answered_zero a, n, q.outcome.0))
+same i j t (Err k) (Ok b) u v e n p q = absurd (omega (arith, answered_zero b, n, p.outcome.0))
+same i j t (Err k) (Err l) u v e n p q = (ap Err (refusal-one k l n), p.outcome.1 ∙ sym q.outcome.1)
 
 -- (a) of document 01's "How tight the statements have to be"
 pub search-unique : SearchUnique
-search-unique i t a b u v p q = unique a b u v p q
-
--- the answers to two inputs whose walks are one, where neither is a refusal
-same-answers : (i j : Input) (t : Cols) (a b : SearchAnswer) (u v : Cols) → search i ≡ search j → (said_search a).number ≡ 0 → (said_search b).number ≡ 0
-    → Searched i t a u → Searched j t b v → (a ≡ b) × (u ≡ v)
-same-answers i j t a b u v e f g p q =
-    let x = answered {i = i} a u f p in
-    let y = answered {i = j} b v g q in (
-      said_same a b (x.0 ∙ ap walk_said e ∙ sym y.0),
-      x.1 ∙ ap (λ (st : WalkState (List ℕ)). table_over (kept st) t) e ∙ sym y.1,
-    )
+search-unique i t a b u v p q = same i i t a b u v refl (decided-unique (search_rows i t) _ _ p.decided q.decided) p q
 
 pub search-same-where-read : SearchSameWhereRead
 search-same-where-read i j s x y t a b u v p q =
-    go a b p q (decided-unique (search_rows j t) _ _ (decided-same i j s x y t _ p.decided) q.decided)
-  where
-    go : (a b : SearchAnswer) → Searched i t a u → Searched j t b v → (said_search a).number ≡ (said_search b).number → (a ≡ b) × (u ≡ v)
-    go (Refused k) (Refused l) p q e = (ap Refused e, p.outcome.1 ∙ sym q.outcome.1)
-    go (Refused k) (Found n c) p q e = absurd (omega (arith, p.outcome.0))
-    go (Refused k) (None c) p q e = absurd (omega (arith, p.outcome.0))
-    go (Refused k) (Full n c) p q e = absurd (omega (arith, p.outcome.0))
-    go (Found n c) b p q e = same-answers i j t (Found n c) b u v (walk_same i j s) refl (sym e) p q
-    go (None c) b p q e = same-answers i j t (None c) b u v (walk_same i j s) refl (sym e) p q
-    go (Full n c) b p q e = same-answers i j t (Full n c) b u v (walk_same i j s) refl (sym e) p q
+    same i j t a b u v (walk_same i j s) (decided-unique (search_rows j t) _ _ (decided-same i j s x y t _ p.decided) q.decided) p q
 
 -- ---- demand 3: the walk's end is the answer's
 
@@ -205,13 +170,14 @@ search-full-needs-room i t u s c w =
     (k, holding i t u c.kept (full s) k (tally_of c) ok p l w.outcome.1, walk.full-needs-room i ok s k (tally_of c) p)
 
 pub search-larger-same : SearchLargerSame
-search-larger-same i j wide t u root c w t' a v z e =
+search-larger-same i j wide t u root c w t' (Err k) v z e = absurd (omega (arith, z.outcome.0, e))
+search-larger-same i j wide t u root c w t' (Ok a) v z e =
     let (d, k, m, q) = walk.walk_ends i in
     let (p, l) = found-end i root c d k m q (w.outcome.0 ∙ ap walk_said q) in
     let later = found-stays i j wide (node_of root) k (tally_of c) p in
-    let (r, h) = answered {i = j} {t = t'} a v e z in
+    let (r, h) = z.outcome in
     let passes = search-passes j t' (subst (Decided (search_rows j t')) e z.decided) in (
-      said_same a (Found root c) (r ∙ ap walk_said later ∙ ap (found_said (node_of root)) (same-counts (counts k (tally_of c)) c refl l refl)),
+      ap Ok (said_same a (Found root c) (r ∙ ap walk_said later ∙ ap (found_said (node_of root)) (same-counts (counts k (tally_of c)) c refl l refl))),
       (
         k,
         holding i t u c.kept (found (node_of root)) k (tally_of c) (search-passes i t w.decided) p l w.outcome.1,
@@ -222,32 +188,32 @@ search-larger-same i j wide t u root c w t' a v z e =
 -- ---- the counts
 
 pub search-tried-is-position : SearchTriedIsPosition
-search-tried-is-position i t u (Found root c) w =
+search-tried-is-position i t u (Ok (Found root c)) w =
     let (e, k, m, q) = walk.walk_ends i in
     let (p, l) = found-end i root c e k m q (w.outcome.0 ∙ ap walk_said q) in
     let ok = search-passes i t w.decided in
     (k, holding i t u c.kept (found (node_of root)) k (tally_of c) ok p l w.outcome.1, walk-tried i (found (node_of root)) k (tally_of c) p)
-search-tried-is-position i t u (None c) w =
+search-tried-is-position i t u (Ok (None c)) w =
     let (e, k, m, q) = walk.walk_ends i in
     let (p, l) = none_end i c e k m q (w.outcome.0 ∙ ap walk_said q) in
     (k, holding i t u c.kept none k (tally_of c) (search-passes i t w.decided) p l w.outcome.1, walk-tried i none k (tally_of c) p)
-search-tried-is-position i t u (Full s c) w =
+search-tried-is-position i t u (Ok (Full s c)) w =
     let (e, k, m, q) = walk.walk_ends i in
     let (p, l) = full-end i s c e k m q (w.outcome.0 ∙ ap walk_said q) in
     (k, holding i t u c.kept (full s) k (tally_of c) (search-passes i t w.decided) p l w.outcome.1, walk-tried i (full s) k (tally_of c) p)
-search-tried-is-position i t u (Refused n) w = tt
+search-tried-is-position i t u (Err refusal) w = tt
 
 pub search-tried-adds-up : SearchTriedAddsUp
-search-tried-adds-up i t u (Found root c) w =
+search-tried-adds-up i t u (Ok (Found root c)) w =
     let (e, k, m, q) = walk.walk_ends i in
     let (p, l) = found-end i root c e k m q (w.outcome.0 ∙ ap walk_said q) in
     omega (arith, walk-adds i (found (node_of root)) k (tally_of c) p)
-search-tried-adds-up i t u (None c) w =
+search-tried-adds-up i t u (Ok (None c)) w =
     let (e, k, m, q) = walk.walk_ends i in
     let (p, l) = none_end i c e k m q (w.outcome.0 ∙ ap walk_said q) in
     omega (arith, walk-adds i none k (tally_of c) p)
-search-tried-adds-up i t u (Full s c) w =
+search-tried-adds-up i t u (Ok (Full s c)) w =
     let (e, k, m, q) = walk.walk_ends i in
     let (p, l) = full-end i s c e k m q (w.outcome.0 ∙ ap walk_said q) in
     omega (arith, walk-adds i (full s) k (tally_of c) p)
-search-tried-adds-up i t u (Refused n) w = tt
+search-tried-adds-up i t u (Err refusal) w = tt

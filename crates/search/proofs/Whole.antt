@@ -3,9 +3,10 @@
 use mathlib.Core.Path.{◌≡◌, refl, sym, ap, ◌∙◌, subst}
 use mathlib.Core.Logic.{◌⊎◌, inl, inr}
 use mathlib.Core.List.{List, [], ◌∷◌, ◌++◌}
+use Rattle.std.specs.Prelude.{Ok, Err}
 use Prim.Native.Nat.{ℕ, ◌+◌, ◌<◌}
 use native.Mathlib.Omega.{arith}
-use Rattle.rules.specs.Refusals.{Row, Decided}
+use Rattle.rules.specs.Refusals.{Row, Decided, refusal_number}
 use Rattle.walk.specs.Walk.{found, none, full, WalkState, kept}
 use Rattle.walk.specs.Input.{Input}
 use Rattle.walk.specs.Cut.{Cut, more, over}
@@ -15,16 +16,14 @@ use Rattle.walk.proofs.Resume.{cut-resume}
 use Rattle.checks.specs.Refusals.{search_rows}
 use Rattle.checks.proofs.Passing.{search-passes, room-there}
 use Rattle.state.specs.declared.State as value
-use Rattle.slices.specs.declared.Resumed.{Resumed}
-use Rattle.slices.specs.declared.Resumed.TheVariants.{Goes, Refused}
 use Rattle.turns.specs.Costs.{in_all}
 use Rattle.turns.specs.Standing.{StandsIn}
 use Rattle.slices.specs.Slices.{fresh_state, state_wrong}
-use Rattle.slices.specs.Resume.{Advanced}
+use Rattle.slices.specs.Resume.{Resumed, Advanced}
 use Rattle.slices.proofs.Slicing.{fresh-passes, fresh-stands}
 use Rattle.search.specs.Table.{Cols, table_over}
 use Rattle.search.specs.Search.{Searched}
-use Rattle.search.specs.Inner.{end_of, SizeFits, search_answer_of}
+use Rattle.search.specs.Inner.{end_of, search_answer_of}
 
 -- a row at the end decides only where no row before it does
 decided-last : (rows : List Row) (row : Row) (k : ℕ) → Decided (rows ++ (row ∷ [])) k → Decided rows k ⊎ (Decided rows 0 × row.given)
@@ -43,26 +42,25 @@ module _ (i : Input) (t : Cols) where
   ]
 
   module _ {t' : Cols} {budget : ℕ} (enough : in_all < budget) where
-    ends_as : (state : value.State) → Decided (search_rows i t) 0 → (c : Cut (List ℕ)) → CutOf i budget c → StandsIn i t c state t' → Searched i t (end_of state) t'
+    ends_as : (state : value.State) → Decided (search_rows i t) 0 → (c : Cut (List ℕ)) → CutOf i budget c → StandsIn i t c state t' → Searched i t (Ok (end_of state)) t'
     ends_as state d (more s j k n) (e, l, f) w = absurd (omega (arith, w.sound.tried, e))
     ends_as state d (over (found root) k n) (e, l) w =
-        subst (λ (x : value.State). Searched i t (end_of x) t') (sym w.is)
+        subst (λ (x : value.State). Searched i t (Ok (end_of x)) t') (sym w.is)
         (record { decided = d; outcome = (rw e refl, w.holds ∙ ap (λ (st : WalkState (List ℕ)). table_over (kept st) t) (sym e)) })
     ends_as state d (over none k n) (e, l) w =
-        subst (λ (x : value.State). Searched i t (end_of x) t') (sym w.is)
+        subst (λ (x : value.State). Searched i t (Ok (end_of x)) t') (sym w.is)
         (record { decided = d; outcome = (rw e refl, w.holds ∙ ap (λ (st : WalkState (List ℕ)). table_over (kept st) t) (sym e)) })
     ends_as state d (over (full s) k n) (e, l) w =
-        subst (λ (x : value.State). Searched i t (end_of x) t') (sym w.is)
+        subst (λ (x : value.State). Searched i t (Ok (end_of x)) t') (sym w.is)
         (record { decided = d; outcome = (rw e refl, w.holds ∙ ap (λ (st : WalkState (List ℕ)). table_over (kept st) t) (sym e)) })
 
     pub search-answers : (resumed : Resumed) → Advanced i t budget fresh_state resumed t' → Searched i t (search_answer_of resumed) t'
-    search-answers (Goes state) w =
+    search-answers (Ok state) w =
         let d = rows-decide 0 w.decided in
         let e : 0 + budget ≡ budget = omega arith in
         ends_as state d (go_on i budget (begun i)) (cut-resume i budget)
         (subst (λ (n : ℕ). StandsIn i t (go_on i n (begun i)) state t') e (w.outcome.runs t (room-there i t d) 0 (fresh-stands i (search-passes i t d) t)))
-    search-answers (Refused k) w = record { decided = rows-decide k w.decided; outcome = w.outcome }
+    search-answers (Err refusal) w = record { decided = rows-decide (refusal_number refusal) w.decided; outcome = w.outcome }
 
-  pub size_fits : {t' : Cols} {budget : ℕ} (resumed : Resumed) → Advanced i t budget fresh_state resumed t' → SizeFits resumed
-  size_fits (Goes state) w = omega (arith, w.outcome.passes.size_in, (search-passes i t (rows-decide 0 w.decided)).bound-in)
-  size_fits (Refused k) w = tt
+  pub size_fits : {t' : Cols} {budget : ℕ} (state : value.State) → Advanced i t budget fresh_state (Ok state) t' → state.size < 256
+  size_fits state w = omega (arith, w.outcome.passes.size_in, (search-passes i t (rows-decide 0 w.decided)).bound-in)

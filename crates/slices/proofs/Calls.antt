@@ -4,6 +4,7 @@
 use mathlib.Core.Path.{◌≡◌, refl, sym, ap, ◌∙◌, subst}
 use mathlib.Core.Logic.{◌⊎◌, inl, inr}
 use mathlib.Core.List.{List, [], ◌∷◌, map, flat_map}
+use Rattle.std.specs.Prelude.{Err}
 use Prim.Native.Nat.{ℕ, zero, suc, ◌+◌, ◌≤◌, ◌<◌}
 use native.Mathlib.Omega.{arith}
 use native.Mathlib.Decide.{dec_le}
@@ -12,8 +13,8 @@ use lib.Dec.{eqb}
 use Rattle.rules.specs.Limits.{most_size, most_room}
 use Rattle.rules.specs.Lists.{count}
 use Rattle.rules.specs.declared.refusal.Refusal.{Refusal}
-use Rattle.rules.specs.Refusals.{Decided, refusal_number}
-use Rattle.rules.proofs.Refusals.{Numbered, decided-later, refused-early}
+use Rattle.rules.specs.Refusals.{Row, Decided, refusal_number}
+use Rattle.rules.proofs.Refusals.{Numbered, decided-later, refused-early, refusal-positive}
 use Rattle.formula.specs.Formula.{proposition}
 use Rattle.walk.specs.Walk.{tally, layer, seed}
 use Rattle.walk.specs.Input as walk
@@ -35,7 +36,7 @@ use Rattle.turns.proofs.Rounds.{began, few-left}
 use Rattle.turns.proofs.Settling.{settled-more, turn-none, turn-over, begun-is}
 use Rattle.rules.specs.Limits.{most_budget}
 use Rattle.slices.specs.Slices.{fresh_state, StandsAt, state_wrong, resume_rows, advance_rows}
-use Rattle.slices.specs.Resume.{Went}
+use Rattle.slices.specs.Resume.{Went, CalledBy}
 use Rattle.slices.specs.Inner.{OneOrTwo}
 use Rattle.slices.proofs.Checks.{unary-few, binary-few}
 
@@ -87,6 +88,11 @@ module _ (i : Input) (t : Cols) (state : State) where
   rows-within budget k h (inl a) = inl a
   rows-within budget k h (inr (a, inl b)) = inr (a, inl b)
   rows-within budget k h (inr (a, inr (b, c))) = inr (a, inr (b, inr ((λ l. omega arith), c)))
+
+-- a call that is refused writes nothing
+pub refused : {rows : List Row} (i : Input) (t : Cols) (budget : ℕ) (state : State) (refusal : Refusal) → Decided rows (refusal_number refusal)
+    → CalledBy rows i t budget state (Err refusal) t
+refused i t budget state refusal d = record { decided = d; outcome = (refusal-positive refusal, refl) }
 
 -- ---- the walk goes on
 

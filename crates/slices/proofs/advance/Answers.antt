@@ -1,26 +1,26 @@
 -- `advance` meets its contract: the first row that is given decides; where none is, the loop goes on from the state.
-use mathlib.Core.Path.{refl}
 use mathlib.Core.List.{[]}
 use native.Mathlib.Omega.{arith}
 use Rattle.std.proofs.lemmas.Result.{err_from_is_err_and}
-use Rattle.rules.proofs.Refusals.{decided-none, refusal-positive}
+use Rattle.rules.proofs.Refusals.{decided-none}
 use Rattle.walk.specs.Input.{input_of}
 use Rattle.table.specs.Slices.{cols}
 use Rattle.checks.proofs.Passing.{search-passes}
 use Rattle.state.proofs.Passing.{passes-in}
 use Rattle.slices.specs.Slices.{state_wrong}
-use Rattle.slices.proofs.Calls.{rows-refused, rows-state, went, asks_of}
+use Rattle.slices.proofs.Calls.{refused, rows-refused, rows-state, went, asks_of}
 use Rattle.slices.proofs.advance.Goals as goal
 
 pub returns-in_err-check : goal.returns-in_err-check
 returns-in_err-check c =
     let p = err_from_is_err_and c.from_residual.result c.from_residual.ensures.1 in
-    rw (p.1, p.2) (record { decided = rows-refused _ _ c.args.state _ c.in_err-check.ensures; outcome = (refusal-positive _, refl) })
+    rw (p.1, p.2) (refused _ _ c.args.budget c.args.state _ (rows-refused _ _ c.args.state _ c.in_err-check.ensures))
 
 pub returns-in_err-then_state : goal.returns-in_err-then_state
 returns-in_err-then_state c =
-    let p = err_from_is_err_and c.from_residual.result c.from_residual.ensures.1 in
-    rw (p.1, p.2) (record { decided = rows-state _ _ c.args.state c.in_ok-check.ensures _ c.in_err-then_state.ensures; outcome = (refusal-positive _, refl) })
+    let r = c.from_residual-in_err-then_state in
+    let p = err_from_is_err_and r.result r.ensures.1 in
+    rw (p.1, p.2) (refused _ _ c.args.budget c.args.state _ (rows-state _ _ c.args.state c.in_ok-check.ensures _ c.in_err-then_state.ensures))
 
 pub returns : goal.returns
 returns c =

@@ -1,17 +1,12 @@
 -- `resume` meets its contract: a budget that is too large is refused in its turn, and any other is passed over.
-use mathlib.Core.Path.{refl}
 use native.Mathlib.Omega.{arith}
 use Rattle.walk.specs.Input.{input_of}
 use Rattle.table.specs.Slices.{cols}
-use Rattle.slices.proofs.Calls.{rows-budget, rows-within, one-or-two-some}
+use Rattle.slices.proofs.Calls.{refused, rows-budget, rows-within}
 use Rattle.slices.proofs.resume.Goals as goal
 
 pub returns-then-budget-gt-BUDGET : goal.returns-then-budget-gt-BUDGET
-returns-then-budget-gt-BUDGET c =
-    let a = c.args in
-    let i = input_of a.r a.m a.bound a.room a.constants a.marks.now a.lengths.now a.words.now a.unary.now a.binary.now in
-    let t = cols a.codes.now a.lefts.now a.rights.now a.sizes.now a.matrices.now in
-    record { decided = rows-budget i t a.state a.budget _ c.if-budget-gt-BUDGET.true c.one_or_two.ensures; outcome = (one-or-two-some _ _ _ c.one_or_two.ensures, refl) }
+returns-then-budget-gt-BUDGET c = refused _ _ c.args.budget c.args.state _ (rows-budget _ _ c.args.state _ _ c.if-budget-gt-BUDGET.true c.one_or_two.ensures)
 
 pub shape_of-codes : goal.shape_of-codes
 shape_of-codes c = c.advance.auto.codes
