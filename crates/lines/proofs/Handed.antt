@@ -121,7 +121,8 @@ module _ (file : List ℕ) (bytes : Bytes file) (l : Lent) (wide : Wide l) (a : 
     where
       go : (w : Got Parts) → whole_file file ≡ w → whole_file file ≡ bad o
       go (bad o') i =
-          let x : said_read (Err (Broken o)) ≡ record { number = 8; values = o' ∷ [] } = ap said_read (sym q) ∙ ap (λ (x : After). x.answer) e ∙ ap (λ (g : Got Parts). (outcome g l).answer) i in
+          let x : said_read (Err (Broken o)) ≡ record { number = 8; values = o' ∷ [] } =
+          ap said_read (sym q) ∙ ap (λ (x : After). x.answer) e ∙ ap (λ (g : Got Parts). (outcome g l).answer) i in
           let v = values x in
           let h : o ≡ o' = cc v in
           i ∙ ap bad (sym h)
