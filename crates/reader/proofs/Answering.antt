@@ -11,7 +11,7 @@ use Rattle.rules.specs.Answers.{Said}
 use Rattle.formula.specs.Formula.{size}
 use Rattle.formula.specs.Nodes.{Node, codes}
 use Rattle.reading.specs.Reading.{got, bad}
-use Rattle.names.specs.Names.{whole_names, GoodNames, names_in}
+use Rattle.names.specs.Names.{GoodNames, names_in}
 use Rattle.grammar.specs.Token.{Typed}
 use Rattle.grammar.specs.Grammar.{Reads}
 use Rattle.grammar.specs.Nodes.{nodes_of}

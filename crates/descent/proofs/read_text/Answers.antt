@@ -1,6 +1,6 @@
 -- `read_text` meets its contract: each return is a law of `Returns`.
 use Rattle.std.proofs.lemmas.Result.{err_from_is_err_and}
-use Rattle.descent.proofs.Returns.{infix-val, whole-refused, whole-ended, whole_open}
+use Rattle.descent.proofs.Returns.{whole-refused, whole-ended, whole_open}
 use Rattle.descent.proofs.read_text.Goals as goal
 
 pub returns-in_err-whole : goal.returns-in_err-whole

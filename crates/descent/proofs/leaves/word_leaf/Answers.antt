@@ -1,7 +1,6 @@
 -- `word_leaf` meets its contract: `true`, `false`, or a name.
-use mathlib.Core.Path.{sym, ap, ◌∙◌}
+use mathlib.Core.Path.{sym, ◌∙◌}
 use mathlib.Core.Bool.{true, false}
-use Rattle.descent.specs.Packed.{name_number}
 use Rattle.descent.proofs.Lookup.{leaf-constant, leaf-name}
 use Rattle.descent.proofs.leaves.word_leaf.Goals as goal
 
