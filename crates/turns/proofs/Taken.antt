@@ -126,7 +126,8 @@ module _ (r m bound room constants : ℕ) (marks lengths words unary binary : Li
 
   -- ---- after the candidate
 
-  module _ {budget : ℕ} {from : State} {t t' : Cols} {starts : List ℕ} {before : State} {given : Node} {next : Cursor} {left : ℕ} (v : Tried i budget from t t' starts before given next left) {masks rows rows' : List ℕ} {u : Cols}
+  module _ {budget : ℕ} {from : State} {t t' : Cols} {starts : List ℕ}
+      {before : State} {given : Node} {next : Cursor} {left : ℕ} (v : Tried i budget from t t' starts before given next left) {masks rows rows' : List ℕ} {u : Cols}
       (ms : Passes i → Masks i masks) (long : most_sessions ≤ length rows) {d : Fate}
       (judged : Judged r m room marks words masks given before.counts.kept rows rows' t' u d) (kept-long : SameLengths t' u) where
     same : SameLengths t u
