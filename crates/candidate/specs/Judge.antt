@@ -1,6 +1,6 @@
 -- What becomes of one candidate, and what it leaves in the lent slices.
 -- Assumes nothing.
-use Rattle.std.specs.Prelude.{◌≡◌, ◌⊎◌, Bool, true, false, List, ℕ, ◌≤◌, ◌<◌, length}
+use Rattle.std.specs.Prelude.{◌≡◌, ◌⊎◌, Bool, true, false, List, ℕ, ◌≤◌, ◌<◌, length, Some, None}
 use Rattle.rules.specs.Limits.{most_room}
 use Rattle.rules.specs.declared.kinds.Place.{Place}
 use Rattle.formula.specs.declared.kinds.Node.{Node}
@@ -10,7 +10,6 @@ use Rattle.walk.specs.Input.{Input, Passes, offer}
 use Rattle.walk.specs.Kept.{Table}
 use Rattle.rows.specs.Rows.{RowsAnswer}
 use Rattle.rows.specs.Formulas.{Makes, made, Masks}
-use Rattle.comparison.specs.declared.Known.TheVariants.{At, New}
 use Rattle.comparison.specs.Compare.{KnownAnswer}
 use Rattle.table.specs.Acceptance.{agreeing}
 use Rattle.table.specs.Keep.{KeepAnswer}
@@ -48,9 +47,9 @@ pub record Does (i : Input) (node : Node) (t₀ t' : Cols) (k : Table) (x : Cand
 module _ (r room : ℕ) (marks : List ℕ) (node : Node) (count : ℕ) (rows : List ℕ) (t t' : Cols) where
   abbrev pub Tests : Fate → Type 0
   Tests Found = (agreeing r marks rows ≡ true) × (t' ≡ t)
-  Tests Dropped = (agreeing r marks rows ≡ false) × ((p : Place) × KnownAnswer r t.matrices rows count (At p)) × (t' ≡ t)
-  Tests Full = (agreeing r marks rows ≡ false) × KnownAnswer r t.matrices rows count New × ((room ≤ count) ⊎ (most_room ≤ count)) × (t' ≡ t)
-  Tests Kept = (agreeing r marks rows ≡ false) × KnownAnswer r t.matrices rows count New × (count < room) × (count < most_room)
+  Tests Dropped = (agreeing r marks rows ≡ false) × ((p : Place) × KnownAnswer r t.matrices rows count (Some p)) × (t' ≡ t)
+  Tests Full = (agreeing r marks rows ≡ false) × KnownAnswer r t.matrices rows count None × ((room ≤ count) ⊎ (most_room ≤ count)) × (t' ≡ t)
+  Tests Kept = (agreeing r marks rows ≡ false) × KnownAnswer r t.matrices rows count None × (count < room) × (count < most_room)
       × ((done : Bool) × KeepAnswer r rows count (node_of node) t t' done)
 
 -- its rows are made in `rows`, as `rows_of` makes them; then the tests

@@ -5,7 +5,6 @@ ghost use Rattle.table.specs.Slices.{cols};
 ghost use Rattle.candidate.specs.Judge.{Judged};
 ghost use Rattle.candidate.specs.Inner.{NoPlace};
 
-use comparison::Known;
 use counting::Fate;
 use formula::kinds::Node;
 use rules::kinds::Place;
@@ -52,9 +51,9 @@ pub fn judge(
         return Fate::Found;
     }
     let known = comparison::known_at(r, matrices, rows, kept);
-    let Known::New = known else {
+    if known.is_some() {
         return Fate::Dropped;
-    };
+    }
     if no_place(room, kept) {
         return Fate::Full;
     }

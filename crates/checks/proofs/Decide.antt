@@ -1,16 +1,18 @@
 -- The refusals in their order: the session's number for its data, with the search's own rows among them.
 -- Assumes nothing.
-use mathlib.Core.Path.{◌≡◌, refl}
+use mathlib.Core.Path.{◌≡◌, refl, sym, subst}
 use mathlib.Core.Logic.{◌⊎◌, inl, inr, ⊎_elim}
 use mathlib.Core.Bool.{true, false}
 use mathlib.Core.List.{List, [], ◌∷◌, ◌++◌}
-use Prim.Native.Nat.{ℕ, ◌+◌, ◌≤◌, ◌<◌}
+use Prim.Native.Nat.{ℕ, ◌*◌, ◌≤◌, ◌<◌}
 use native.Mathlib.Omega.{arith}
 use native.Mathlib.Decide.{dec_le}
+use lib.ListN.{length}
 use Rattle.rules.specs.Limits.{most_sessions, most_propositions}
 use Rattle.rules.specs.Refusals.{Row, Decided}
+use Rattle.rules.proofs.Refusals.{decided-early}
 use Rattle.session.specs.Data.{outside_numbers, too_short, too_long, bit_above, mark_wrong, data_rows}
-use Rattle.session.specs.Recording.{recording}
+use Rattle.session.specs.Recording.{Recording}
 use Rattle.walk.specs.Input.{Input}
 use Rattle.table.specs.Slices.{Cols}
 use Rattle.checks.specs.Refusals.{setting_wrong, no_room, code_wrong, search_rows}
@@ -25,33 +27,6 @@ le_of_not_lt {a} {b} f = elim (dec_le a b) [
 ]
 
 -- ---- lists of rows
-
--- no row has the number, which is not 0
-abbrev pub Lacks : ℕ → List Row → Type 0
-Lacks n [] = n ≡ 0 → ⊥
-Lacks n (row ∷ rows) = (n ≡ row.number → ⊥) × Lacks n rows
-
-lacks : (rows : List Row) (n : ℕ) → Lacks n rows → Decided rows n → ⊥
-unfolding Decided
-lacks [] n h d = h d
-lacks (row ∷ rows) n h (inl d) = h.0 d.1
-lacks (row ∷ rows) n h (inr d) = lacks rows n h.1 d.1
-
-here : (row : Row) (rows : List Row) (n : ℕ) → Decided (row ∷ rows) n → Lacks n rows → row.given
-unfolding Decided
-here row rows n (inl d) h = d.0
-here row rows n (inr d) h = absurd (lacks rows n h d.1)
-
-later : (row : Row) (rows : List Row) (n : ℕ) → Decided (row ∷ rows) n → (n ≡ row.number → ⊥) → (row.given → ⊥) × Decided rows n
-unfolding Decided
-later row rows n (inl d) h = absurd (h d.1)
-later row rows n (inr d) h = d
-
-more : (rows others : List Row) (n : ℕ) → Decided rows n → (n ≡ 0 → ⊥) → Decided (rows ++ others) n
-unfolding Decided
-more [] others n d h = absurd (h d)
-more (row ∷ rows) others n (inl d) h = inl d
-more (row ∷ rows) others n (inr d) h = inr (d.0, more rows others n d.1 h)
 
 -- none of the rows is given
 abbrev pub NoneOf : List Row → Type 0
@@ -85,67 +60,18 @@ zero-none : Decided [] 0
 unfolding Decided
 zero-none = refl
 
--- ---- the search's rows
-
-module _ (i : Input) (t : Cols) (k : ℕ) (d : Decided (data_rows i.recording) k) where
-  abbrev numbers : Row
-  numbers = outside_numbers i.recording.sessions i.recording.propositions
-
-  abbrev short : Row
-  short = too_short i.recording
-
-  abbrev long : Row
-  long = too_long i.recording
-
-  abbrev bits : Row
-  bits = bit_above i.recording
-
-  abbrev marks : Row
-  marks = mark_wrong i.recording
-
-  abbrev rest : List Row
-  rest = long ∷ bits ∷ marks ∷ []
-
-  pub is_one : k ≡ 1 → Decided (search_rows i t) 1
-  is_one e =
-      first numbers _ (here numbers (short ∷ rest) 1 (rw e at d) (λ q. omega arith, (λ q. omega arith, (λ q. omega arith, (λ q. omega arith, λ q. omega arith)))))
-
-  module _ (one : k ≡ 1 → ⊥) where
-    not-one : (numbers.given → ⊥) × Decided (short ∷ rest) k
-    not-one = later numbers (short ∷ rest) k d one
-
-    pub is-two : (setting_wrong i).given → Decided (search_rows i t) 2
-    is-two g = past numbers _ 2 not-one.0 (first (setting_wrong i) _ g)
-
-    module _ (set : (setting_wrong i).given → ⊥) where
-      past_two : (n : ℕ) → Decided (short ∷ no_room i t ∷ (rest ++ (code_wrong i ∷ []))) n → Decided (search_rows i t) n
-      past_two n e = past numbers _ n not-one.0 (past (setting_wrong i) _ n set e)
-
-      pub is-three : k ≡ 3 → Decided (search_rows i t) 3
-      is-three e = past_two 3 (first short _ (here short rest 3 (rw e at not-one.1) (λ q. omega arith, (λ q. omega arith, (λ q. omega arith, λ q. omega arith)))))
-
-      module _ (three : k ≡ 3 → ⊥) where
-        not_three : (short.given → ⊥) × Decided rest k
-        not_three = later short rest k not-one.1 three
-
-        pub no-room : (no_room i t).given → Decided (search_rows i t) 3
-        no-room g = past_two 3 (past short _ 3 not_three.0 (first (no_room i t) _ g))
-
-        module _ (room : (no_room i t).given → ⊥) where
-          past_three : (n : ℕ) → Decided (rest ++ (code_wrong i ∷ [])) n → Decided (search_rows i t) n
-          past_three n e = past_two n (past short _ n not_three.0 (past (no_room i t) _ n room e))
-
-          pub is-data : (k ≡ 0 → ⊥) → Decided (search_rows i t) k
-          is-data z = past_three k (more rest (code_wrong i ∷ []) k not_three.1 z)
-
-          rest-none : k ≡ 0 → NoneOf rest
-          rest-none z = none_of rest (λ q. omega arith, (λ q. omega arith, (λ q. omega arith, tt))) (rw z at not_three.1)
-
-          pub is-seven : k ≡ 0 → (code_wrong i).given → Decided (search_rows i t) 7
-          is-seven z g = past_three 7 (behind rest (code_wrong i ∷ []) 7 (rest-none z) (first (code_wrong i) _ g))
-
-          pub is_zero : k ≡ 0 → ((code_wrong i).given → ⊥) → Decided (search_rows i t) 0
-          is_zero z f = past_three 0 (behind rest (code_wrong i ∷ []) 0 (rest-none z) (past (code_wrong i) [] 0 f zero-none))
+-- whether the data's slices are too short
+short_or_not : (rec : Recording) → (too_short rec).given ⊎ ((too_short rec).given → ⊥)
+short_or_not rec = elim (dec_le rec.sessions (length rec.marks)) [
+  | no m ↦ inl (inl (omega arith))
+  | yes m ↦ (elim (dec_le rec.sessions (length rec.lengths)) [
+    | no l ↦ inl (inr (inl (omega arith)))
+    | yes l ↦ (elim (dec_le (rec.propositions * rec.sessions) (length rec.words)) [
+      | no w ↦ inl (inr (inr (omega arith)))
+      | yes w ↦ inr (⊎_elim (λ x. omega arith) (⊎_elim (λ x. omega arith) (λ x. omega arith)))
+    ])
+  ])
+]
 
 -- ---- the tests' answers as rows
 
@@ -157,18 +83,64 @@ module _ (i : Input) where
   room-fine t w = ⊎_elim (λ x. omega (arith, w.0)) (λ x. ⊎_elim (λ y. omega (arith, w.1)) (λ y. ⊎_elim (λ z. omega (arith, w.2))
       (λ z. ⊎_elim (λ u. omega (arith, w.3)) (λ u. omega (arith, w.4)) z) y) x)
 
-  pub unary-bad : BadCodes true i.unary → (code_wrong i).given
-  unary-bad (inl (o, h, f)) = inl (o, h, λ op e. f (op, e))
-  unary-bad (inr w) = inr (inl w)
-
-  pub binary-bad : BadCodes false i.binary → (code_wrong i).given
-  binary-bad (inl (o, h, f)) = inr (inr (inl (o, h, λ op e. f (op, e))))
-  binary-bad (inr w) = inr (inr (inr w))
+  codes-bad : BadCodes true i.unary ⊎ BadCodes false i.binary → (code_wrong i).given
+  codes-bad (inl (inl (o, h, f))) = inl (o, h, λ op e. f (op, e))
+  codes-bad (inl (inr w)) = inr (inl w)
+  codes-bad (inr (inl (o, h, f))) = inr (inr (inl (o, h, λ op e. f (op, e))))
+  codes-bad (inr (inr w)) = inr (inr (inr w))
 
   pub codes-fine : GoodCodes true i.unary → GoodCodes false i.binary → (code_wrong i).given → ⊥
   codes-fine u b = ⊎_elim (λ w. let g = u.in_group w.0 w.1 in w.2 g.0 g.1)
       (λ x. ⊎_elim (λ w. u.once w.0 w.1 w.2 w.3 w.4)
       (λ y. ⊎_elim (λ w. let g = b.in_group w.0 w.1 in w.2 g.0 g.1) (λ w. b.once w.0 w.1 w.2 w.3 w.4) y) x)
+
+-- ---- the search's rows
+
+module _ (i : Input) (t : Cols) where
+  abbrev numbers : Row
+  numbers = outside_numbers i.recording.sessions i.recording.propositions
+
+  abbrev short : Row
+  short = too_short i.recording
+
+  abbrev rest : List Row
+  rest = too_long i.recording ∷ bit_above i.recording ∷ mark_wrong i.recording ∷ []
+
+  pub is_one : numbers.given → Decided (search_rows i t) 1
+  is_one g = first numbers _ g
+
+  module _ (inside : numbers.given → ⊥) where
+    pub is-two : SettingsTold i.bound i.room i.constants false → Decided (search_rows i t) 2
+    is-two g = past numbers _ 2 inside (first (setting_wrong i) _ g)
+
+    module _ (good : SettingsTold i.bound i.room i.constants true) where
+      past_two : (n : ℕ) → Decided (short ∷ no_room i t ∷ (rest ++ (code_wrong i ∷ []))) n → Decided (search_rows i t) n
+      past_two n e = past numbers _ n inside (past (setting_wrong i) _ n (settings-fine i good) e)
+
+      -- short data are refused with the same number
+      pub no-room : RoomTold i.recording.sessions i.room t false → Decided (search_rows i t) 3
+      no-room g = past_two 3 (elim (short_or_not i.recording) [ inl s ↦ first short _ s | inr f ↦ past short _ 3 f (first (no_room i t) _ g) ])
+
+      module _ (room : RoomTold i.recording.sessions i.room t true) where
+        rows-from : (n : ℕ) → (short.given × (n ≡ 3)) ⊎ ((short.given → ⊥) × Decided (rest ++ (code_wrong i ∷ [])) n) → Decided (search_rows i t) n
+        rows-from n (inl (s, e)) = subst (Decided (search_rows i t)) (sym e) (past_two 3 (first short _ s))
+        rows-from n (inr (f, d)) = past_two n (past short _ n f (past (no_room i t) _ n (room-fine i t room) d))
+
+        pub is-data : (n : ℕ) → Decided (data_rows i.recording) n → 0 < n → Decided (search_rows i t) n
+        unfolding Decided
+        is-data n (inl d) z = absurd (inside d.0)
+        is-data n (inr (f, inl d)) z = rows-from n (inl d)
+        is-data n (inr (f, inr d)) z = rows-from n (inr (d.0, decided-early rest (code_wrong i ∷ []) n d.1 (λ e. omega arith)))
+
+        module _ (fine : Decided (data_rows i.recording) 0) where
+          data-none : NoneOf (short ∷ rest)
+          data-none = (none_of (data_rows i.recording) (λ q. omega arith, (λ q. omega arith, (λ q. omega arith, (λ q. omega arith, (λ q. omega arith, tt))))) fine).1
+
+          pub is-seven : BadCodes true i.unary ⊎ BadCodes false i.binary → Decided (search_rows i t) 7
+          is-seven w = rows-from 7 (inr (data-none.0, behind rest (code_wrong i ∷ []) 7 data-none.1 (first (code_wrong i) _ (codes-bad i w))))
+
+          pub is_zero : GoodCodes true i.unary → GoodCodes false i.binary → Decided (search_rows i t) 0
+          is_zero u b = rows-from 0 (inr (data-none.0, behind rest (code_wrong i ∷ []) 0 data-none.1 (past (code_wrong i) [] 0 (codes-fine i u b) zero-none)))
 
 -- where the numbers are in range
 pub numbers-in : (r m : ℕ) → ((outside_numbers r m).given → ⊥) → (1 ≤ r) × (r ≤ most_sessions) × (1 ≤ m) × (m ≤ most_propositions)
@@ -178,9 +150,6 @@ numbers-in r m f = (
   le_of_not_lt λ h. f (inr (inl h)),
   le_of_not_lt λ h. f (inr (inr h)),
 )
-
-pub not-one-in : (r m : ℕ) (marks lengths words : List ℕ) (k : ℕ) → Decided (data_rows (recording r m marks lengths words)) k → (k ≡ 1 → ⊥) → r ≤ most_sessions
-not-one-in r m marks lengths words k d one = (numbers-in r m (later (outside_numbers r m) _ k d one).0).1
 
 -- where the whole list decides 0, no row is given
 pub none-given : (i : Input) (t : Cols) → Decided (search_rows i t) 0 → NoneOf (search_rows i t)

@@ -3,11 +3,13 @@
 
 ghost use Rattle.std.specs.Prelude.{◌≤◌};
 ghost use Rattle.rules.specs.Limits.{most_sessions, most_room};
-ghost use Rattle.rules.specs.Refusals.{Decided};
+ghost use Rattle.rules.specs.Refusals.{Decided, number_of};
 ghost use Rattle.table.specs.Slices.{cols};
 ghost use Rattle.checks.specs.Refusals.{search_rows};
 ghost use Rattle.walk.specs.Input.{input_of};
 ghost use Rattle.checks.specs.Inner.{RoomTold};
+
+use rules::refusal::Refusal;
 
 // Whether there is room for C nodes and C x r words.
 fn has_room(
@@ -23,26 +25,16 @@ fn has_room(
     ensures { RoomTold r room
         (cols codes.now lefts.now rights.now sizes.now matrices.now) result }
 {
-    if codes.len() < room {
-        return false;
-    }
-    if lefts.len() < room {
-        return false;
-    }
-    if rights.len() < room {
-        return false;
-    }
-    if sizes.len() < room {
-        return false;
-    }
-    if matrices.len() < room * r {
-        return false;
-    }
-    true
+    room <= codes.len()
+        && room <= lefts.len()
+        && room <= rights.len()
+        && room <= sizes.len()
+        && room * r <= matrices.len()
 }
 
-// The rows in document 01's order, 1, 2, 3, 3, the data's 4, 5 and 6, 7: the number of the first that is given, or 0 where none is.
-pub fn refusal(
+// The first of the rows in document 01's order that is given: 1, 2, 3, the data's 3, 4, 5 and 6, then 7. The data's tests begin with 1, which comes before the
+// 2 of the search: so 1 is tested by itself first.
+pub fn check(
     r: usize,
     m: usize,
     bound: usize,
@@ -58,32 +50,26 @@ pub fn refusal(
     rights: &[u16],
     sizes: &[u8],
     matrices: &[u64],
-) -> u8
+) -> Result<(), Refusal>
     ensures { Decided (search_rows
         (input_of r m bound room constants marks.now lengths.now words.now unary.now binary.now)
-        (cols codes.now lefts.now rights.now sizes.now matrices.now)) result }
+        (cols codes.now lefts.now rights.now sizes.now matrices.now)) (number_of result) }
 {
-    let data = session::data::test(r, m, marks, lengths, words);
-    if data == 1 {
-        return 1;
+    if session::data::outside(r, m) {
+        return Err(Refusal::Numbers);
     }
     if !settings::settings_good(bound, room, constants) {
-        return 2;
-    }
-    if data == 3 {
-        return 3;
+        return Err(Refusal::Settings);
     }
     if !has_room(r, room, codes, lefts, rights, sizes, matrices) {
-        return 3;
+        return Err(Refusal::Room);
     }
-    if data != 0 {
-        return data;
-    }
+    session::data::test(r, m, marks, lengths, words)?;
     if !settings::codes_good(unary, true) {
-        return 7;
+        return Err(Refusal::Code);
     }
     if !settings::codes_good(binary, false) {
-        return 7;
+        return Err(Refusal::Code);
     }
-    0
+    Ok(())
 }

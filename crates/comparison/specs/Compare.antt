@@ -1,13 +1,13 @@
 -- A matrix against the kept ones: what `compare` and `known_at` answer, for every input.
 -- Assumes nothing.
-use Rattle.std.specs.Prelude.{◌≡◌, ◌⊎◌, List, [], ◌∷◌, ◌++◌, ℕ, ◌+◌, ◌*◌, ◌≤◌, ◌<◌, length, get_or}
+use Rattle.std.specs.Prelude.{◌≡◌, ◌⊎◌, List, [], ◌∷◌, ◌++◌, ℕ, ◌+◌, ◌*◌, ◌≤◌, ◌<◌, length, get_or, Option, Some, None, Result, Ok, Err}
 use Rattle.rules.specs.Limits.{most_sessions, most_room, Outside}
-use Rattle.rules.specs.Refusals.{Row, Decided}
+use Rattle.rules.specs.declared.kinds.Place.{Place}
+use Rattle.rules.specs.declared.refusal.Refusal.{Refusal}
+use Rattle.rules.specs.Refusals.{Row, Decided, refusal_number}
 use Rattle.rules.specs.Answers.{Said}
 use Rattle.comparison.specs.declared.Compared.{Compared}
-use Rattle.comparison.specs.declared.Compared.TheVariants.{Equal, Differs, Refused}
-use Rattle.comparison.specs.declared.Known.{Known}
-use Rattle.comparison.specs.declared.Known.TheVariants.{At, New}
+use Rattle.comparison.specs.declared.Compared.TheVariants.{Equal, Differs}
 
 -- the matrix at a place is equal in the rows below n
 abbrev pub Same : ℕ → List ℕ → List ℕ → ℕ → ℕ → Type 0
@@ -27,10 +27,10 @@ equal_said place = record { number = 0; values = 1 ∷ place ∷ [] }
 abbrev pub differs_said : ℕ → Said
 differs_said j = record { number = 0; values = 0 ∷ j ∷ [] }
 
-abbrev pub said_compared : Compared → Said
-said_compared (Equal p) = equal_said p.0
-said_compared (Differs j) = differs_said j.0
-said_compared (Refused k) = record { number = k; values = [] }
+abbrev pub said_compared : Result Compared Refusal → Said
+said_compared (Ok (Equal p)) = equal_said p.0
+said_compared (Ok (Differs j)) = differs_said j.0
+said_compared (Err refusal) = record { number = refusal_number refusal; values = [] }
 
 module _ (r place : ℕ) (matrices rows : List ℕ) where
   -- "1: r .. outside its numbers"
@@ -62,8 +62,8 @@ pub record KnownAsk (r : ℕ) (matrices rows : List ℕ) (kept : ℕ) : Type 0 w
   pub rows-there : r ≤ length rows
   pub matrices-there : kept * r ≤ length matrices
 
--- "its matrix equals a kept one in every row": the first place with an equal one; new where there is none, or not so many matrices
-abbrev pub KnownAnswer : ℕ → List ℕ → List ℕ → ℕ → Known → Type 0
-KnownAnswer r matrices rows kept (At p) =
+-- "its matrix equals a kept one in every row": the first place with an equal one; none where there is none, or not so many matrices
+abbrev pub KnownAnswer : ℕ → List ℕ → List ℕ → ℕ → Option Place → Type 0
+KnownAnswer r matrices rows kept (Some p) =
     KnownAsk r matrices rows kept × (p.0 < kept) × Same r matrices rows p.0 r × ((q : ℕ) → q < p.0 → Same r matrices rows q r → ⊥)
-KnownAnswer r matrices rows kept New = KnownAsk r matrices rows kept → (p : ℕ) → p < kept → Same r matrices rows p r → ⊥
+KnownAnswer r matrices rows kept None = KnownAsk r matrices rows kept → (p : ℕ) → p < kept → Same r matrices rows p r → ⊥

@@ -4,7 +4,7 @@ ghost use Rattle.rules.specs.Limits.{most_sessions};
 ghost use Rattle.comparison.specs.Compare.{KnownAsk, KnownAnswer};
 ghost use Rattle.comparison.specs.Inner.{ComparedAt};
 
-use crate::{Compared, Known};
+use crate::Compared;
 use rules::kinds::{Place, Session};
 
 // A matrix against x, the kept one at the place, row by row up to the first that differs.
@@ -12,31 +12,25 @@ pub(crate) fn compare_at(r: usize, place: Place, x: &[u64], rows: &[u64]) -> Com
     requires { (r ≤ most_sessions) × (r ≤ length x.now) × (r ≤ length rows.now) }
     ensures { ComparedAt r place.0 x.now rows.now result }
 {
-    let mut j: usize = 0;
-    while j < r {
+    for j in 0..r {
         if rows[j] != x[j] {
-            let session = j as u8;
-            return Compared::Differs(Session(session));
+            return Compared::Differs(Session(j as u8));
         }
-        j += 1;
     }
     Compared::Equal(place)
 }
 
 // The first place whose matrix is equal, or none.
-pub(crate) fn first_equal(r: usize, matrices: &[u64], rows: &[u64], kept: usize) -> Known
+pub(crate) fn first_equal(r: usize, matrices: &[u64], rows: &[u64], kept: usize) -> Option<Place>
     requires { KnownAsk r matrices.now rows.now kept }
     ensures { KnownAnswer r matrices.now rows.now kept result }
 {
-    let mut p: usize = 0;
-    let mut from: usize = 0;
-    while p < kept {
+    for p in 0..kept {
+        let from = p * r;
         let compared = compare_at(r, Place(p as u16), &matrices[from..], rows);
         if let Compared::Equal(place) = compared {
-            return Known::At(place);
+            return Some(place);
         }
-        from += r;
-        p += 1;
     }
-    Known::New
+    None
 }

@@ -1,7 +1,7 @@
 -- What a walk comes to by what becomes of a candidate, and its counts.
 -- Assumes nothing.
-use Rattle.std.specs.Prelude.{◌≡◌, List, [], ◌∷◌, ◌++◌, ℕ, ◌+◌, ◌-◌, ◌^◌, ◌≤◌, ◌<◌, min, length}
-use Rattle.walk.specs.Walk.{Candidate, found, full, Tally, tally, one_tried, one_dropped, WalkState, going, ended, kept}
+use Rattle.std.specs.Prelude.{List, [], ◌∷◌, ◌++◌, ℕ, ◌+◌, ◌-◌, ◌^◌, min}
+use Rattle.walk.specs.Walk.{Candidate, found, full, Tally, tally, one_tried, one_dropped, WalkState, going, ended}
 use Rattle.walk.specs.Kept.{Table}
 use Rattle.counting.specs.declared.Counts.{Counts}
 use Rattle.counting.specs.declared.Fate.{Fate}

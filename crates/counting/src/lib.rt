@@ -2,7 +2,7 @@
 #![tactic(auto)]
 
 ghost use Rattle.std.specs.Prelude.{◌≡◌};
-ghost use Rattle.counting.specs.Counting.{one_more, counted_by};
+ghost use Rattle.counting.specs.Counting.{counted_by};
 
 // What becomes of a candidate.
 #[derive(Clone, Copy)]
@@ -21,52 +21,23 @@ pub struct Counts {
     pub dropped: u64,
 }
 
-// One more; a count that has reached the largest number of its word stays.
-fn one_more(n: u64) -> u64
-    ensures { result ≡ one_more n }
-{
-    if n == 18446744073709551615 {
-        return n;
-    }
-    n + 1
-}
-
-fn one_kept(n: usize) -> usize
-    ensures { result ≡ one_more n }
-{
-    if n == 18446744073709551615 {
-        return n;
-    }
-    n + 1
-}
-
-// The counts after a candidate: one more is tried, and one more dropped or kept by what became of it.
+// The counts after a candidate: one more is tried, and one more dropped or kept by what became of it. A count that has reached the largest number of its word
+// stays.
 pub fn count(fate: Fate, before: Counts) -> Counts
     ensures { result ≡ counted_by fate before }
 {
-    let tried = one_more(before.tried);
-    let kept = before.kept;
-    let dropped = before.dropped;
+    let tried = before.tried.saturating_add(1);
     match fate {
-        Fate::Found => Counts {
-            tried,
-            kept,
-            dropped,
-        },
+        Fate::Found | Fate::Full => Counts { tried, ..before },
         Fate::Dropped => Counts {
             tried,
-            kept,
-            dropped: one_more(dropped),
-        },
-        Fate::Full => Counts {
-            tried,
-            kept,
-            dropped,
+            dropped: before.dropped.saturating_add(1),
+            ..before
         },
         Fate::Kept => Counts {
             tried,
-            kept: one_kept(kept),
-            dropped,
+            kept: before.kept.saturating_add(1),
+            ..before
         },
     }
 }

@@ -9,8 +9,7 @@ use lib.ListN.{length, get_or, take, drop}
 use Rattle.reading.proofs.Lists.{true-false}
 use Rattle.names.specs.Names.{same_bytes, names_in, GoodNames}
 use Rattle.names.specs.Lookup.{find_from, found_in}
-use Rattle.names.specs.declared.lookup.FoundName.{FoundName}
-use Rattle.names.specs.declared.lookup.FoundName.TheVariants.{At, Nothing}
+use Rattle.std.proofs.Common.{Option, Some, None}
 use Rattle.spelling.proofs.Same.{same-eq, same_refl}
 use Rattle.names.proofs.Starts.{few-names, found-among-names}
 use Rattle.names.proofs.Finding.{FoundIs, found-is}
@@ -35,14 +34,14 @@ module _ (file w : List ℕ) where
       rw m (refl, refl)
 
   pub leaf-name : GoodNames file → same_bytes w (constant_text true) ≡ false → same_bytes w (constant_text false) ≡ false
-      → {f g : FoundName} → f ≡ found_in file w → f ≡ g → WordFields file w 16 (name_number g)
-  leaf-name n t f {g = g} q e l c = by-leaf l (subst (ClassIs w) c (class-is w))
+      → {f : Option ℕ} → f ≡ found_in file w → WordFields file w 16 (name_number f)
+  leaf-name n t f {f = g} q l c = by-leaf l (subst (ClassIs w) c (class-is w))
     where
       differs : (b : Bool) → same_bytes w (constant_text b) ≡ false → constant_text b ≡ w → ⊥
       differs b x e = true-false (rw e (same_refl w)) x
 
       is : g ≡ find_from 0 w (names_in file)
-      is = sym e ∙ q ∙ found-among-names file n w
+      is = q ∙ found-among-names file n w
 
       by-leaf : (l : Atom) → ClassIs w (leafy l) → (16 ≡ atom_code l) × (name_number g ≡ atom_field (names_in file) l)
       by-leaf (name v) h = (refl, ap name_number is ∙ ap (λ (x : List ℕ). name_number (find_from 0 x (names_in file))) (sym h.0))
@@ -57,14 +56,14 @@ leaf-cut file text start n f = let k : start + n - start ≡ n = omega arith in 
 pub number_at : (w : List ℕ) (names : List (List ℕ)) → Memᴰ w names → (name_number (find_from 0 w names) < length names) × (get_or names (name_number (find_from 0 w names)) [] ≡ w)
 number_at w names m = by-found (find_from 0 w names) (found-is w names 0)
   where
-    by-found : (f : FoundName) → FoundIs w names 0 f → (name_number f < length names) × (get_or names (name_number f) [] ≡ w)
-    by-found (At k) h = let z : k - 0 ≡ k = omega arith in (omega (arith, h.1), rw z at h.2)
-    by-found Nothing h = absurd (h m)
+    by-found : (f : Option ℕ) → FoundIs w names 0 f → (name_number f < length names) × (get_or names (name_number f) [] ≡ w)
+    by-found (Some k) h = let z : k - 0 ≡ k = omega arith in (omega (arith, h.1), rw z at h.2)
+    by-found None h = absurd (h m)
 
 pub field-small : (file : List ℕ) → GoodNames file → (l : Atom) → atom_field (names_in file) l < most_field
 field-small file g (name w) = by-found (find_from 0 w (names_in file)) (found-is w (names_in file) 0)
   where
-    by-found : (f : FoundName) → FoundIs w (names_in file) 0 f → name_number f < most_field
-    by-found (At k) h = let n = few-names file g in omega (arith, h.1)
-    by-found Nothing h = omega arith
+    by-found : (f : Option ℕ) → FoundIs w (names_in file) 0 f → name_number f < most_field
+    by-found (Some k) h = let n = few-names file g in omega (arith, h.1)
+    by-found None h = omega arith
 field-small file g (constant b) = omega arith

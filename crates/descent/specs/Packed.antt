@@ -1,22 +1,19 @@
 -- The nodes of a typed text, each packed into one number of a scratch, and a name's number in its leaf's node.
 -- Assumes nothing.
-use Rattle.std.specs.Prelude.{◌≡◌, true, false, List, map, ℕ, ◌+◌, ◌*◌}
+use Rattle.std.specs.Prelude.{◌≡◌, true, false, List, map, Option, unwrap_or, ℕ, ◌+◌, ◌*◌}
 use Rattle.std.proofs.lemmas.List.Edits.{sets}
 use Rattle.sequence.specs.Operators.{Unary, Binary, unary_code, binary_code}
 use Rattle.formula.specs.Nodes.{Node, Codes}
 use Rattle.names.specs.Names.{names_in}
 use Rattle.names.specs.Lookup.{find_from}
-use Rattle.names.specs.declared.lookup.FoundName.{FoundName}
-use Rattle.names.specs.declared.lookup.FoundName.TheVariants.{At, Nothing}
 use Rattle.grammar.specs.Nodes.{nodes_of}
 use Rattle.grammar.specs.Token.{Typed, Atom, name, constant}
 
 -- ---- names
 
 -- the number of a name that was found; for none, 0
-abbrev pub name_number : FoundName → ℕ
-name_number (At k) = k
-name_number Nothing = 0
+abbrev pub name_number : Option ℕ → ℕ
+name_number found = unwrap_or found 0
 
 -- ---- the nodes of what is typed
 

@@ -2,59 +2,37 @@
 ghost use Rattle.std.specs.Prelude.{◌≤◌, length};
 ghost use Rattle.descent.specs.Answers.{Closing, EndsAt};
 
-use tokens::bytes::byte;
-use tokens::operator::{Op, operator};
+use tokens::operator::{Next, operator};
+use tokens::{Stop, bytes};
 
-// Where what closes an expression ends, or the offset of a byte that can't continue a formula.
-#[derive(Clone, Copy)]
-pub(crate) enum End {
-    At(usize),
-    Bad(usize),
-}
-
-// The closing bracket after an expression.
-pub(crate) fn closing(text: &[u8], at: usize) -> End
+// The end of the closing bracket after an expression.
+pub(crate) fn closing(text: &[u8], at: usize) -> Result<usize, Stop>
     requires { at ≤ length text.now }
     ensures { Closing text.now at result }
 {
-    let o = operator(text, at);
-    match o {
-        Op::Nothing(i) => {
-            let b = byte(text, i);
-            if b == b')' {
-                return End::At(i + 1);
+    match operator(text, at)? {
+        Next::Nothing(i) => {
+            if bytes::byte(text, i) != b')' {
+                return Err(Stop(i));
             }
-            End::Bad(i)
+            Ok(i + 1)
         }
-        Op::Cut(k) => End::Bad(k),
-        Op::Is {
-            level: _,
-            right: _,
-            next,
-            code: _,
-        } => End::Bad(next),
+        Next::Infix(o) => Err(Stop(o.next)),
     }
 }
 
 // The end of the text after an expression.
-pub(crate) fn ending(text: &[u8], at: usize) -> End
+pub(crate) fn ending(text: &[u8], at: usize) -> Result<(), Stop>
     requires { at ≤ length text.now }
     ensures { EndsAt text.now at result }
 {
-    let o = operator(text, at);
-    match o {
-        Op::Nothing(i) => {
-            if i == text.len() {
-                return End::At(i);
+    match operator(text, at)? {
+        Next::Nothing(i) => {
+            if i != text.len() {
+                return Err(Stop(i));
             }
-            End::Bad(i)
+            Ok(())
         }
-        Op::Cut(k) => End::Bad(k),
-        Op::Is {
-            level: _,
-            right: _,
-            next,
-            code: _,
-        } => End::Bad(next),
+        Next::Infix(o) => Err(Stop(o.next)),
     }
 }

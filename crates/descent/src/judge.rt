@@ -2,16 +2,15 @@
 ghost use Rattle.names.specs.Names.{GoodNames};
 ghost use Rattle.descent.specs.Judging.{JudgedIs};
 
-use crate::{Got, read_text};
-use names::NamesAnswer;
+use crate::read_text;
+use reading::Broken;
+use tokens::Stop;
 use typed::depth::deep;
-use typed::unknown::{Missing, unknown};
+use typed::unknown::unknown;
 
-// How many nodes a text has that is taken so far; or which refusal it gets: the names' 8, 12 for its bytes, no room in the scratch for so many, 11, 13, 12
-// for its size or brackets.
-#[derive(Clone, Copy)]
-pub enum TextJudged {
-    Nodes(usize),
+// Which refusal a text gets: the names' 8, 12 for its bytes, no room in the scratch for so many, 11, 13, 12 for its size or brackets.
+#[derive(Clone, Copy, Debug, PartialEq, Eq)]
+pub enum JudgeError {
     Broken(usize),
     Long,
     Room,
@@ -20,45 +19,53 @@ pub enum TextJudged {
     Large,
 }
 
+impl From<Broken> for JudgeError {
+    ghost use Rattle.std.specs.Prelude.{◌≡◌};
+    ghost use Rattle.descent.specs.declared.judge.JudgeError.TheVariants.{Broken as BrokenNames};
+
+    ghost from_gives = { λ broken e. e ≡ BrokenNames broken.0 };
+
+    fn from(broken: Broken) -> JudgeError {
+        JudgeError::Broken(broken.0)
+    }
+}
+
+impl From<Stop> for JudgeError {
+    ghost use Rattle.std.specs.Prelude.{◌≡◌};
+    ghost use Rattle.descent.specs.declared.judge.JudgeError.TheVariants.{Stops};
+
+    ghost from_gives = { λ stop e. e ≡ Stops stop.0 };
+
+    fn from(stop: Stop) -> JudgeError {
+        JudgeError::Stops(stop.0)
+    }
+}
+
 // With names that are good.
-fn judge_text(names: &[u8], text: &[u8], scratch: &mut [u64]) -> TextJudged
+fn judge_text(names: &[u8], text: &[u8], scratch: &mut [u64]) -> Result<usize, JudgeError>
     requires { GoodNames names.now }
     ensures { JudgedIs names.now text.now scratch.old scratch.new result }
 {
     if rules::TYPED < text.len() {
-        return TextJudged::Long;
+        return Err(JudgeError::Long);
     }
     if scratch.len() < text.len() {
-        return TextJudged::Room;
+        return Err(JudgeError::Room);
     }
-    let t = read_text(names, text, scratch);
-    match t {
-        Got::Bad(k) => TextJudged::Stops(k),
-        Got::Val { next: _, size } => {
-            let u = unknown(names, text);
-            match u {
-                Missing::At(k) => TextJudged::Unknown(k),
-                Missing::Nothing => {
-                    if rules::BOUND < size {
-                        return TextJudged::Large;
-                    }
-                    if deep(text) {
-                        return TextJudged::Large;
-                    }
-                    TextJudged::Nodes(size)
-                }
-            }
-        }
+    let size = read_text(names, text, scratch)?;
+    if let Some(k) = unknown(names, text) {
+        return Err(JudgeError::Unknown(k));
     }
+    if rules::BOUND < size || deep(text) {
+        return Err(JudgeError::Large);
+    }
+    Ok(size)
 }
 
-// A node of the tree takes one place of the scratch, from the first on; the scratch needs as many as the text has bytes.
-pub fn judge(names: &[u8], text: &[u8], scratch: &mut [u64]) -> TextJudged
+// How many nodes a text has that is taken so far. A node of the tree takes one place of the scratch, from the first on; the scratch needs as many as the text has bytes.
+pub fn judge(names: &[u8], text: &[u8], scratch: &mut [u64]) -> Result<usize, JudgeError>
     ensures { JudgedIs names.now text.now scratch.old scratch.new result }
 {
-    let judged = names::judge(names);
-    match judged {
-        NamesAnswer::Broken(o) => TextJudged::Broken(o),
-        NamesAnswer::Names(_) => judge_text(names, text, scratch),
-    }
+    names::judge(names)?;
+    judge_text(names, text, scratch)
 }

@@ -4,7 +4,7 @@ ghost use Rattle.names.specs.Names.{GoodNames};
 ghost use Rattle.descent.specs.Inner.{WordIs, LeafIs};
 
 use formula::kinds::{FALSE, PROPOSITION, TRUE};
-use names::lookup::{FoundName, find};
+use names::lookup::find;
 use spelling::bytes::same;
 
 // A leaf's code, and its left field: a proposition's number.
@@ -30,16 +30,9 @@ fn word_leaf(names: &[u8], word: &[u8]) -> Leaf
             left: 0,
         };
     }
-    let f = find(names, word);
-    match f {
-        FoundName::At(p) => Leaf {
-            code: PROPOSITION,
-            left: p,
-        },
-        FoundName::Nothing => Leaf {
-            code: PROPOSITION,
-            left: 0,
-        },
+    Leaf {
+        code: PROPOSITION,
+        left: find(names, word).unwrap_or(0),
     }
 }
 

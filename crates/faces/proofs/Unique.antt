@@ -8,7 +8,9 @@ use Rattle.session.specs.Recording.{Recording}
 use Rattle.walk.specs.Input.{Input}
 use Rattle.formula.specs.declared.kinds.Node.{Node}
 use Rattle.verdict.specs.declared.Verdict.{Verdict}
-use Rattle.text.specs.declared.Printed.{Printed}
+use Rattle.text.specs.declared.PrintError.{PrintError}
+use Rattle.rules.specs.declared.refusal.Refusal.{Refusal}
+use Rattle.std.proofs.Common.{Result}
 use Rattle.verdict.specs.Check.{said_verdict, CheckAnswer}
 use Rattle.text.specs.Print.{said_printed, Prints}
 use Rattle.verdict.proofs.Unique.{check-unique}
@@ -20,11 +22,11 @@ use Rattle.search.proofs.Promises.{search-unique}
 use Rattle.nodes_in.specs.Lists.{plain, codes_of, lefts_of, rights_of, sizes_of}
 use Rattle.nodes_out.specs.Columns.{node_cols}
 
-pub check-face-unique : (i : Recording) (ns : List Node) (root : walk.Node) (v w : Verdict)
+pub check-face-unique : (i : Recording) (ns : List Node) (root : walk.Node) (v w : Result Verdict Refusal)
     → CheckAnswer i (plain ns) root (said_verdict v) → CheckAnswer i (plain ns) root (said_verdict w) → v ≡ w
 check-face-unique i ns root v w a b = check-unique i (plain ns) root v w a b
 
-pub print-face-unique : (file : List ℕ) (ns : List Node) (root : walk.Node) (old : List ℕ) (p q : Printed) (new later : List ℕ)
+pub print-face-unique : (file : List ℕ) (ns : List Node) (root : walk.Node) (old : List ℕ) (p q : Result ℕ PrintError) (new later : List ℕ)
     → Prints file (plain ns) root old (said_printed p) new → Prints file (plain ns) root old (said_printed q) later → (p ≡ q) × (new ≡ later)
 print-face-unique file ns root old p q new later a b = print-unique file (plain ns) root old p q new later a b
 
@@ -52,7 +54,7 @@ one_list (n ∷ ns) (m ∷ ms) c l r s =
     (one_list ns ms (tail-eq_of_cons-eq c) (tail-eq_of_cons-eq l) (tail-eq_of_cons-eq r) (tail-eq_of_cons-eq s))
 
 -- the answer, the nodes and the matrices
-pub search-face-unique : (i : Input) (ns : List Node) (old : List ℕ) (a b : SearchAnswer) (ms ls : List Node) (new later : List ℕ)
+pub search-face-unique : (i : Input) (ns : List Node) (old : List ℕ) (a b : Result SearchAnswer Refusal) (ms ls : List Node) (new later : List ℕ)
     → Searched i (node_cols ns old) a (node_cols ms new) → Searched i (node_cols ns old) b (node_cols ls later) → (a ≡ b) × (ms ≡ ls) × (new ≡ later)
 search-face-unique i ns old a b ms ls new later p q =
     let e = search-unique i (node_cols ns old) a b (node_cols ms new) (node_cols ls later) p q in

@@ -15,9 +15,10 @@ ghost use Rattle.nodes_in.specs.Lists.{plain};
 ghost use Rattle.nodes_out.specs.Columns.{node_cols, fields};
 
 use formula::kinds::Node;
-use reader::Parsed;
+use reader::ParseError;
+use rules::refusal::Refusal;
 use search::SearchAnswer;
-use text::Printed;
+use text::PrintError;
 use verdict::Verdict;
 
 // The analyst's check of a node list, whoever wrote it.
@@ -29,7 +30,7 @@ pub fn check(
     words: &[u64],
     nodes: &[Node],
     root: Node,
-) -> Verdict
+) -> Result<Verdict, Refusal>
     ensures { CheckAnswer (recording r m marks.now lengths.now words.now) (plain nodes.now) (node_of root) (said_verdict result) }
 {
     let list = lists::copied(nodes);
@@ -37,7 +38,7 @@ pub fn check(
 }
 
 // The text of the root's formula, at the start of the lent room.
-pub fn print(names: &[u8], nodes: &[Node], root: Node, room: &mut [u8]) -> Printed
+pub fn print(names: &[u8], nodes: &[Node], root: Node, room: &mut [u8]) -> Result<usize, PrintError>
     ensures { Prints names.now (plain nodes.now) (node_of root) room.old (said_printed result) room.new }
 {
     let list = lists::copied(nodes);
@@ -58,7 +59,7 @@ pub fn search(
     binary: &[u8],
     nodes: &mut [Node],
     matrices: &mut [u64],
-) -> SearchAnswer
+) -> Result<SearchAnswer, Refusal>
     ensures { Searched
         (input_of r m bound room constants marks.now lengths.now words.now unary.now binary.now)
         (node_cols nodes.old matrices.old)
@@ -84,7 +85,7 @@ pub fn search(
 }
 
 // A formula that is typed with names of a lent names section, its nodes in a lent list of nodes: left child, right child, parent, the root last.
-pub fn parse(names: &[u8], text: &[u8], nodes: &mut [Node]) -> Parsed
+pub fn parse(names: &[u8], text: &[u8], nodes: &mut [Node]) -> Result<usize, ParseError>
     ensures { Parses names.now text.now (fields nodes.old) (fields nodes.new) (said_parsed result) }
 {
     let read = nodes_out::parse(names, text, nodes.len());

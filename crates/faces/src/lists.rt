@@ -27,10 +27,8 @@ pub(crate) fn copied(nodes: &[Node]) -> [Node; SEEN]
 {
     let mut list = blank();
     let count = count_of(nodes.len());
-    let mut i: usize = 0;
-    while i < count {
+    for i in 0..count {
         list[i] = nodes[i];
-        i += 1;
     }
     list
 }
@@ -55,9 +53,7 @@ pub(crate) fn put(listed: Listed, nodes: &mut [Node])
 {
     let list = nodes_of(listed);
     let count = number_of(listed);
-    let mut i: usize = 0;
-    while i < count {
+    for i in 0..count {
         nodes[i] = list[i];
-        i += 1;
     }
 }

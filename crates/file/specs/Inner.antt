@@ -1,10 +1,9 @@
 -- How the reader's private functions speak of what they found. No public contract cites this file, so nothing here has to be believed.
 -- Assumes nothing.
-use Rattle.std.specs.Prelude.{◌≡◌, Bool, true, false, ◌&&◌, List, [], ◌∷◌, ◌++◌, ℕ, zero, suc, ◌+◌, ◌*◌, ◌≤◌, leb, length, get_or, take, drop}
-use Rattle.file.specs.declared.Tail.{Tail}
-use Rattle.file.specs.declared.Tail.TheVariants.{Read as TailRead, Broken as TailBroken}
-use Rattle.file.specs.declared.ReadAnswer.{ReadAnswer}
-use Rattle.file.specs.declared.ReadAnswer.TheVariants.{Parts as AllParts, Broken as FileBroken}
+use Rattle.std.specs.Prelude.{◌≡◌, Bool, true, false, ◌&&◌, List, [], ◌∷◌, ◌++◌, ℕ, zero, suc, ◌+◌, ◌*◌, ◌≤◌, leb, length, get_or, take, drop, Result, Ok, Err}
+use Rattle.file.specs.declared.Settings.{Settings as Tail}
+use Rattle.file.specs.declared.Parts.{Parts as Numbers}
+use Rattle.reading.specs.declared.Broken.{Broken}
 use Rattle.file.specs.Format.{Parts}
 use Rattle.reading.specs.Reading.{section, Got, got, bad, at_end}
 use Rattle.names.specs.Names.{name_bytes}
@@ -12,20 +11,31 @@ use Rattle.file.specs.Offence.{number, Settings, settings, whole_file}
 
 -- ---- settings, and the whole
 
-abbrev pub tail_of : Got Settings → Tail
-tail_of (got s next) = TailRead s.constants s.bound
-tail_of (bad o) = TailBroken o
+abbrev pub tail_of : Got Settings → Result Tail Broken
+tail_of (got s next) = Ok (record { constants = s.constants; bound = s.bound })
+tail_of (bad o) = Err (record { 0 = o })
 
 abbrev pub tail_at : List ℕ → ℕ → Got Settings
 tail_at file at = at_end (settings file at) file
 
-abbrev pub numbers_of : Got Parts → ReadAnswer
-numbers_of (got p next) =
-    AllParts (length p.sessions) (length p.names) (length (section name_bytes p.names)) (length p.unary) (length p.binary) p.constants p.bound
-numbers_of (bad o) = FileBroken o
+abbrev pub numbers_of : Parts → Numbers
+numbers_of p =
+    record {
+      sessions = length p.sessions;
+      propositions = length p.names;
+      names = length (section name_bytes p.names);
+      unary = length p.unary;
+      binary = length p.binary;
+      constants = p.constants;
+      bound = p.bound;
+    }
 
-abbrev pub read_answer_of : List ℕ → ReadAnswer
-read_answer_of file = numbers_of (whole_file file)
+abbrev pub judged : Got Parts → Result Numbers Broken
+judged (got p next) = Ok (numbers_of p)
+judged (bad o) = Err (record { 0 = o })
+
+abbrev pub judged_of : List ℕ → Result Numbers Broken
+judged_of file = judged (whole_file file)
 
 -- ---- the room
 

@@ -1,10 +1,11 @@
 -- What the reader answers and leaves in the lent slices, for every byte string.
 -- Assumes nothing.
-use Rattle.std.specs.Prelude.{Bool, cond, ◌&&◌, ℕ, ◌*◌, leb, length}
+use Rattle.std.specs.Prelude.{Bool, cond, ◌&&◌, ℕ, ◌*◌, leb, length, Result, Ok, Err}
 use mathlib.Core.List.{List, [], ◌∷◌, map, flat_map}
 use Rattle.rules.specs.Answers.{Said, over}
-use Rattle.file.specs.declared.ReadAnswer.{ReadAnswer}
-use Rattle.file.specs.declared.ReadAnswer.TheVariants.{Parts as AllParts, Broken, Room}
+use Rattle.file.specs.declared.Parts.{Parts as Numbers}
+use Rattle.file.specs.declared.ReadError.{ReadError}
+use Rattle.file.specs.declared.ReadError.TheVariants.{Broken, Room}
 use Rattle.file.specs.Format.{Parts}
 use Rattle.reading.specs.Reading.{section, Got, got, bad, broken}
 use Rattle.names.specs.Names.{name_bytes}
@@ -14,10 +15,10 @@ abbrev pub too_little_room : Said
 too_little_room = record { number = 3; values = [] }
 
 -- the values: r, m, bytes of the names section, unary codes, binary codes, constants mark, B
-abbrev pub said_read : ReadAnswer → Said
-said_read (AllParts r m names unary binary constants bound) = record { number = 0; values = r ∷ m ∷ names ∷ unary ∷ binary ∷ constants ∷ bound ∷ [] }
-said_read (Broken o) = broken o
-said_read Room = too_little_room
+abbrev pub said_read : Result Numbers ReadError → Said
+said_read (Ok n) = record { number = 0; values = n.sessions ∷ n.propositions ∷ n.names ∷ n.unary ∷ n.binary ∷ n.constants ∷ n.bound ∷ [] }
+said_read (Err (Broken o)) = broken o
+said_read (Err Room) = too_little_room
 
 -- ---- a session file
 

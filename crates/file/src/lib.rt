@@ -6,10 +6,10 @@ mod fill;
 
 ghost use Rattle.std.specs.Prelude.{◌≡◌};
 ghost use Rattle.file.specs.Reading.{said_read, read_after, lent, read_of};
-ghost use Rattle.file.specs.Inner.{tail_of, tail_at, read_answer_of, Enough};
+ghost use Rattle.file.specs.Inner.{tail_of, tail_at, judged_of, Enough};
 
 use fill::{fill_codes, fill_sessions};
-use reading::{ReadStep, byte_within};
+use reading::{Broken, byte_within};
 use sections::codes::codes_section;
 use sections::sessions::sessions_section;
 
@@ -22,103 +22,77 @@ const BOUND: usize = rules::BOUND;
 // "the largest good file is 4,450 bytes"
 pub const LARGEST: usize = 4450;
 
-// What a file is: its parts' numbers (sessions r, propositions m, the bytes of the names section, codes of each group, constants mark, bound B),
-// broken at an offset, or good with too little room lent.
-#[derive(Clone, Copy)]
-pub enum ReadAnswer {
-    Parts {
-        sessions: usize,
-        propositions: usize,
-        names: usize,
-        unary: usize,
-        binary: usize,
-        constants: u8,
-        bound: u8,
-    },
+// The numbers of a good file's parts: sessions r, propositions m, the bytes of the names section, codes of each group, constants mark, bound B.
+#[derive(Clone, Copy, Debug, PartialEq, Eq)]
+pub struct Parts {
+    pub sessions: usize,
+    pub propositions: usize,
+    pub names: usize,
+    pub unary: usize,
+    pub binary: usize,
+    pub constants: u8,
+    pub bound: u8,
+}
+
+// Why a file's parts are not handed out: it is broken at an offset, or it is good and too little room is lent.
+#[derive(Clone, Copy, Debug, PartialEq, Eq)]
+pub enum ReadError {
     Broken(usize),
     Room,
 }
 
-// What the settings are, or the offset that offends.
+impl From<Broken> for ReadError {
+    ghost use Rattle.std.specs.Prelude.{◌≡◌};
+    ghost use Rattle.file.specs.declared.ReadError.{ReadError};
+
+    ghost from_gives = { λ broken e. e ≡ ReadError.Broken broken.0 };
+
+    fn from(broken: Broken) -> ReadError {
+        ReadError::Broken(broken.0)
+    }
+}
+
+// The constants mark and the bound B.
 #[derive(Clone, Copy)]
-enum Tail {
-    Read { constants: u8, bound: u8 },
-    Broken(usize),
+struct Settings {
+    constants: u8,
+    bound: u8,
 }
 
 // The settings, with nothing after them.
-fn tail_at(file: &[u8], at: usize) -> Tail
+fn tail_at(file: &[u8], at: usize) -> Result<Settings, Broken>
     ensures { result ≡ tail_of (tail_at file.now at) }
 {
-    let count = byte_within(file, at, 2, 2);
-    match count {
-        ReadStep::Read { value: _, next: a } => {
-            let mark = byte_within(file, a, 0, 1);
-            match mark {
-                ReadStep::Read { value: _, next: b } => {
-                    let bound = byte_within(file, b, 1, crate::BOUND);
-                    match bound {
-                        ReadStep::Read { value: _, next } => {
-                            if next == file.len() {
-                                Tail::Read {
-                                    constants: file[a],
-                                    bound: file[b],
-                                }
-                            } else {
-                                Tail::Broken(next)
-                            }
-                        }
-                        ReadStep::Broken(o) => Tail::Broken(o),
-                    }
-                }
-                ReadStep::Broken(o) => Tail::Broken(o),
-            }
-        }
-        ReadStep::Broken(o) => Tail::Broken(o),
+    let count = byte_within(file, at, 2, 2)?;
+    let constants = byte_within(file, count.next, 0, 1)?;
+    let bound = byte_within(file, constants.next, 1, crate::BOUND)?;
+    if bound.next != file.len() {
+        return Err(Broken(bound.next));
     }
+    Ok(Settings {
+        constants: file[count.next],
+        bound: file[constants.next],
+    })
 }
 
 // The numbers of a good file's parts, or the offset that offends.
-fn judge(file: &[u8]) -> ReadAnswer
-    ensures { result ≡ read_answer_of file.now }
+fn judge(file: &[u8]) -> Result<Parts, Broken>
+    ensures { result ≡ judged_of file.now }
 {
-    let names = names::section(file, crate::PROPOSITIONS);
-    match names {
-        ReadStep::Read { value: m, next: a } => {
-            let sessions = sessions_section(file, a, m);
-            match sessions {
-                ReadStep::Read { value: r, next: b } => {
-                    let unary = codes_section(file, b, true);
-                    match unary {
-                        ReadStep::Read { value: u, next: c } => {
-                            let binary = codes_section(file, c, false);
-                            match binary {
-                                ReadStep::Read { value: v, next: d } => {
-                                    let tail = tail_at(file, d);
-                                    match tail {
-                                        Tail::Read { constants, bound } => ReadAnswer::Parts {
-                                            sessions: r,
-                                            propositions: m,
-                                            names: a,
-                                            unary: u,
-                                            binary: v,
-                                            constants,
-                                            bound,
-                                        },
-                                        Tail::Broken(o) => ReadAnswer::Broken(o),
-                                    }
-                                }
-                                ReadStep::Broken(o) => ReadAnswer::Broken(o),
-                            }
-                        }
-                        ReadStep::Broken(o) => ReadAnswer::Broken(o),
-                    }
-                }
-                ReadStep::Broken(o) => ReadAnswer::Broken(o),
-            }
-        }
-        ReadStep::Broken(o) => ReadAnswer::Broken(o),
-    }
+    let names = names::section(file, crate::PROPOSITIONS)?;
+    let sessions = sessions_section(file, names.next, names.value)?;
+    let unary = codes_section(file, sessions.next, true)?;
+    let binary = codes_section(file, unary.next, false)?;
+    let settings = tail_at(file, binary.next)?;
+    Ok(Parts {
+        sessions: sessions.value,
+        propositions: names.value,
+        names: names.next,
+        unary: unary.value,
+        binary: binary.value,
+        constants: settings.constants,
+        bound: settings.bound,
+    })
 }
 
 // Whether slices of these lengths have room for r sessions, n words, u codes and v codes.
@@ -147,40 +121,34 @@ pub fn read(
     words: &mut [u64],
     unary: &mut [u8],
     binary: &mut [u8],
-) -> ReadAnswer
+) -> Result<Parts, ReadError>
     ensures { read_after (said_read result) marks.new lengths.new words.new unary.new binary.new
         ≡ read_of file.now (lent marks.old lengths.old words.old unary.old binary.old) }
 {
-    let answer = judge(file);
-    match answer {
-        ReadAnswer::Parts {
-            sessions: r,
-            propositions: m,
-            names,
-            unary: u,
-            binary: v,
-            constants: _,
-            bound: _,
-        } => {
-            if enough(
-                marks.len(),
-                lengths.len(),
-                words.len(),
-                unary.len(),
-                binary.len(),
-                r,
-                m * r,
-                u,
-                v,
-            ) {
-                let codes = fill_sessions(marks, lengths, words, file, names, m, r);
-                fill_codes(unary, binary, file, codes, u, v);
-                return answer;
-            }
-            ReadAnswer::Room
-        }
-        ReadAnswer::Broken(o) => ReadAnswer::Broken(o),
-        // the judging pass is lent no room, so that it never says this
-        ReadAnswer::Room => ReadAnswer::Room,
+    let parts = judge(file)?;
+    let (r, u, v) = (parts.sessions, parts.unary, parts.binary);
+    if !enough(
+        marks.len(),
+        lengths.len(),
+        words.len(),
+        unary.len(),
+        binary.len(),
+        r,
+        parts.propositions * r,
+        u,
+        v,
+    ) {
+        return Err(ReadError::Room);
     }
+    let codes = fill_sessions(
+        marks,
+        lengths,
+        words,
+        file,
+        parts.names,
+        parts.propositions,
+        r,
+    );
+    fill_codes(unary, binary, file, codes, u, v);
+    Ok(parts)
 }

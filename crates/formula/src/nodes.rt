@@ -1,7 +1,7 @@
 // The nodes of four lent slices, and the rule of a node list (number 9), tested at each listed node and at the root.
-ghost use Rattle.std.specs.Prelude.{◌≡◌, [], ◌∷◌, min};
+ghost use Rattle.std.specs.Prelude.{◌≡◌, [], ◌∷◌};
 ghost use Rattle.formula.specs.Nodes.{node_at};
-ghost use Rattle.rules.specs.Refusals.{Decided};
+ghost use Rattle.rules.specs.Refusals.{Decided, number_of};
 ghost use Rattle.formula.specs.Kinds.{node, node_of, count_of, nodes};
 ghost use Rattle.formula.specs.Rule.{IsUnary, IsBinary, broken_list};
 ghost use Rattle.formula.specs.Inner.{NodeJudged, AllJudged, LeafJudged, UnaryJudged, BinaryJudged};
@@ -9,24 +9,15 @@ ghost use Rattle.formula.specs.Inner.{NodeJudged, AllJudged, LeafJudged, UnaryJu
 use crate::kinds::{Node, PROPOSITION, TRUE};
 use operators::Group;
 use rules::kinds::Place;
-
-fn smaller(a: usize, b: usize) -> usize
-    ensures { result ≡ min a b }
-{
-    if b < a {
-        return b;
-    }
-    a
-}
+use rules::refusal::Refusal;
 
 // How many nodes four slices have: as many as the shortest.
 pub fn count(codes: &[u8], lefts: &[u16], rights: &[u16], sizes: &[u8]) -> usize
     ensures { result ≡ count_of codes.now lefts.now rights.now sizes.now }
 {
-    smaller(
-        codes.len(),
-        smaller(lefts.len(), smaller(rights.len(), sizes.len())),
-    )
+    codes
+        .len()
+        .min(lefts.len().min(rights.len().min(sizes.len())))
 }
 
 fn node_of(code: u8, left: u16, right: u16, size: u8) -> Node
@@ -127,37 +118,35 @@ fn node_good(
 fn nodes_good(m: usize, codes: &[u8], lefts: &[u16], rights: &[u16], sizes: &[u8], n: usize) -> bool
     ensures { AllJudged m (nodes codes.now lefts.now rights.now sizes.now) n result }
 {
-    let mut i: usize = 0;
-    while i < n {
+    for i in 0..n {
         let node = node_at(codes, lefts, rights, sizes, i);
-        if node_good(m, codes, lefts, rights, sizes, i, node) {
-            i += 1;
-        } else {
+        if !node_good(m, codes, lefts, rights, sizes, i, node) {
             return false;
         }
     }
     true
 }
 
-// 9 where the list or the root breaks the rule, else 0.
-pub fn refusal(
+// A list or a root that breaks the rule is refused.
+pub fn check(
     m: usize,
     codes: &[u8],
     lefts: &[u16],
     rights: &[u16],
     sizes: &[u8],
     root: Node,
-) -> u8
-    ensures { Decided (broken_list m (nodes codes.now lefts.now rights.now sizes.now) (node_of root) ∷ []) result }
+) -> Result<(), Refusal>
+    ensures { Decided (broken_list m (nodes codes.now lefts.now rights.now sizes.now) (node_of root) ∷ []) (number_of result) }
 {
     let n = count(codes, lefts, rights, sizes);
     if rules::ROOM < n {
-        return 9;
+        return Err(Refusal::Nodes);
     }
     let listed = nodes_good(m, codes, lefts, rights, sizes, n);
     let rooted = node_good(m, codes, lefts, rights, sizes, n, root);
     if listed & rooted {
-        return 0;
+        Ok(())
+    } else {
+        Err(Refusal::Nodes)
     }
-    9
 }

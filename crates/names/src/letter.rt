@@ -4,7 +4,7 @@ ghost use Rattle.reading.specs.Reading.{each_item, byte, step_of};
 ghost use Rattle.names.specs.Names.{letter};
 ghost use Rattle.names.specs.Inner.{fits_at};
 
-use reading::ReadStep;
+use reading::{Broken, Read};
 use spelling::letter::{is_letter, is_name_byte};
 
 // Whether a byte may be the byte number i of a name.
@@ -12,46 +12,36 @@ fn fits_name(i: usize, b: u8) -> bool
     ensures { result ≡ fits_at i b }
 {
     if i == 0 {
-        return is_letter(b);
+        is_letter(b)
+    } else {
+        is_name_byte(b)
     }
-    is_name_byte(b)
 }
 
 // The byte at an offset as the byte number i of a name.
-fn letter_at(file: &[u8], at: usize, i: usize) -> ReadStep
+fn letter_at(file: &[u8], at: usize, i: usize) -> Result<Read, Broken>
     ensures { result ≡ step_of (λ b. b) (byte (fits_at i) file.now at) }
 {
     if file.len() <= at {
-        return ReadStep::Broken(file.len());
+        return Err(Broken(file.len()));
     }
     let b = file[at];
-    if fits_name(i, b) {
-        ReadStep::Read {
-            value: b as usize,
-            next: at + 1,
-        }
-    } else {
-        ReadStep::Broken(at)
+    if !fits_name(i, b) {
+        return Err(Broken(at));
     }
+    Ok(Read {
+        value: b as usize,
+        next: at + 1,
+    })
 }
 
 // n bytes of a name.
-pub(crate) fn letters_from(file: &[u8], at: usize, n: usize) -> ReadStep
+pub(crate) fn letters_from(file: &[u8], at: usize, n: usize) -> Result<Read, Broken>
     ensures { result ≡ step_of length (each_item letter n [] file.now at) }
 {
-    let mut i: usize = 0;
     let mut p = at;
-    while i < n {
-        let s = letter_at(file, p, i);
-        match s {
-            ReadStep::Read { value: _, next } => {
-                p = next;
-            }
-            ReadStep::Broken(o) => {
-                return ReadStep::Broken(o);
-            }
-        }
-        i += 1;
+    for i in 0..n {
+        p = letter_at(file, p, i)?.next;
     }
-    ReadStep::Read { value: n, next: p }
+    Ok(Read { value: n, next: p })
 }

@@ -14,7 +14,7 @@ ghost use Rattle.names.specs.Lookup.{names_from, walk_end};
 ghost use Rattle.names.specs.Judged.{said_names, names_said};
 
 use letter::letters_from;
-use reading::{ReadStep, byte_within};
+use reading::{Broken, Read, byte_within};
 use reserved::taken_name;
 
 // Document 01's numbers for a names section; for the contracts they are in specs/Names.antt.
@@ -22,91 +22,49 @@ const PROPOSITIONS: usize = rules::PROPOSITIONS;
 
 pub const NAME_LENGTH: usize = 16;
 
-// What a names section is: so many names, or broken at an offset.
-#[derive(Clone, Copy)]
-pub enum NamesAnswer {
-    Names(usize),
-    Broken(usize),
-}
-
 // The name at an offset, after `count` names.
-fn name_at(file: &[u8], at: usize, count: usize) -> ReadStep
+fn name_at(file: &[u8], at: usize, count: usize) -> Result<Read, Broken>
     requires { walk_end file.now count 1 ≤ length file.now }
     ensures { result ≡ step_of length (name (names_from file.now count 1) file.now at) }
 {
-    let c = byte_within(file, at, 1, crate::NAME_LENGTH);
-    match c {
-        ReadStep::Read { value: n, next } => {
-            let s = letters_from(file, next, n);
-            match s {
-                ReadStep::Read {
-                    value: _,
-                    next: end,
-                } => {
-                    if taken_name(file, next, n, count) {
-                        return ReadStep::Broken(at);
-                    }
-                    ReadStep::Read {
-                        value: n,
-                        next: end,
-                    }
-                }
-                ReadStep::Broken(o) => ReadStep::Broken(o),
-            }
-        }
-        ReadStep::Broken(o) => ReadStep::Broken(o),
+    let n = byte_within(file, at, 1, crate::NAME_LENGTH)?;
+    let letters = letters_from(file, n.next, n.value)?;
+    if taken_name(file, n.next, n.value, count) {
+        return Err(Broken(at));
     }
+    Ok(letters)
 }
 
 // `count` names from offset 1.
-fn names_from(file: &[u8], count: usize) -> ReadStep
+fn names_from(file: &[u8], count: usize) -> Result<Read, Broken>
     requires { 1 ≤ length file.now }
     ensures { result ≡ step_of length (each_item name count [] file.now 1) }
 {
-    let mut i: usize = 0;
     let mut p: usize = 1;
-    while i < count {
-        let s = name_at(file, p, i);
-        match s {
-            ReadStep::Read { value: _, next } => {
-                p = next;
-            }
-            ReadStep::Broken(o) => {
-                return ReadStep::Broken(o);
-            }
-        }
-        i += 1;
+    for i in 0..count {
+        p = name_at(file, p, i)?.next;
     }
-    ReadStep::Read {
+    Ok(Read {
         value: count,
         next: p,
-    }
+    })
 }
 
 // The names section at the start of a file: at most so many names. Anything may follow.
-pub fn section(file: &[u8], most: usize) -> ReadStep
+pub fn section(file: &[u8], most: usize) -> Result<Read, Broken>
     ensures { result ≡ step_of length (names_up_to most file.now 0) }
 {
-    let c = byte_within(file, 0, 1, most);
-    match c {
-        ReadStep::Read { value: n, next: _ } => names_from(file, n),
-        ReadStep::Broken(o) => ReadStep::Broken(o),
-    }
+    let count = byte_within(file, 0, 1, most)?;
+    names_from(file, count.value)
 }
 
-// A names section with nothing after it, as print takes it.
-pub fn judge(file: &[u8]) -> NamesAnswer
+// How many names are in a names section with nothing after it, as print takes it.
+pub fn judge(file: &[u8]) -> Result<usize, Broken>
     ensures { said_names result ≡ names_said file.now }
 {
-    let s = section(file, crate::PROPOSITIONS);
-    match s {
-        ReadStep::Read { value, next } => {
-            if next == file.len() {
-                NamesAnswer::Names(value)
-            } else {
-                NamesAnswer::Broken(next)
-            }
-        }
-        ReadStep::Broken(o) => NamesAnswer::Broken(o),
+    let names = section(file, crate::PROPOSITIONS)?;
+    if names.next != file.len() {
+        return Err(Broken(names.next));
     }
+    Ok(names.value)
 }

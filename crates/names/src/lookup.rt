@@ -12,13 +12,6 @@ pub struct Span {
     pub to: usize,
 }
 
-// The number of the name that was looked for.
-#[derive(Clone, Copy)]
-pub enum FoundName {
-    At(usize),
-    Nothing,
-}
-
 // Where the name after the one at an offset starts.
 fn next(section: &[u8], at: usize) -> usize
     ensures { result ≡ min (length section.now) (at + 1 + get_or section.now at 0) }
@@ -38,14 +31,12 @@ fn next(section: &[u8], at: usize) -> usize
 fn start(section: &[u8], p: usize) -> usize
     ensures { result ≡ min (length section.now) (walk_end section.now p 1) }
 {
-    if section.len() == 0 {
+    if section.is_empty() {
         return 0;
     }
     let mut at: usize = 1;
-    let mut i: usize = 0;
-    while i < p {
+    for _ in 0..p {
         at = next(section, at);
-        i += 1;
     }
     at
 }
@@ -64,22 +55,18 @@ pub fn letters(section: &[u8], p: usize) -> Span
 }
 
 // The number of the first name with these bytes.
-pub fn find(section: &[u8], word: &[u8]) -> FoundName
+pub fn find(section: &[u8], word: &[u8]) -> Option<usize>
     ensures { result ≡ found_in section.now word.now }
 {
-    if section.len() == 0 {
-        return FoundName::Nothing;
+    if section.is_empty() {
+        return None;
     }
     let count = section[0] as usize;
-    let mut j: usize = 0;
-    while j < count {
-        let l = letters(section, j);
-        let from = l.from;
-        let to = l.to;
+    for j in 0..count {
+        let Span { from, to } = letters(section, j);
         if same(word, &section[from..to]) {
-            return FoundName::At(j);
+            return Some(j);
         }
-        j += 1;
     }
-    FoundName::Nothing
+    None
 }

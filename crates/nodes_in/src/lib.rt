@@ -9,7 +9,8 @@ ghost use Rattle.text.specs.Print.{said_printed};
 ghost use Rattle.nodes_in.specs.Arrays.{seen, FieldsFilled, Checks, Printing};
 
 use formula::kinds::Node;
-use text::Printed;
+use rules::refusal::Refusal;
+use text::PrintError;
 use verdict::Verdict;
 
 // As many nodes as the check and printing look at: one more than a list may have.
@@ -55,7 +56,7 @@ pub fn check(
     list: [Node; SEEN],
     length: usize,
     root: Node,
-) -> Verdict
+) -> Result<Verdict, Refusal>
     ensures { Checks (recording r m marks.now lengths.now words.now) list length (node_of root) (said_verdict result) }
 {
     let count = count_of(length);
@@ -85,7 +86,7 @@ pub fn print(
     length: usize,
     root: Node,
     room: &mut [u8],
-) -> Printed
+) -> Result<usize, PrintError>
     ensures { Printing names.now list length (node_of root) room.old (said_printed result) room.new }
 {
     let count = count_of(length);

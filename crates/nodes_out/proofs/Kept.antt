@@ -15,7 +15,9 @@ use Rattle.walk.specs.Walk.{found, full, none, WalkState, going, ended, kept}
 use Rattle.walk.specs.Input.{Input, search}
 use Rattle.formula.specs.declared.kinds.Node.{Node}
 use Rattle.search.specs.declared.SearchAnswer.{SearchAnswer}
-use Rattle.search.specs.declared.SearchAnswer.TheVariants.{Found, None, Full, Refused}
+use Rattle.search.specs.declared.SearchAnswer.TheVariants.{Found, None, Full}
+use Rattle.rules.specs.declared.refusal.Refusal.{Refusal}
+use Rattle.std.proofs.Common.{Result, Ok, Err}
 use Rattle.table.specs.Slices.{Cols, table_over}
 use Rattle.checks.specs.Refusals.{setting_wrong, no_room, search_rows}
 use Rattle.search.specs.Search.{said_search, walk_said, Outcome, Searched}
@@ -127,14 +129,14 @@ few i t t' say e p l =
     let k : kept_in say.values ≡ length K = ap (λ (x : Said). kept_in x.values) e ∙ kept-walk (search i) in
     omega (arith, k, within (map (λ c. c.node.code) K) t.codes t'.codes (ap (λ (x : Cols). x.codes) p) l, length-map K (λ c. c.node.code))
 
-kept-within : (i : Input) (t t' : Cols) (a : SearchAnswer) → Searched i t a t' → length t'.codes ≡ length t.codes → kept_of a ≤ length t.codes
+kept-within : (i : Input) (t t' : Cols) (a : Result SearchAnswer Refusal) → Searched i t a t' → length t'.codes ≡ length t.codes → kept_of a ≤ length t.codes
 unfolding kept_in
-kept-within i t t' (Found root n) s l = few i t t' (said_search (Found root n)) s.outcome.0 s.outcome.1 l
-kept-within i t t' (None n) s l = few i t t' (said_search (None n)) s.outcome.0 s.outcome.1 l
-kept-within i t t' (Full size n) s l = few i t t' (said_search (Full size n)) s.outcome.0 s.outcome.1 l
-kept-within i t t' (Refused k) s l = omega arith
+kept-within i t t' (Ok (Found root n)) s l = few i t t' (said_search (Ok (Found root n))) s.outcome.0 s.outcome.1 l
+kept-within i t t' (Ok (None n)) s l = few i t t' (said_search (Ok (None n))) s.outcome.0 s.outcome.1 l
+kept-within i t t' (Ok (Full size n)) s l = few i t t' (said_search (Ok (Full size n))) s.outcome.0 s.outcome.1 l
+kept-within i t t' (Err k) s l = omega arith
 
-pub kept-in-room : (i : Input) (t t' : Cols) (a : SearchAnswer) (n k : ℕ) → Searched i t a t' → length t'.codes ≡ length t.codes
+pub kept-in-room : (i : Input) (t t' : Cols) (a : Result SearchAnswer Refusal) (n k : ℕ) → Searched i t a t' → length t'.codes ≡ length t.codes
     → length t.codes ≡ min n room → k ≡ kept_of a → k ≤ room
 kept-in-room i t t' a n k s l e h = omega (arith, kept-within i t t' a s l)
 
@@ -202,16 +204,16 @@ module _ (i : Input) (n : ℕ) (old : List ℕ) (d : Done) (new : List ℕ) (ran
       )
 
   -- each answer
-  outcome-over : (a : SearchAnswer) → d.answer ≡ a → Outcome i ran.given a ran.left
+  outcome-over : (a : Result SearchAnswer Refusal) → d.answer ≡ a → Outcome i ran.given a ran.left
       → ((d.listed.count ≤ room) × (d.listed.count ≤ n)) × Outcome i (node_cols ns old) a (node_cols (put_over d.listed ns) new)
   unfolding Answered kept_in
-  outcome-over (Found root n) e o =
-      let x = answered (said_search (Found root n)) (ran.kept-is ∙ ap kept_of e) o.0 o.1 in (x.0, (o.0, x.1))
-  outcome-over (None n) e o =
-      let x = answered (said_search (None n)) (ran.kept-is ∙ ap kept_of e) o.0 o.1 in (x.0, (o.0, x.1))
-  outcome-over (Full size n) e o =
-      let x = answered (said_search (Full size n)) (ran.kept-is ∙ ap kept_of e) o.0 o.1 in (x.0, (o.0, x.1))
-  outcome-over (Refused k) e o =
+  outcome-over (Ok (Found root n)) e o =
+      let x = answered (said_search (Ok (Found root n))) (ran.kept-is ∙ ap kept_of e) o.0 o.1 in (x.0, (o.0, x.1))
+  outcome-over (Ok (None n)) e o =
+      let x = answered (said_search (Ok (None n))) (ran.kept-is ∙ ap kept_of e) o.0 o.1 in (x.0, (o.0, x.1))
+  outcome-over (Ok (Full size n)) e o =
+      let x = answered (said_search (Ok (Full size n))) (ran.kept-is ∙ ap kept_of e) o.0 o.1 in (x.0, (o.0, x.1))
+  outcome-over (Err k) e o =
       let z : d.listed.count ≡ 0 = ran.kept-is ∙ ap kept_of e in
       let m : new ≡ old = sym ran.new_is ∙ ap (λ (x : Cols). x.matrices) o.1 ∙ ran.old-is in
       ((omega arith, omega arith), (o.0, ap (λ (j : ℕ). node_cols (take j d.listed.nodes ++ drop j ns) new) z ∙ ap (node_cols ns) m))

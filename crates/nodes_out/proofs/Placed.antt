@@ -16,8 +16,10 @@ use Rattle.formula.specs.declared.kinds.Node.{Node}
 use Rattle.grammar.specs.Token.{Typed}
 use Rattle.grammar.specs.Grammar.{Reads}
 use Rattle.grammar.specs.Nodes.{nodes_of}
-use Rattle.reader.specs.declared.Parsed.{Parsed}
-use Rattle.reader.specs.declared.Parsed.TheVariants.{Nodes, Broken, Stops, Unknown, Refused}
+use Rattle.std.proofs.Common.{Result, Ok, Err}
+use Rattle.std.specs.Result.{result_unwrap_or}
+use Rattle.reader.specs.declared.ParseError.{ParseError}
+use Rattle.reader.specs.declared.ParseError.TheVariants.{Broken, Stops, Unknown, Refused}
 use Rattle.reader.specs.Parsing.{said_parsed, ParseRow, Decides, Columns, room_of, large_formula, short_node_room, parse_rows, nodes_over, Taken, Parses}
 use Rattle.reader.proofs.Scratch.{nodes-length}
 use Rattle.nodes_out.specs.declared.Read.{Read}
@@ -64,7 +66,7 @@ module _ (file text : List ℕ) (old whole : Columns) (cut : room_of old ≡ min
 -- ---- the number of nodes
 
 -- an answer with nodes is no refusal's
-taken : (file text : List ℕ) (old new : Columns) (n : ℕ) → Decides (parse_rows file text old) (Taken file text old new) (said_parsed (Nodes n)) → Taken file text old new (said_parsed (Nodes n))
+taken : (file text : List ℕ) (old new : Columns) (n : ℕ) → Decides (parse_rows file text old) (Taken file text old new) (said_parsed (Ok n)) → Taken file text old new (said_parsed (Ok n))
 unfolding Decides
 taken file text old new n (inl a) = absurd (omega (arith, a.0))
 taken file text old new n (inr (_, inl a)) = absurd (omega (arith, a.0))
@@ -77,9 +79,14 @@ taken file text old new n (inr (_, inr (_, inr (_, inr (_, inr (_, inr (_, t))))
 abbrev list : Formula → List walk.Node
 list t = nodes_of codes 0 t
 
-count-within : (file text : List ℕ) (old new : Columns) (a : Parsed) → Parses file text old new (said_parsed a) → length new.codes ≡ length old.codes
+-- an answer's number of nodes, as the code takes it
+pub count-of : (a : Result ℕ ParseError) (k : ℕ) → k ≡ result_unwrap_or a 0 → k ≡ count_in a
+count-of (Ok n) k e = e
+count-of (Err x) k e = e
+
+count-within : (file text : List ℕ) (old new : Columns) (a : Result ℕ ParseError) → Parses file text old new (said_parsed a) → length new.codes ≡ length old.codes
     → count_in a ≤ length old.codes
-count-within file text old new (Nodes n) p l =
+count-within file text old new (Ok n) p l =
     let t = taken file text old new n p.answer in
     let e : n ≡ size t.formula = head-eq_of_cons-eq t.values in
     omega (
@@ -88,29 +95,29 @@ count-within file text old new (Nodes n) p l =
       length-map (list t.formula) (λ m. m.code),
       nodes-length codes 0 t.formula,
     )
-count-within file text old new (Broken o) p l = omega arith
-count-within file text old new (Stops o) p l = omega arith
-count-within file text old new (Unknown o) p l = omega arith
-count-within file text old new (Refused k) p l = omega arith
+count-within file text old new (Err (Broken o)) p l = omega arith
+count-within file text old new (Err (Stops o)) p l = omega arith
+count-within file text old new (Err (Unknown o)) p l = omega arith
+count-within file text old new (Err (Refused k)) p l = omega arith
 
-pub count-in-room : (file text : List ℕ) (old new : Columns) (a : Parsed) (k : ℕ) → Parses file text old new (said_parsed a)
+pub count-in-room : (file text : List ℕ) (old new : Columns) (a : Result ℕ ParseError) (k : ℕ) → Parses file text old new (said_parsed a)
     → length new.codes ≡ length old.codes → length old.codes ≤ room → k ≡ count_in a → k ≤ room
 count-in-room file text old new a k p l e h = omega (arith, count-within file text old new a p l)
 
 -- where the number is 0, as many as the answer says; else none
-count-taken : (a : Parsed) (k : ℕ) → (said_parsed a).number ≡ 0 → (said_parsed a).values ≡ k ∷ [] → count_in a ≡ k
-count-taken (Nodes n) k z e = head-eq_of_cons-eq e
-count-taken (Broken o) k z e = absurd (omega (arith, z))
-count-taken (Stops o) k z e = absurd (omega (arith, z))
-count-taken (Unknown o) k z e = absurd (omega (arith, z))
-count-taken (Refused r) k z e = absurd (nil≢cons e)
+count-taken : (a : Result ℕ ParseError) (k : ℕ) → (said_parsed a).number ≡ 0 → (said_parsed a).values ≡ k ∷ [] → count_in a ≡ k
+count-taken (Ok n) k z e = head-eq_of_cons-eq e
+count-taken (Err (Broken o)) k z e = absurd (omega (arith, z))
+count-taken (Err (Stops o)) k z e = absurd (omega (arith, z))
+count-taken (Err (Unknown o)) k z e = absurd (omega (arith, z))
+count-taken (Err (Refused r)) k z e = absurd (nil≢cons e)
 
-count-refused : (a : Parsed) → ((said_parsed a).number ≡ 0 → ⊥) → count_in a ≡ 0
-count-refused (Nodes n) f = absurd (f refl)
-count-refused (Broken o) f = refl
-count-refused (Stops o) f = refl
-count-refused (Unknown o) f = refl
-count-refused (Refused r) f = refl
+count-refused : (a : Result ℕ ParseError) → ((said_parsed a).number ≡ 0 → ⊥) → count_in a ≡ 0
+count-refused (Ok n) f = absurd (f refl)
+count-refused (Err (Broken o)) f = refl
+count-refused (Err (Stops o)) f = refl
+count-refused (Err (Unknown o)) f = refl
+count-refused (Err (Refused r)) f = refl
 
 -- an array cut to some length, and to that of a list
 pub cut-within : (count : ℕ) (l : List ℕ) → length l ≡ room → length (take count l) ≤ room

@@ -1,16 +1,14 @@
 -- What a search and the formula reader leave in arrays of their own, and that it can be put over a lent list.
 -- Assumes nothing.
-use Rattle.std.specs.Prelude.{◌≡◌, List, ◌++◌, ℕ, ◌≤◌, length, take, drop}
+use Rattle.std.specs.Prelude.{◌≡◌, List, ◌++◌, Result, Ok, Err, ℕ, ◌≤◌, length, take, drop}
 use Rattle.walk.specs.Input.{Input}
 use Rattle.rules.specs.Limits.{most_room}
 use Rattle.formula.specs.declared.kinds.Node.{Node}
 use Rattle.search.specs.declared.SearchAnswer.{SearchAnswer}
 use Rattle.search.specs.declared.SearchAnswer.TheVariants.{Found, None, Full}
-use Rattle.search.specs.declared.SearchAnswer.TheVariants as search
+use Rattle.rules.specs.declared.refusal.Refusal.{Refusal}
 use Rattle.search.specs.Search.{Searched}
-use Rattle.reader.specs.declared.Parsed.{Parsed}
-use Rattle.reader.specs.declared.Parsed.TheVariants.{Nodes, Broken, Stops, Unknown}
-use Rattle.reader.specs.declared.Parsed.TheVariants as reader
+use Rattle.reader.specs.declared.ParseError.{ParseError}
 use Rattle.reader.specs.Parsing.{said_parsed, Parses}
 use Rattle.nodes_out.specs.declared.Listed.{Listed}
 use Rattle.nodes_out.specs.declared.Done.{Done}
@@ -22,11 +20,11 @@ abbrev pub room : ℕ
 room = most_room
 
 -- the number kept, 0 at a refusal
-abbrev pub kept_of : SearchAnswer → ℕ
-kept_of (Found root n) = n.kept
-kept_of (None n) = n.kept
-kept_of (Full size n) = n.kept
-kept_of (search.Refused k) = 0
+abbrev pub kept_of : Result SearchAnswer Refusal → ℕ
+kept_of (Ok (Found root n)) = n.kept
+kept_of (Ok (None n)) = n.kept
+kept_of (Ok (Full size n)) = n.kept
+kept_of (Err refusal) = 0
 
 -- nodes, over what was there before
 abbrev pub put_over : Listed → List Node → List Node
@@ -45,12 +43,9 @@ Works i n old d new =
 -- ---- the formula reader
 
 -- the number of nodes, 0 at a refusal
-abbrev pub count_in : Parsed → ℕ
-count_in (Nodes n) = n
-count_in (Broken o) = 0
-count_in (Stops o) = 0
-count_in (Unknown o) = 0
-count_in (reader.Refused k) = 0
+abbrev pub count_in : Result ℕ ParseError → ℕ
+count_in (Ok n) = n
+count_in (Err e) = 0
 
 -- for whatever list of n nodes is lent: there is room for the formula's, and with these put over its first places it is as the reader has to leave it
 abbrev pub ReadIn : List ℕ → List ℕ → ℕ → Read → Type 0

@@ -4,12 +4,13 @@
 ghost use Rattle.std.specs.Prelude.{◌≡◌, ◌≤◌, min, length};
 ghost use Rattle.walk.specs.Input.{input_of};
 ghost use Rattle.nodes_in.specs.Arrays.{FieldsFilled};
-ghost use Rattle.nodes_out.specs.Arrays.{room, kept_of, count_in, Works, ReadIn};
+ghost use Rattle.nodes_out.specs.Arrays.{room, kept_of, Works, ReadIn};
 
 use formula::kinds::Node;
-use reader::Parsed;
+use reader::ParseError;
 use rules::ROOM;
 use rules::kinds::Place;
+use rules::refusal::Refusal;
 use search::SearchAnswer;
 
 // Nodes at the start of an array.
@@ -22,14 +23,14 @@ pub struct Listed {
 // What a search leaves: its answer, and the kept nodes.
 #[derive(Clone, Copy)]
 pub struct Done {
-    pub answer: SearchAnswer,
+    pub answer: Result<SearchAnswer, Refusal>,
     pub listed: Listed,
 }
 
 // What reading leaves: its answer, and the formula's nodes.
 #[derive(Clone, Copy)]
 pub struct Read {
-    pub answer: Parsed,
+    pub answer: Result<usize, ParseError>,
     pub listed: Listed,
 }
 
@@ -48,18 +49,18 @@ fn places() -> [u16; ROOM]
 fn room_of(length: usize) -> usize
     ensures { result ≡ min length room }
 {
-    if length < ROOM { length } else { ROOM }
+    length.min(ROOM)
 }
 
 // The number kept, 0 at a refusal.
-fn kept_in(answer: SearchAnswer) -> usize
+fn kept_in(answer: Result<SearchAnswer, Refusal>) -> usize
     ensures { result ≡ kept_of answer }
 {
     match answer {
-        SearchAnswer::Found { root: _, counts } => counts.kept,
-        SearchAnswer::None(counts) => counts.kept,
-        SearchAnswer::Full { size: _, counts } => counts.kept,
-        SearchAnswer::Refused(_) => 0,
+        Ok(SearchAnswer::Found { root: _, counts }) => counts.kept,
+        Ok(SearchAnswer::None(counts)) => counts.kept,
+        Ok(SearchAnswer::Full { size: _, counts }) => counts.kept,
+        Err(_) => 0,
     }
 }
 
@@ -81,34 +82,15 @@ fn pack(
         size: 0,
     };
     let mut list = [blank; ROOM];
-    let mut i: usize = 0;
-    while i < count {
-        let code = codes[i];
-        let left = lefts[i];
-        let right = rights[i];
-        let size = sizes[i];
+    for i in 0..count {
         list[i] = Node {
-            code,
-            left: Place(left),
-            right: Place(right),
-            size,
+            code: codes[i],
+            left: Place(lefts[i]),
+            right: Place(rights[i]),
+            size: sizes[i],
         };
-        i += 1;
     }
     list
-}
-
-// The number of nodes, 0 at a refusal.
-fn count_in(answer: Parsed) -> usize
-    ensures { result ≡ count_in answer }
-{
-    match answer {
-        Parsed::Nodes(n) => n,
-        Parsed::Broken(_) => 0,
-        Parsed::Stops(_) => 0,
-        Parsed::Unknown(_) => 0,
-        Parsed::Refused(_) => 0,
-    }
 }
 
 // A search that keeps its nodes in arrays of its own. What a list held before doesn't matter: only places below the number kept are written.
@@ -177,7 +159,7 @@ pub fn parse(names: &[u8], text: &[u8], length: usize) -> Read
         &mut rights[..room],
         &mut sizes[..room],
     );
-    let count = count_in(answer);
+    let count = answer.unwrap_or(0);
     let nodes = pack(codes, lefts, rights, sizes, count);
     Read {
         answer,

@@ -1,49 +1,50 @@
 -- Onward from a state: the states that the loop answers, the sizes that are passed over, and a turn.
 -- Assumes nothing.
-use Rattle.std.specs.Prelude.{◌≡◌, true, false, cond, List, ℕ, ◌+◌, ◌≤◌, ◌<◌, eqb, ltb}
+use Rattle.std.specs.Prelude.{◌≡◌, cond, List, ℕ, ◌+◌, ◌≤◌, ◌<◌, eqb, ltb, Option, None, Some}
 use Rattle.rules.specs.declared.kinds.Place.{Place}
 use Rattle.formula.specs.declared.kinds.Node.{Node}
 use Rattle.formula.specs.Kinds.{no_node}
 use Rattle.split.specs.declared.Cursor.{Cursor}
-use Rattle.split.specs.declared.Step.{Step}
-use Rattle.split.specs.declared.Step.TheVariants.{Candidate as Told, End}
+use Rattle.split.specs.declared.Candidate.{Candidate}
 use Rattle.starts.specs.Starts.{starts_of}
 use Rattle.order.specs.Size.{layer_of}
 use Rattle.order.specs.Steps.{Steps}
 use Rattle.order.specs.Ahead.{first, leaf_cursor}
 use Rattle.counting.specs.declared.Fate.{Fate}
-use Rattle.counting.specs.declared.Fate.TheVariants.{Found, Dropped, Full, Kept}
 use Rattle.counting.specs.declared.Counts.{Counts}
 use Rattle.counting.specs.Counting.{counted_by}
 use Rattle.state.specs.declared.State.{State}
+use Rattle.state.specs.declared.End.{End}
+use Rattle.state.specs.Ends.{more_to_try, at_found}
 use Rattle.onward.specs.declared.Seen.{Seen}
 use Rattle.onward.specs.declared.Turn.{Turn}
+use Rattle.onward.specs.declared.Turn.TheVariants.{Rests, Tries}
 
 -- the state by value, before a candidate, and at the end: "After the last, NONE."
 abbrev pub more_state : ℕ → Cursor → Counts → State
-more_state s at n = record { size = s; at = at; counts = n; end = 0; root = no_node }
+more_state s at n = record { size = s; at = at; counts = n; end = End.More; root = no_node }
 
-abbrev pub end_state : ℕ → Counts → ℕ → Node → State
+abbrev pub end_state : ℕ → Counts → End → Node → State
 end_state s n end root = record { size = s; at = leaf_cursor 0; counts = n; end = end; root = root }
 
 abbrev pub none_state : ℕ → Counts → State
-none_state s n = end_state s n 2 no_node
+none_state s n = end_state s n End.None no_node
 
--- after a candidate: `end` is 0 where the walk goes on, and FOUND's root is the candidate
-abbrev pub end_after : Fate → ℕ
-end_after Found = 1
-end_after Dropped = 0
-end_after Full = 3
-end_after Kept = 0
+-- after a candidate: whether the walk goes on, and FOUND's root is the candidate
+abbrev pub end_after : Fate → End
+end_after Fate.Found = End.Found
+end_after Fate.Dropped = End.More
+end_after Fate.Full = End.Full
+end_after Fate.Kept = End.More
 
-abbrev pub root_at : ℕ → Node → Node
-root_at end node = cond (eqb end 1) node no_node
+abbrev pub root_at : End → Node → Node
+root_at end node = cond (at_found end) node no_node
 
 abbrev pub over_state : ℕ → Counts → Fate → Node → State
 over_state s n v node = end_state s (counted_by v n) (end_after v) (root_at (end_after v) node)
 
 abbrev pub after_state : ℕ → Counts → Cursor → Fate → Node → State
-after_state s n next v node = cond (eqb (end_after v) 0) (more_state s next (counted_by v n)) (over_state s n v node)
+after_state s n next v node = cond (more_to_try (end_after v)) (more_state s next (counted_by v n)) (over_state s n v node)
 
 -- before the first candidate of the size after that of a state
 abbrev pub begin_state : List ℕ → State → State
@@ -63,27 +64,24 @@ starts_at sizes kept = starts_of sizes (up_to 65535 kept)
 pub data Over (m bound constants : ℕ) (sizes unary binary : List ℕ) (from : State) (starts : List ℕ) : State → List ℕ → Type 0 where
   here : Over m bound constants sizes unary binary from starts from starts
   on : {at : State} {begun : List ℕ} → Over m bound constants sizes unary binary from starts at begun
-      → Steps (layer_of at.size begun m constants unary binary) at.at End → at.size < bound
+      → Steps (layer_of at.size begun m constants unary binary) at.at None → at.size < bound
       → Over m bound constants sizes unary binary from starts (begin_state (starts_at sizes at.counts.kept) at) (starts_at sizes at.counts.kept)
 
 -- a walk that has ended stays; another stands at a candidate, or at the end of the last size
 pub record Seeks (m bound constants : ℕ) (sizes unary binary : List ℕ) (from : State) (starts starts' : List ℕ) (seen : Seen) : Type 0 where
-  pub stays : (from.end ≡ 0 → ⊥) → (seen ≡ record { state = from; step = End }) × (starts' ≡ starts)
-  pub goes : from.end ≡ 0 → Over m bound constants sizes unary binary from starts seen.state starts'
-  pub more : from.end ≡ 0 → seen.state.end ≡ 0
-  pub step_is : from.end ≡ 0 → Steps (layer_of seen.state.size starts' m constants unary binary) seen.state.at seen.step
-  pub last : from.end ≡ 0 → seen.step ≡ End → bound ≤ seen.state.size
+  pub stays : (from.end ≡ End.More → ⊥) → (seen ≡ record { state = from; step = None }) × (starts' ≡ starts)
+  pub goes : from.end ≡ End.More → Over m bound constants sizes unary binary from starts seen.state starts'
+  pub more : from.end ≡ End.More → seen.state.end ≡ End.More
+  pub step_is : from.end ≡ End.More → Steps (layer_of seen.state.size starts' m constants unary binary) seen.state.at seen.step
+  pub last : from.end ≡ End.More → seen.step ≡ None → bound ≤ seen.state.size
   pub size_in : from.size ≤ bound → seen.state.size ≤ bound
 
-abbrev pub rest_turn : State → Turn
-rest_turn st = record { rests = true; state = st; node = no_node; next = st.at }
+abbrev pub try_turn : State → Candidate → Turn
+try_turn st c = Tries st (record { code = c.code; left = c.left; right = c.right; size = up_to 255 st.size }) c.next
 
-abbrev pub try_turn : State → ℕ → Place → Place → Cursor → Turn
-try_turn st code l q next = record { rests = false; state = st; node = record { code = code; left = l; right = q; size = up_to 255 st.size }; next = next }
-
-abbrev pub step_turn : State → ℕ → Step → Turn
-step_turn st left (Told code l q next) = cond (eqb left 0) (rest_turn (more_state st.size st.at st.counts)) (try_turn st code l q next)
-step_turn st left End = rest_turn (none_state st.size st.counts)
+abbrev pub step_turn : State → ℕ → Option Candidate → Turn
+step_turn st left (Some c) = cond (eqb left 0) (Rests (more_state st.size st.at st.counts)) (try_turn st c)
+step_turn st left None = Rests (none_state st.size st.counts)
 
 abbrev pub turn_of : Seen → ℕ → Turn
-turn_of seen left = cond (eqb seen.state.end 0) (step_turn seen.state left seen.step) (rest_turn seen.state)
+turn_of seen left = cond (more_to_try seen.state.end) (step_turn seen.state left seen.step) (Rests seen.state)

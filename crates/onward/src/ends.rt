@@ -7,7 +7,7 @@ use counting::{Counts, Fate, count};
 use formula::kinds::Node;
 use rules::kinds::Place;
 use split::Cursor;
-use state::State;
+use state::{End, State};
 
 // The root where there is none.
 pub(crate) fn no_node() -> Node
@@ -29,13 +29,13 @@ pub(crate) fn more(size: usize, at: Cursor, counts: Counts) -> State
         size,
         at,
         counts,
-        end: 0,
+        end: End::More,
         root: no_node(),
     }
 }
 
 // A state of the walk's end.
-fn end_of(size: usize, counts: Counts, end: u64, root: Node) -> State
+fn end_of(size: usize, counts: Counts, end: End, root: Node) -> State
     ensures { result ≡ end_state size counts end root }
 {
     State {
@@ -57,26 +57,26 @@ fn end_of(size: usize, counts: Counts, end: u64, root: Node) -> State
 pub(crate) fn none(size: usize, counts: Counts) -> State
     ensures { result ≡ none_state size counts }
 {
-    end_of(size, counts, 2, no_node())
+    end_of(size, counts, End::None, no_node())
 }
 
 // What a fate says of the walk's end: nothing yet, FOUND or FULL.
-fn end_after(fate: Fate) -> u64
+fn end_after(fate: Fate) -> End
     ensures { result ≡ end_after fate }
 {
     match fate {
-        Fate::Found => 1,
-        Fate::Dropped => 0,
-        Fate::Full => 3,
-        Fate::Kept => 0,
+        Fate::Found => End::Found,
+        Fate::Dropped => End::More,
+        Fate::Full => End::Full,
+        Fate::Kept => End::More,
     }
 }
 
 // At FOUND the candidate is the root.
-fn root_at(end: u64, node: Node) -> Node
+fn root_at(end: End, node: Node) -> Node
     ensures { result ≡ root_at end node }
 {
-    if end == 1 {
+    if end == End::Found {
         return node;
     }
     no_node()
@@ -88,7 +88,7 @@ pub fn after(size: usize, counts: Counts, next: Cursor, fate: Fate, node: Node) 
 {
     let counted = count(fate, counts);
     let end = end_after(fate);
-    if end == 0 {
+    if end == End::More {
         return more(size, next, counted);
     }
     end_of(size, counted, end, root_at(end, node))

@@ -4,27 +4,29 @@
 pub mod ends;
 
 ghost use Rattle.std.specs.Prelude.{◌≡◌, ◌+◌, ◌^◌, ◌<◌};
-ghost use Rattle.onward.specs.Onward.{up_to, starts_at, begin_state, rest_turn, turn_of, Seeks};
+ghost use Rattle.onward.specs.Onward.{up_to, starts_at, begin_state, turn_of, Seeks};
 
 use formula::kinds::Node;
-use split::{Cursor, Step};
+use split::{Candidate, Cursor};
 use starts::of_table;
-use state::State;
+use state::{End, State};
 
 // Where the walk stands once the ends of sizes are passed over, and the step from there.
 #[derive(Clone, Copy)]
 pub struct Seen {
     pub state: State,
-    pub step: Step,
+    pub step: Option<Candidate>,
 }
 
-// A candidate that is tried, with the state before it and the cursor after it; or the state that is answered.
+// The state that is answered; or a candidate that is tried, with the state before it and the cursor after it.
 #[derive(Clone, Copy)]
-pub struct Turn {
-    pub rests: bool,
-    pub state: State,
-    pub node: Node,
-    pub next: Cursor,
+pub enum Turn {
+    Rests(State),
+    Tries {
+        state: State,
+        node: Node,
+        next: Cursor,
+    },
 }
 
 // A number as a byte; one above 255, which no size and no number of propositions is, as 0.
@@ -77,10 +79,10 @@ pub fn seek(
 ) -> Seen
     ensures { Seeks (up_to 255 m) bound constants sizes.now unary.now binary.now from starts.old starts.new result }
 {
-    if from.end != 0 {
+    if from.end != End::More {
         return Seen {
             state: from,
-            step: Step::End,
+            step: None,
         };
     }
     let propositions = byte_of(m);
@@ -95,28 +97,11 @@ pub fn seek(
             unary,
             binary,
         );
-        let Step::End = step else {
-            return Seen { state, step };
-        };
-        if bound <= state.size {
+        if step.is_some() || bound <= state.size {
             return Seen { state, step };
         }
         *starts = starts_at(sizes, state.counts.kept);
         state = begin(starts, state);
-    }
-}
-
-// No candidate is tried.
-fn rest(state: State) -> Turn
-    ensures { result ≡ rest_turn state }
-{
-    let node = ends::no_node();
-    let next = state.at;
-    Turn {
-        rests: true,
-        state,
-        node,
-        next,
     }
 }
 
@@ -125,33 +110,24 @@ pub fn turn_of(seen: Seen, left: u64) -> Turn
     ensures { result ≡ turn_of seen left }
 {
     let state = seen.state;
-    let step = seen.step;
-    if state.end != 0 {
-        return rest(state);
+    if state.end != End::More {
+        return Turn::Rests(state);
     }
-    let Step::Candidate {
-        code,
-        left: l,
-        right: q,
-        next,
-    } = step
-    else {
-        return rest(ends::none(state.size, state.counts));
+    let Some(candidate) = seen.step else {
+        return Turn::Rests(ends::none(state.size, state.counts));
     };
     if left == 0 {
-        return rest(ends::more(state.size, state.at, state.counts));
+        return Turn::Rests(ends::more(state.size, state.at, state.counts));
     }
-    let size = byte_of(state.size);
     let node = Node {
-        code,
-        left: l,
-        right: q,
-        size,
+        code: candidate.code,
+        left: candidate.left,
+        right: candidate.right,
+        size: byte_of(state.size),
     };
-    Turn {
-        rests: false,
+    Turn::Tries {
         state,
         node,
-        next,
+        next: candidate.next,
     }
 }

@@ -1,7 +1,7 @@
 -- Each return of the functions that read what stands where an operand is awaited.
 -- Assumes nothing.
 use mathlib.Core.Path.{◌≡◌, refl, sym, ap, ◌∙◌}
-use mathlib.Core.Logic.{inl, inr}
+use mathlib.Core.Logic.{◌⊎◌, inl, inr}
 use mathlib.Core.Bool.{Bool, true, false}
 use mathlib.Core.List.{List, [], ◌∷◌, ◌++◌, append-nil, append_assoc}
 use Prim.Native.Nat.{ℕ, suc, ◌+◌, ◌-◌, ◌≤◌, ◌<◌}
@@ -22,10 +22,16 @@ use Rattle.spelling.proofs.Same.{same-eq}
 use Rattle.grammar.proofs.Words.{KindIs, kind-is, kind-word, letter-word, ClassIs, class-is}
 use Rattle.grammar.proofs.Complete.{NoSquare}
 use Rattle.grammar.proofs.Passage as passage
+use Rattle.std.proofs.Common.{Result, Ok, Err}
+use Rattle.tokens.specs.declared.Stop.{Stop}
 use Rattle.operand.specs.declared.Awaited.{Awaited}
-use Rattle.operand.specs.declared.Awaited.TheVariants.{Operator, Open, Word as LeafWord, Bad}
+use Rattle.operand.specs.declared.Awaited.TheVariants.{Operator, Open, Word as LeafWord}
 use Rattle.operand.specs.Front.{Front, Fronts, Ran, Strong}
 use Rattle.tokens.proofs.Operators.{inside, head}
+
+-- no operand: the offset of the byte that can't begin or continue one
+abbrev pub bad : ℕ → Result Awaited Stop
+bad k = Err (record { 0 = k })
 
 -- what a test of a byte that was read says of the text
 pub of-byte : (f : ℕ → Bool) {t x : Bool} {b v : ℕ} → t ≡ f b → t ≡ x → b ≡ v → f v ≡ x
@@ -98,16 +104,16 @@ module _ (text : List ℕ) where
       unfolding scan_step
       bang-passes d = passage.pass-byte text (inside text at 32 e) (rw e)
 
-      pub strong-is : get_or text (at + 1) 0 ≡ 93 → Strong text at (Operator (at + 2) 2)
+      pub strong-is : get_or text (at + 1) 0 ≡ 93 → Strong text at (Ok (Operator (at + 2) 2))
       unfolding scan_step
       strong-is f =
           let n : at + 2 ≡ (at + 1) + 1 = omega arith in
           (omega arith, (λ d. rw n (passage.pass-then text (bang-passes d) (passage.pass-byte text (inside text (at + 1) 92 f) (rw f)))), refl)
 
-      pub strong-cut : (get_or text (at + 1) 0 ≡ 93 → ⊥) → Strong text at (Bad (at + 1))
+      pub strong-cut : (get_or text (at + 1) 0 ≡ 93 → ⊥) → Strong text at (bad (at + 1))
       strong-cut n d = passage.pass-stop text (bang-passes d) (rest-stops (at + 1) 93 [] d (let h = inside text at 32 e in omega arith) n)
 
-    pub strong-not : at ≤ length text → (get_or text at 0 ≡ 33 → ⊥) → Strong text at (Bad at)
+    pub strong-not : at ≤ length text → (get_or text at 0 ≡ 33 → ⊥) → Strong text at (bad at)
     strong-not h n d = rest-stops at 33 (93 ∷ []) d h n
 
   -- ---- word
@@ -141,7 +147,7 @@ module _ (text : List ℕ) where
         let g = r.grows (b ∷ []) (omega arith) in
         (g.0, g.1, (λ d. passage.pass-then text (letter-passes d) (g.2 d)), one-taken at end h r.forward g.3 ∙ ap (λ (v : ℕ). v ∷ g.0) e)
 
-    pub word-long : is_name_byte (get_or text end 0) ≡ true → Fronts text at (Bad end)
+    pub word-long : is_name_byte (get_or text end 0) ≡ true → Fronts text at (bad end)
     unfolding scan_step
     word-long w d =
         let g = ran in
@@ -153,7 +159,7 @@ module _ (text : List ℕ) where
       apart : NoWordByte (drop end text)
       apart = elim (dec_lt end (length text)) [ yes s ↦ rw (head text s refl) w | no s ↦ rw (drop_of_length-le text {i = end} (omega arith)) tt ]
 
-      pub word-leaf : ((end ≡ at + 1) → (b ≡ 88 → ⊥) × (b ≡ 70 → ⊥) × (b ≡ 71 → ⊥) × (b ≡ 85 → ⊥) × (b ≡ 82 → ⊥)) → Fronts text at (LeafWord end at)
+      pub word-leaf : ((end ≡ at + 1) → (b ≡ 88 → ⊥) × (b ≡ 70 → ⊥) × (b ≡ 71 → ⊥) × (b ≡ 85 → ⊥) × (b ≡ 82 → ⊥)) → Fronts text at (Ok (LeafWord end at))
       word-leaf n =
           let g = ran in
           let c = leaf-class b g.0 (λ q. n (let z : length g.0 ≡ 0 = ap length q in omega (arith, g.1))) in (
@@ -174,60 +180,53 @@ module _ (text : List ℕ) where
         clear : (get_or text end 0 ≡ 91 → ⊥) → NoSquare (drop end text)
         clear n = elim (dec_lt end (length text)) [ yes s ↦ rw (head text s refl) (ne_eqb (get_or text end 0) 91 n) | no s ↦ rw (drop_of_length-le text {i = end} (omega arith)) tt ]
 
-        word-prefix : (u : Unary) → classify (b ∷ []) ≡ prefixed u → (eqb b 88 ≡ true → get_or text end 0 ≡ 91 → ⊥) → Fronts text at (Operator end (unary_code u))
+        word-prefix : (u : Unary) → classify (b ∷ []) ≡ prefixed u → (eqb b 88 ≡ true → get_or text end 0 ≡ 91 → ⊥) → Fronts text at (Ok (Operator end (unary_code u)))
         word-prefix u c n = (omega (arith, r.forward), u, (λ d. passage.pass-then text (single d) (passage.word-prefix text (b ∷ []) d r.within apart c (λ x. clear (n (only x))))), refl)
           where
             only : same_bytes (b ∷ []) (88 ∷ []) ≡ true → eqb b 88 ≡ true
             only x = let q = same-eq (b ∷ []) (88 ∷ []) x in eq-eqb b 88 (cc)
 
         -- `X`, where no `[` follows; `F` and `G`
-        pub word_next : b ≡ 88 → (get_or text end 0 ≡ 91 → ⊥) → Fronts text at (Operator end 1)
+        pub word_next : b ≡ 88 → (get_or text end 0 ≡ 91 → ⊥) → Fronts text at (Ok (Operator end 1))
         unfolding classify
         word_next q n = word-prefix weak_next (rw q) (λ _. n)
 
-        pub word-finally : b ≡ 70 → Fronts text at (Operator end 3)
+        pub word-finally : b ≡ 70 → Fronts text at (Ok (Operator end 3))
         unfolding classify
         word-finally q = word-prefix finally (rw q) (λ x. absurd (true-false x (rw q)))
 
-        pub word-globally : b ≡ 71 → Fronts text at (Operator end 4)
+        pub word-globally : b ≡ 71 → Fronts text at (Ok (Operator end 4))
         unfolding classify
         word-globally q = word-prefix globally (rw q) (λ x. absurd (true-false x (rw q)))
 
         -- `U` and `R` begin no operand
-        word-neither : classify (b ∷ []) ≡ neither → Fronts text at (Bad end)
-        word-neither c d = passage.pass-stop text (single d) (passage.word-neither text (b ∷ []) d r.within apart c)
-
-        pub word-until : b ≡ 85 → Fronts text at (Bad end)
+        pub word-neither : (b ≡ 82) ⊎ (b ≡ 85) → Fronts text at (bad end)
         unfolding classify
-        word-until q = word-neither (rw q)
+        word-neither c d = passage.pass-stop text (single d) (passage.word-neither text (b ∷ []) d r.within apart (elim c [ inl q ↦ rw q | inr q ↦ rw q ]))
 
-        pub word-release : b ≡ 82 → Fronts text at (Bad end)
-        unfolding classify
-        word-release q = word-neither (rw q)
-
-        pub word-strong : b ≡ 88 → get_or text end 0 ≡ 91 → (f : Awaited) → Strong text (end + 1) f → Fronts text at f
+        pub word-strong : b ≡ 88 → get_or text end 0 ≡ 91 → (f : Result Awaited Stop) → Strong text (end + 1) f → Fronts text at f
         word-strong x q f s = by_answer f s
           where
             square-passes : (d : ℕ) → ScanPasses text (ready d) at [] (rest 33 (93 ∷ []) (pre strong_next) d) (end + 1)
             square-passes d = passage.pass-then text (single d) (rw x (square-byte d q))
 
-            by_answer : (f : Awaited) → Strong text (end + 1) f → Fronts text at f
-            by_answer (Operator next code) s = (omega (arith, s.0, r.forward), strong_next, (λ d. passage.pass-then text (square-passes d) (s.1 d)), s.2)
-            by_answer (Open next) s = absurd s
-            by_answer (LeafWord next start) s = absurd s
-            by_answer (Bad k) s = λ d. passage.pass-stop text (square-passes d) (s d)
+            by_answer : (f : Result Awaited Stop) → Strong text (end + 1) f → Fronts text at f
+            by_answer (Ok (Operator next code)) s = (omega (arith, s.0, r.forward), strong_next, (λ d. passage.pass-then text (square-passes d) (s.1 d)), s.2)
+            by_answer (Ok (Open next)) s = absurd s
+            by_answer (Ok (LeafWord next start)) s = absurd s
+            by_answer (Err e) s = λ d. passage.pass-stop text (square-passes d) (s d)
 
   -- ---- front
 
   module _ (at : ℕ) where
-    front-end : at ≤ length text → length text ≤ at → Fronts text at (Bad at)
+    front-end : at ≤ length text → length text ≤ at → Fronts text at (bad at)
     unfolding scan_end
     front-end h g d = passage.stop-end text (omega arith) refl
 
-    pub front-past : length text ≤ at → Front text at (Bad at)
+    pub front-past : length text ≤ at → Front text at (bad at)
     front-past g = ((λ h. front-end h g), λ _. refl)
 
-    pub front-inside : {f : Awaited} → at < length text → Fronts text at f → Front text at f
+    pub front-inside : {f : Result Awaited Stop} → at < length text → Fronts text at f → Front text at f
     front-inside h x = ((λ _. x), λ g. absurd (omega (arith, h, g)))
 
     module _ (h : at < length text) where
@@ -235,21 +234,21 @@ module _ (text : List ℕ) where
       unfolding scan_step kind
       blank-passes e d = passage.pass-byte text h (rw e)
 
-      pub front-blank : get_or text at 0 ≡ 32 → (f : Awaited) → Fronts text (at + 1) f → Fronts text at f
-      front-blank e (Operator next code) s = (omega (arith, s.0), s.1, (λ d. passage.pass-then text (blank-passes e d) (s.2 d)), s.3)
-      front-blank e (Open next) s = (omega (arith, s.0), λ d. passage.pass-then text (blank-passes e d) (s.1 d))
-      front-blank e (LeafWord next start) s = (omega (arith, s.0), s.1, (λ d. passage.pass-then text (blank-passes e d) (s.2 d)), s.3)
-      front-blank e (Bad k) s = λ d. passage.pass-stop text (blank-passes e d) (s d)
+      pub front-blank : get_or text at 0 ≡ 32 → (f : Result Awaited Stop) → Fronts text (at + 1) f → Fronts text at f
+      front-blank e (Ok (Operator next code)) s = (omega (arith, s.0), s.1, (λ d. passage.pass-then text (blank-passes e d) (s.2 d)), s.3)
+      front-blank e (Ok (Open next)) s = (omega (arith, s.0), λ d. passage.pass-then text (blank-passes e d) (s.1 d))
+      front-blank e (Ok (LeafWord next start)) s = (omega (arith, s.0), s.1, (λ d. passage.pass-then text (blank-passes e d) (s.2 d)), s.3)
+      front-blank e (Err k) s = λ d. passage.pass-stop text (blank-passes e d) (s d)
 
-      pub front-bang : get_or text at 0 ≡ 33 → Fronts text at (Operator (at + 1) 0)
+      pub front-bang : get_or text at 0 ≡ 33 → Fronts text at (Ok (Operator (at + 1) 0))
       unfolding scan_step kind
       front-bang e = (omega arith, not, (λ d. passage.pass-byte text h (rw e)), refl)
 
-      pub front-open : get_or text at 0 ≡ 40 → Fronts text at (Open (at + 1))
+      pub front-open : get_or text at 0 ≡ 40 → Fronts text at (Ok (Open (at + 1)))
       unfolding scan_step kind
       front-open e = (omega arith, λ d. passage.pass-byte text h (rw e))
 
-      pub front-none : (get_or text at 0 ≡ 32 → ⊥) → (get_or text at 0 ≡ 33 → ⊥) → (get_or text at 0 ≡ 40 → ⊥) → is_letter (get_or text at 0) ≡ false → Fronts text at (Bad at)
+      pub front-none : (get_or text at 0 ≡ 32 → ⊥) → (get_or text at 0 ≡ 33 → ⊥) → (get_or text at 0 ≡ 40 → ⊥) → is_letter (get_or text at 0) ≡ false → Fronts text at (bad at)
       unfolding scan_step
       front-none n1 n2 n3 l d = passage.stop-byte text h (by_kind (kind b) (kind-is b))
         where

@@ -1,7 +1,6 @@
 -- P1 to P10 of document 01, "Settled examples", as one list under a single claim over all of it.
 -- Assumes nothing.
-use Rattle.std.specs.Prelude.{List, [], ◌∷◌, ℕ, ◌-◌, ◌^◌}
-use Rattle.sequence.specs.declared.Answer.TheVariants.{Sequence}
+use Rattle.std.specs.Prelude.{List, [], ◌∷◌, ℕ, ◌-◌, ◌^◌, Ok}
 use Rattle.sequence.specs.Operators.{Unary, Binary, not, weak_next, strong_next, finally, globally, until, release, implies, equiv, unary_code, binary_code}
 use Rattle.sequence.specs.Sequence.{seq, UnaryAnswer, BinaryAnswer}
 
@@ -12,8 +11,8 @@ pub data Example : Type 0 where
 
 -- the contract of `apply_unary` or `apply_binary` allows this answer, and so no other (`unary-unique`, `binary-unique`)
 abbrev pub Claim : Example → Type 0
-Claim (one op n x r) = UnaryAnswer (unary_code op) (seq n x) (Sequence (seq n r))
-Claim (two op n x y r) = BinaryAnswer (binary_code op) (seq n x) (seq n y) (Sequence (seq n r))
+Claim (one op n x r) = UnaryAnswer (unary_code op) (seq n x) (Ok (seq n r))
+Claim (two op n x y r) = BinaryAnswer (binary_code op) (seq n x) (seq n y) (Ok (seq n r))
 
 abbrev pub All : List Example → Type 0
 All [] = Unit {0}

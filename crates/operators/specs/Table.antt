@@ -4,6 +4,8 @@ use Rattle.std.specs.Prelude.{◌≡◌, Bool, true, false, List, [], ◌∷◌,
 use Rattle.operators.specs.declared.Operator.{Operator}
 use Rattle.operators.specs.declared.Group.TheVariants.{Unary, Binary, Neither}
 use Rattle.sequence.specs.Operators as ops
+use Rattle.sequence.specs.Sequence.{not_unary, not_binary}
+use Rattle.rules.specs.Refusals.{Row}
 
 -- the four bytes that hold a token: those past its length are 0
 abbrev pub padded : List ℕ → List ℕ
@@ -30,3 +32,8 @@ pub data Listed (code : ℕ) (r : Operator) : Type 0 where
 abbrev pub GroupIs : Bool → ℕ → Type 0
 GroupIs true c = (op : ops.Unary) × (ops.unary_code op ≡ c)
 GroupIs false c = (op : ops.Binary) × (ops.binary_code op ≡ c)
+
+-- and where it is not, a code is refused
+abbrev pub off_group : Bool → ℕ → Row
+off_group true c = not_unary c
+off_group false c = not_binary c

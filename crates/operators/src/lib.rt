@@ -3,13 +3,14 @@
 
 ghost use Rattle.std.specs.Prelude.{◌≡◌, [], ◌∷◌};
 ghost use Rattle.rules.specs.Answers.{Tested};
-ghost use Rattle.rules.specs.Refusals.{Decided, first_of};
-ghost use Rattle.sequence.specs.Sequence.{not_unary, not_binary, unequal, UnaryAnswer, BinaryAnswer};
-ghost use Rattle.operators.specs.Table.{Listed, GroupIs};
+ghost use Rattle.rules.specs.Refusals.{Decided, number_of};
+ghost use Rattle.sequence.specs.Sequence.{unequal, UnaryAnswer, BinaryAnswer};
+ghost use Rattle.operators.specs.Table.{Listed, GroupIs, off_group};
 
-use sequence::{Answer, CharSeq};
+use rules::refusal::Refusal;
+use sequence::CharSeq;
 
-#[derive(Clone, Copy)]
+#[derive(Clone, Copy, Debug, PartialEq, Eq)]
 pub enum Group {
     Unary,
     Binary,
@@ -125,64 +126,45 @@ pub fn in_group(code: u8, unary: bool) -> bool
     }
 }
 
-// The first of two refusals in the order of the checks; 0 is none.
-fn first(earlier: u8, later: u8) -> u8
-    ensures { result ≡ first_of earlier later }
+// A code that is not of the group that is asked for is refused.
+fn check_group(code: u8, unary: bool) -> Result<(), Refusal>
+    ensures { Decided (off_group unary code ∷ []) (number_of result) }
 {
-    if earlier != 0 { earlier } else { later }
-}
-
-fn unary_refusal(code: u8) -> u8
-    ensures { Decided (not_unary code ∷ []) result }
-{
-    let group = operator_of(code).group;
-    match group {
-        Group::Unary => 0,
-        Group::Binary => 7,
-        Group::Neither => 7,
+    if in_group(code, unary) {
+        Ok(())
+    } else {
+        Err(Refusal::Code)
     }
 }
 
-fn binary_refusal(code: u8) -> u8
-    ensures { Decided (not_binary code ∷ []) result }
+fn check_lengths(left: CharSeq, right: CharSeq) -> Result<(), Refusal>
+    ensures { Decided (unequal left right ∷ []) (number_of result) }
 {
-    let group = operator_of(code).group;
-    match group {
-        Group::Unary => 7,
-        Group::Binary => 0,
-        Group::Neither => 7,
+    if left.length == right.length {
+        Ok(())
+    } else {
+        Err(Refusal::Unequal)
     }
-}
-
-fn unequal_refusal(left: CharSeq, right: CharSeq) -> u8
-    ensures { Decided (unequal left right ∷ []) result }
-{
-    if left.length != right.length { 10 } else { 0 }
 }
 
 // The unary operator of a code on a sequence, or a refusal.
-pub fn apply_unary(code: u8, seq: CharSeq) -> Answer
+#[tactic(auto, using(crate::proofs::Checks::unary_off, crate::proofs::Checks::unary_ill))]
+pub fn apply_unary(code: u8, seq: CharSeq) -> Result<CharSeq, Refusal>
     ensures { UnaryAnswer code seq result }
 {
-    let group = unary_refusal(code);
-    let ill_formed = seq.refusal();
-    let refusal = first(group, ill_formed);
-    if refusal != 0 {
-        return Answer::Refused(refusal);
-    }
-    Answer::Sequence(seq.unary(code))
+    check_group(code, true)?;
+    seq.check()?;
+    Ok(seq.unary(code))
 }
 
 // The binary operator of a code on two sequences of one length, or a refusal.
-pub fn apply_binary(code: u8, left: CharSeq, right: CharSeq) -> Answer
+#[tactic(auto, using(crate::proofs::Checks::binary_off, crate::proofs::Checks::left_ill, crate::proofs::Checks::right_ill, crate::proofs::Checks::lengths_apart))]
+pub fn apply_binary(code: u8, left: CharSeq, right: CharSeq) -> Result<CharSeq, Refusal>
     ensures { BinaryAnswer code left right result }
 {
-    let group = binary_refusal(code);
-    let ill_formed = first(left.refusal(), right.refusal());
-    let lengths = unequal_refusal(left, right);
-    let refusal = first(first(group, ill_formed), lengths);
-    if refusal != 0 {
-        return Answer::Refused(refusal);
-    }
-    Answer::Sequence(left.binary(code, right))
+    check_group(code, false)?;
+    left.check()?;
+    right.check()?;
+    check_lengths(left, right)?;
+    Ok(left.binary(code, right))
 }

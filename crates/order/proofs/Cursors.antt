@@ -6,13 +6,13 @@ use mathlib.Core.Bool.{Bool, true, false, cond}
 use mathlib.Core.List.{List, [], ◌∷◌, ◌++◌, map}
 use Prim.Native.Nat.{ℕ, zero, suc, ◌+◌, ◌-◌, ◌/◌, ◌≤◌, ◌<◌}
 use native.Mathlib.Omega.{arith}
+use Rattle.std.specs.Prelude.{Some}
 use native.Mathlib.Decide.{dec_le}
 use lib.ListN.{length, get_or, drop}
 use lib.Dec.{ltb}
 use Rattle.rules.specs.Lists.{each}
-use Rattle.rules.specs.declared.kinds.Place.{Place}
 use Rattle.split.specs.declared.Cursor.{Cursor}
-use Rattle.split.specs.declared.Step.TheVariants.{Candidate}
+use Rattle.split.specs.declared.Candidate.{Candidate}
 use Rattle.order.specs.Size.{Layer, layer_of, first_place}
 use Rattle.split.specs.Split.{range, cursor, column, part_from}
 use Rattle.order.specs.Ahead.{leaf_cursor, left_start, left_end, right_start, right_end, split_codes, split_cursors, part_ahead, parts_ahead, ahead}
@@ -31,13 +31,13 @@ drop-first {A} (y ∷ l) zero d x xs e = (cc e, cc e)
 drop-first (y ∷ l) (suc j) d x xs e = drop-first l j d x xs e
 
 -- a step from the cursor after j leads to the one after j + 1
-pub after-step : (g : Layer) (at : Cursor) (j : ℕ) {code : ℕ} {left right : Place} {next : Cursor} → Steps g at (Candidate code left right next)
+pub after-step : (g : Layer) (at : Cursor) (j : ℕ) {c : Candidate} → Steps g at (Some c)
     → ahead g at ≡ drop j (ahead g (first g.starts g.size))
-    → (next ≡ cursor_after g (suc j)) × (ahead g next ≡ drop (suc j) (ahead g (first g.starts g.size)))
+    → (c.next ≡ cursor_after g (suc j)) × (ahead g c.next ≡ drop (suc j) (ahead g (first g.starts g.size)))
 unfolding cursor_after
-after-step g at j {next = next} s e =
+after-step g at j {c = c} s e =
     let (here, f, n) = step-ahead s in
-    let w = drop-first (ahead g (first g.starts g.size)) j (leaf_cursor 0) here (ahead g next) (sym e ∙ f) in
+    let w = drop-first (ahead g (first g.starts g.size)) j (leaf_cursor 0) here (ahead g c.next) (sym e ∙ f) in
     (n ∙ ap (next_cursor g) (sym w.0), sym w.1)
 
 -- a size's first cursor is within

@@ -4,8 +4,9 @@ use mathlib.Core.Path.{◌≡◌, refl, sym, ap, ◌∙◌}
 use mathlib.Core.Bool.{Bool, true, false}
 use mathlib.Core.Logic.{inl, inr}
 use mathlib.Core.List.{List, [], map}
-use Prim.Native.Nat.{ℕ, suc, ◌+◌, ◌-◌, ◌≤◌, ◌<◌}
+use Prim.Native.Nat.{ℕ, suc, ◌+◌, ◌≤◌, ◌<◌}
 use native.Mathlib.Omega.{arith}
+use Rattle.std.specs.Prelude.{Option, None}
 use native.Mathlib.Decide.{dec_le}
 use lib.ListN.{length, get_or, length-append, length-map, get_or-append}
 use lib.Seq.{get_or-append-add}
@@ -14,8 +15,7 @@ use borrow.Author.Tests.{eq-eqb, ne_eqb, eqb-true, eqb-false}
 use Rattle.rules.specs.Lists.{count}
 use Rattle.starts.proofs.Numbers.{length-count, get_d-map-count}
 use Rattle.split.specs.declared.Cursor.{Cursor}
-use Rattle.split.specs.declared.Step.{Step}
-use Rattle.split.specs.declared.Step.TheVariants.{End}
+use Rattle.split.specs.declared.Candidate.{Candidate}
 use Rattle.split.specs.Split.{Cand, cand, told, Takes}
 use Rattle.order.specs.Size.{Layer, constant_cands, leaf_cands}
 use Rattle.order.specs.Ahead.{leaf_cursor, leaves_ahead, leaf_at, after_leaf}
@@ -69,21 +69,21 @@ module _ (m constants : ℕ) where
     unfolding leaves_ahead
     out h = rw (range-nil at.operator (length (leaf_cands m constants)) h)
 
-    leaf-takes : {step : Step} → at.operator < length (leaf_cands m constants) → step ≡ told (leaf_at m constants (leaf_cursor at.operator)) (after_leaf at)
+    leaf-takes : {step : Option Candidate} → at.operator < length (leaf_cands m constants) → step ≡ told (leaf_at m constants (leaf_cursor at.operator)) (after_leaf at)
         → InLeaves m constants at step
     unfolding leaves_ahead
     leaf-takes h e = Takes.takes (leaf_cursor at.operator) (rw (range_cons at.operator (length (leaf_cands m constants)) h)) e (record { operator-in = h })
 
-    pub leaf-proposition : {step : Step} → at.operator < m → step ≡ told (cand 16 at.operator 0) (after_leaf at) → InLeaves m constants at step
+    pub leaf-proposition : {step : Option Candidate} → at.operator < m → step ≡ told (cand 16 at.operator 0) (after_leaf at) → InLeaves m constants at step
     leaf-proposition h e = leaf-takes (omega (arith, some-leaves)) (e ∙ ap (λ (c : Cand). told c (after_leaf at)) (sym (proposition-at at.operator h)))
 
-    pub leaf-none : (constants ≡ 1 → ⊥) → m ≤ at.operator → InLeaves m constants at End
+    pub leaf-none : (constants ≡ 1 → ⊥) → m ≤ at.operator → InLeaves m constants at None
     leaf-none h k = Takes.ends (out (omega (arith, few-leaves h))) refl
 
-    pub leaf-past : constants ≡ 1 → m + 2 ≤ at.operator → InLeaves m constants at End
+    pub leaf-past : constants ≡ 1 → m + 2 ≤ at.operator → InLeaves m constants at None
     leaf-past h k = Takes.ends (out (omega (arith, more-leaves h))) refl
 
-    pub leaf-constant : {step : Step} (n : ℕ) → constants ≡ 1 → at.operator ≡ m + n → n < 2
+    pub leaf-constant : {step : Option Candidate} (n : ℕ) → constants ≡ 1 → at.operator ≡ m + n → n < 2
         → step ≡ told (get_or (constant_cands true) n (cand 0 0 0)) (after_leaf at) → InLeaves m constants at step
     leaf-constant n h k l e =
         leaf-takes (omega (arith, more-leaves h)) (e ∙ ap (λ (c : Cand). told c (after_leaf at)) (sym (constant-at at.operator n h k)))

@@ -5,16 +5,16 @@ use mathlib.Core.Bool.{Bool, true, false, cond, not}
 use mathlib.Core.List.{List, [], ◌∷◌, ◌++◌, map, append-nil}
 use Prim.Native.Nat.{ℕ, zero, suc, ◌+◌, ◌-◌, ◌/◌, ◌≤◌, ◌<◌}
 use native.Mathlib.Omega.{arith}
+use Rattle.std.specs.Prelude.{Option, None, Some}
+use Rattle.std.proofs.lemmas.Option.{none-some, same_Some}
 use native.Mathlib.Decide.{dec_le}
 use lib.ListN.{length, get_or}
 use borrow.Author.Tests.{lt-ltb, le-ltb}
 use Rattle.walk.specs.Walk.{left_sizes}
 use Rattle.rules.specs.Lists.{each, count}
 use Rattle.split.specs.declared.Cursor.{Cursor}
-use Rattle.split.specs.declared.Step.{Step}
-use Rattle.split.specs.declared.Step.TheVariants.{Candidate, End}
-use Rattle.rules.specs.declared.kinds.Place.{Place}
-use Rattle.split.specs.Split.{Cand, cand, range, commuting, cursor, told, both, one_row, column, cand_in}
+use Rattle.split.specs.declared.Candidate.{Candidate}
+use Rattle.split.specs.Split.{Cand, cand, range, commuting, cursor, candidate_of, told, both, one_row, column, cand_in}
 use Rattle.order.specs.Size.{Layer, layer_of, leaf_cands, order_cands, first_place, unary_cands, pair_cands, cands_of_size, candidates}
 use Rattle.order.specs.Ahead.{leaf_cursor, leaves_ahead, leaf_at, codes_in, split_cursors, part_ahead, parts_ahead, ahead, candidate_at, next_cursor, rest, first}
 use Rattle.order.specs.Steps.{Rises, Safe, CursorWithin, Steps}
@@ -25,47 +25,40 @@ use Rattle.order.proofs.Lists.{map-append, map_each, map-map, each-range, each-s
 
 -- ---- a step
 
+told-is : {c : Candidate} {x : Cand} {next : Cursor} → Some c ≡ told x next → c ≡ candidate_of x next
+told-is e = same_Some _ _ e
+
 -- THE STEP TELLS THE FIRST OF WHAT IS LEFT, and the rest is left at the cursor after it
-module _ {g : Layer} {at : Cursor} where
-  pub step_left : {code : ℕ} {left right : Place} {next : Cursor} → Steps g at (Candidate code left right next)
-      → rest g at ≡ cand code left.0 right.0 ∷ rest g next
+module _ {g : Layer} {at : Cursor} {c : Candidate} where
+  pub step_left : Steps g at (Some c) → rest g at ≡ cand c.code c.left.0 c.right.0 ∷ rest g c.next
   unfolding rest
-  step_left {code} {left} {right} {next} (Steps.ends e d) = let z : ◌≡◌ {A = ℕ} 0 1 = cc in absurd (omega arith)
-  step_left {code} {left} {right} {next} (Steps.takes here e d s w) =
-      let n : next ≡ next_cursor g here = cc in
-      let c : code ≡ (candidate_at g here).code = cc in
-      let l : left.0 ≡ (candidate_at g here).left = ap (λ (p : Place). p.0) (let q : left ≡ record { 0 = (candidate_at g here).left } = cc in q) in
-      let r : right.0 ≡ (candidate_at g here).right = ap (λ (p : Place). p.0) (let q : right ≡ record { 0 = (candidate_at g here).right } = cc in q) in
-      rw (e, n, c, l, r)
+  step_left (Steps.ends e d) = absurd (none-some c (sym d))
+  step_left (Steps.takes here e d s w) = let q = told-is d in rw (q, e)
 
   -- no index is out of range with it
-  pub step-safe : {code : ℕ} {left right : Place} {next : Cursor} → Steps g at (Candidate code left right next) → Rises g → Safe g (cand code left.0 right.0)
-  step-safe {code} {left} {right} {next} (Steps.ends e d) r = let z : ◌≡◌ {A = ℕ} 0 1 = cc in absurd (omega arith)
-  step-safe {code} {left} {right} {next} (Steps.takes here e d s w) r =
-      let c : code ≡ (candidate_at g here).code = cc in
-      let l : left.0 ≡ (candidate_at g here).left = ap (λ (p : Place). p.0) (let q : left ≡ record { 0 = (candidate_at g here).left } = cc in q) in
-      let q : right.0 ≡ (candidate_at g here).right = ap (λ (p : Place). p.0) (let q : right ≡ record { 0 = (candidate_at g here).right } = cc in q) in
-      rw (c, l, q) (s r)
+  pub step-safe : Steps g at (Some c) → Rises g → Safe g (cand c.code c.left.0 c.right.0)
+  step-safe (Steps.ends e d) r = absurd (none-some c (sym d))
+  step-safe (Steps.takes here e d s w) r = rw (told-is d) (s r)
 
   -- and it is the one at the first of the cursors ahead, the next one being the cursor after it
-  pub step-ahead : {code : ℕ} {left right : Place} {next : Cursor} → Steps g at (Candidate code left right next)
-      → (here : Cursor) × (ahead g at ≡ here ∷ ahead g next) × (next ≡ next_cursor g here)
-  step-ahead {code} {left} {right} {next} (Steps.ends e d) = let z : ◌≡◌ {A = ℕ} 0 1 = cc in absurd (omega arith)
-  step-ahead {code} {left} {right} {next} (Steps.takes here e d s w) =
-      let n : next ≡ next_cursor g here = cc in
+  pub step-ahead : Steps g at (Some c) → (here : Cursor) × (ahead g at ≡ here ∷ ahead g c.next) × (c.next ≡ next_cursor g here)
+  step-ahead (Steps.ends e d) = absurd (none-some c (sym d))
+  step-ahead (Steps.takes here e d s w) =
+      let n = ap (λ (x : Candidate). x.next) (told-is d) in
       (here, e ∙ ap (λ (x : Cursor). here ∷ ahead g x) (sym n), n)
 
-  pub step-within : {code : ℕ} {left right : Place} {next : Cursor} → Steps g at (Candidate code left right next) → Rises g → CursorWithin g next
-  step-within {code} {left} {right} {next} (Steps.ends e d) r = let z : ◌≡◌ {A = ℕ} 0 1 = cc in absurd (omega arith)
-  step-within {code} {left} {right} {next} (Steps.takes here e d s w) r = let n : next ≡ next_cursor g here = cc in rw n (w r)
+  pub step-within : Steps g at (Some c) → Rises g → CursorWithin g c.next
+  step-within (Steps.ends e d) r = absurd (none-some c (sym d))
+  step-within (Steps.takes here e d s w) r = rw (told-is d) (w r)
 
-  pub end-left : Steps g at End → rest g at ≡ []
+module _ {g : Layer} {at : Cursor} where
+  pub end-left : Steps g at None → rest g at ≡ []
   unfolding rest
   end-left (Steps.ends e d) = rw e
-  end-left (Steps.takes here e d s w) = let z : ◌≡◌ {A = ℕ} 0 1 = cc in absurd (omega arith)
+  end-left (Steps.takes here e d s w) = absurd (none-some _ d)
 
 -- any two steps that the contract allows are one
-pub steps-unique : {g : Layer} {at : Cursor} {x y : Step} → Steps g at x → Steps g at y → x ≡ y
+pub steps-unique : {g : Layer} {at : Cursor} {x y : Option Candidate} → Steps g at x → Steps g at y → x ≡ y
 steps-unique (Steps.ends e d) (Steps.ends e' d') = cc
 steps-unique (Steps.ends e d) (Steps.takes h e' d' s w) = let z : ◌≡◌ {A = ℕ} 0 1 = cc in absurd (omega arith)
 steps-unique (Steps.takes h e d s w) (Steps.ends e' d') = let z : ◌≡◌ {A = ℕ} 0 1 = cc in absurd (omega arith)

@@ -2,25 +2,23 @@
 -- Assumes nothing.
 use mathlib.Core.Path.{◌≡◌, refl, sym, ap, ◌∙◌, subst}
 use mathlib.Core.Bool.{Bool, true, false, cond}
-use mathlib.Core.Logic.{◌⊎◌, inl, inr}
 use mathlib.Core.List.{List, [], ◌∷◌, ◌++◌}
 use Prim.Native.Nat.{ℕ, zero, suc, ◌+◌, ◌-◌, ◌/◌, ◌≤◌, ◌<◌}
 use native.Mathlib.Omega.{arith}
+use Rattle.std.specs.Prelude.{Option, None}
+use Rattle.std.specs.Option.{is_some}
+use Rattle.std.proofs.lemmas.Bool.{true≢false}
 use native.Mathlib.Decide.{dec_le}
-use lib.ListN.{length, get_or, get_or-eq_default}
-use denote.Enum.Declared.{tag_of}
-use lib.Dec.{ltb}
+use lib.ListN.{length}
 use borrow.Author.Tests.{lt-ltb, le-ltb, eq-eqb, ne_eqb}
-use Rattle.split.specs.contracts.Step.{the_type}
 use Rattle.rules.specs.Lists.{each}
 use Rattle.split.specs.declared.Cursor.{Cursor}
 use Rattle.split.specs.declared.Part.{Part}
-use Rattle.split.specs.declared.Step.{Step}
-use Rattle.split.specs.declared.Step.TheVariants.{End}
+use Rattle.split.specs.declared.Candidate.{Candidate}
 use Rattle.split.specs.Split.{cand, range, cursor, cand_in, halfway, after_in, Takes, InPart, CursorStands}
 use Rattle.order.specs.Size.{Layer, first_place}
-use Rattle.order.specs.Ahead.{leaf_cursor, left_end, right_end}
-use Rattle.order.specs.Ahead.{leaves_ahead, leaf_at, after_leaf, split_codes, codes_in, split_cursors, part_ahead, parts_ahead, ahead, candidate_at, next_cursor, first}
+use Rattle.order.specs.Ahead.{left_end, right_end}
+use Rattle.order.specs.Ahead.{leaves_ahead, leaf_at, after_leaf, split_codes, codes_in, split_cursors, part_ahead, parts_ahead, ahead, candidate_at, next_cursor}
 use Rattle.order.specs.Steps.{CodeIn, Rises, Safe, CursorWithin, Steps}
 use Rattle.order.specs.Inner.{LeafAhead, InLeaves, CursorStandsIn, part_of, part_start, PartsTake}
 use Rattle.split.proofs.Loops.{resume-in, resume-out, resume-done, resume-fresh}
@@ -67,11 +65,11 @@ after-split codes at = go (halfway codes at)
     go false = refl
 
 -- a step in its split
-pub parts-step : (g : Layer) (at : Cursor) → at.split < (g.size + 1) / 2 → (step : Step) → tag_of the_type step ≡ 0
+pub parts-step : (g : Layer) (at : Cursor) → at.split < (g.size + 1) / 2 → {step : Option Candidate} → is_some step ≡ true
     → InPart (codes_in g at.split) (part_of g.starts g.size at.split) at step
     → PartsTake g at step
-parts-step g at h step e (Takes.ends f d) = absurd (omega (arith, e, ap (tag_of the_type) d))
-parts-step g at h step e (Takes.takes here f d p) =
+parts-step g at h e (Takes.ends f d) = absurd (true≢false (sym e ∙ ap is_some d))
+parts-step g at h e (Takes.takes here f d p) =
     let i = at.split in
     let codes = codes_in g i in
     let tail = each (range (i + 1) ((g.size + 1) / 2)) (split_cursors g) in
@@ -95,7 +93,7 @@ pub part-later : (starts : List ℕ) (s i : ℕ) → 1 ≤ i → i < s
 part-later starts s zero h k = absurd (omega arith)
 part-later starts s (suc i) h k = let e : s - suc i ≡ s - 1 - suc i + 1 = omega arith in rw e
 
-pub in-later : (unary binary : List ℕ) (places : Part) (at : Cursor) (step : Step) → (at.split ≡ 0 → ⊥) → InPart binary places at step
+pub in-later : (unary binary : List ℕ) (places : Part) (at : Cursor) (step : Option Candidate) → (at.split ≡ 0 → ⊥) → InPart binary places at step
     → InPart (split_codes unary binary at.split) places at step
 in-later unary binary places at step h w = subst (λ (codes : List ℕ). InPart codes places at step) (go at.split h) w
   where
@@ -185,16 +183,16 @@ module _ (g : Layer) where
       }
 
   module _ (at : Cursor) where
-    pub steps-beyond : length g.starts ≤ g.size → Steps g at End
+    pub steps-beyond : length g.starts ≤ g.size → Steps g at None
     steps-beyond h = Steps.ends (ahead-beyond h at) refl
 
-    pub steps-none : g.size ≡ 0 → Steps g at End
+    pub steps-none : g.size ≡ 0 → Steps g at None
     steps-none e = elim (dec_le (length g.starts) g.size) [
       | yes h ↦ steps-beyond h
       | no h ↦ Steps.ends (ahead-parts (omega arith) (λ d. omega arith) at ∙ parts_out g at (omega arith)) refl
     ]
 
-    pub steps-leaves : {step : Step} → g.size < length g.starts → g.size ≡ 1 → InLeaves g.propositions g.constants at step → Steps g at step
+    pub steps-leaves : {step : Option Candidate} → g.size < length g.starts → g.size ≡ 1 → InLeaves g.propositions g.constants at step → Steps g at step
     steps-leaves h e (Takes.ends f d) = Steps.ends (ahead-leaves h e at ∙ f) d
     steps-leaves h e (Takes.takes here f d p) =
         Steps.takes here
@@ -203,7 +201,7 @@ module _ (g : Layer) where
         (λ r. rw (leaf-candidate e here) (leaf-safe g here p))
         (λ r. rw (leaf-after e here) (leaf-within e here p))
 
-    pub steps-parts : {step : Step} → g.size < length g.starts → 2 ≤ g.size
+    pub steps-parts : {step : Option Candidate} → g.size < length g.starts → 2 ≤ g.size
         → PartsTake g at step → Steps g at step
     steps-parts h k (Takes.ends f d) = Steps.ends (ahead-parts h (λ e. omega arith) at ∙ f) d
     steps-parts h k (Takes.takes here f d p) =
@@ -213,12 +211,3 @@ module _ (g : Layer) where
         (rw (part-candidate e here, part-after e here) d)
         (λ r. rw (part-candidate e here) (part-safe g here r here.split k p.split-in p.stands))
         (λ r. rw (part-after e here) (part-within r k here p))
-
--- a size before 2, or one that `starts` doesn't reach, begins at no place
-pub first-zero : (starts : List ℕ) (s : ℕ) → (s < 2) ⊎ (length starts < s) → leaf_cursor 0 ≡ first starts s
-first-zero starts s (inl h) = rw (le-ltb 1 s (omega arith))
-first-zero starts s (inr h) = go (ltb 1 s)
-  where
-    go : (b : Bool) → leaf_cursor 0 ≡ cursor 0 (cond b (get_or starts (s - 1) 0) 0) 0 0 false
-    go true = ap (λ (l : ℕ). cursor 0 l 0 0 false) (sym (get_or-eq_default starts 0 (omega arith)))
-    go false = refl

@@ -1,9 +1,8 @@
 -- What a step says, for every cursor.
 -- Assumes nothing.
-use Rattle.std.specs.Prelude.{◌≡◌, ◌⊎◌, cond, List, [], ◌∷◌, ℕ, ◌≤◌, ◌<◌, length, get_or, eqb}
+use Rattle.std.specs.Prelude.{◌≡◌, ◌⊎◌, cond, List, [], ◌∷◌, ℕ, ◌≤◌, ◌<◌, length, get_or, eqb, Option, None}
 use Rattle.split.specs.declared.Cursor.{Cursor}
-use Rattle.split.specs.declared.Step.{Step}
-use Rattle.split.specs.declared.Step.TheVariants.{End}
+use Rattle.split.specs.declared.Candidate.{Candidate}
 use Rattle.split.specs.Split.{Cand, told}
 use Rattle.order.specs.Size.{Layer, leaf_cands, first_place}
 use Rattle.order.specs.Ahead.{codes_in, ahead, candidate_at, next_cursor}
@@ -37,8 +36,8 @@ pub record CursorWithin (g : Layer) (at : Cursor) : Type 0 where
   pub right-in : at.right ≤ first_place g.starts g.size
 
 -- none is ahead, and the step says so; or `here` is next: the step tells its candidate and the cursor after it, from which on the others are ahead, and which is within
-pub data Steps (g : Layer) (at : Cursor) (step : Step) : Type 0 where
-  ends : ahead g at ≡ [] → step ≡ End → Steps g at step
+pub data Steps (g : Layer) (at : Cursor) (step : Option Candidate) : Type 0 where
+  ends : ahead g at ≡ [] → step ≡ None → Steps g at step
   takes : (here : Cursor) → ahead g at ≡ here ∷ ahead g (next_cursor g here) → step ≡ told (candidate_at g here) (next_cursor g here) → (Rises g → Safe g (candidate_at g here)) → (Rises g
       → CursorWithin g (next_cursor g here))
       → Steps g at step

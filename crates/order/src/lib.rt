@@ -1,8 +1,8 @@
 // The candidates of a size in document 01's order, one at a time, by a cursor that knows no matrix (the loops of aux.rs and cache.rs).
 #![tactic(auto)]
 
-ghost use Rattle.std.specs.Prelude.{◌≡◌, ◌≤◌, ◌<◌, length};
-ghost use Rattle.split.specs.Split.{InPart};
+ghost use Rattle.std.specs.Prelude.{◌≡◌, ◌+◌, ◌^◌, ◌≤◌, ◌<◌, length};
+ghost use Rattle.split.specs.Split.{cand, candidate_of, InPart};
 ghost use Rattle.order.specs.Size.{layer_of};
 ghost use Rattle.order.specs.Ahead.{leaf_cursor, split_codes, first};
 ghost use Rattle.order.specs.Steps.{Steps};
@@ -10,55 +10,40 @@ ghost use Rattle.order.specs.Inner.{InLeaves, part_of, part_start, InParts};
 
 use formula::kinds::{FALSE, PROPOSITION, TRUE};
 use rules::kinds::{Place, Proposition};
-use split::{Cursor, Part, Step};
+use split::{Candidate, Cursor, Part};
 
-fn leaf_cursor(o: usize) -> Cursor
-    ensures { result ≡ leaf_cursor o }
+// A leaf by its code and left field, at a position in the list of leaves, and the cursor before the next one.
+fn leaf(code: u8, left: Place, position: usize) -> Candidate
+    requires { position + 1 < 2 ^ 64 }
+    ensures { result ≡ candidate_of (cand code left.0 0) (leaf_cursor (position + 1)) }
 {
-    Cursor {
-        split: 0,
-        left: 0,
-        right: 0,
-        operator: o,
-        second: false,
+    Candidate {
+        code,
+        left,
+        right: Place(0),
+        next: Cursor::at_leaf(position + 1),
     }
 }
 
 // The leaves: the propositions in order, then, if constants are asked for, false, then true.
-fn leaf_step(at: Cursor, propositions: u8, constants: u8) -> Step
+fn leaf_step(at: Cursor, propositions: u8, constants: u8) -> Option<Candidate>
     ensures { InLeaves propositions constants at result }
 {
     let o = at.operator;
     let m = propositions as usize;
     if o < m {
-        let left = Proposition(o as u8).to_left();
-        return Step::Candidate {
-            code: PROPOSITION,
-            left,
-            right: Place(0),
-            next: leaf_cursor(o + 1),
-        };
+        return Some(leaf(PROPOSITION, Proposition(o as u8).to_left(), o));
     }
     if constants != 1 {
-        return Step::End;
+        return None;
     }
     if o == m {
-        return Step::Candidate {
-            code: FALSE,
-            left: Place(0),
-            right: Place(0),
-            next: leaf_cursor(o + 1),
-        };
+        return Some(leaf(FALSE, Place(0), o));
     }
     if o == m + 1 {
-        return Step::Candidate {
-            code: TRUE,
-            left: Place(0),
-            right: Place(0),
-            next: leaf_cursor(o + 1),
-        };
+        return Some(leaf(TRUE, Place(0), o));
     }
-    Step::End
+    None
 }
 
 // The places of split i of size s. Split 0 has the unary operators: places of size s-1 to the left, and to the right the one number 0.
@@ -85,17 +70,11 @@ fn part_start(starts: &[u16], s: usize, i: usize) -> Cursor
     requires { (1 ≤ i) × (i < s) × (s < length starts.now) }
     ensures { result ≡ part_start starts.now s i }
 {
-    Cursor {
-        split: i,
-        left: starts[i] as usize,
-        right: starts[s - 1 - i] as usize,
-        operator: 0,
-        second: false,
-    }
+    Cursor::at_pair(i, starts[i] as usize, starts[s - 1 - i] as usize)
 }
 
 // The cursor's split.
-fn split_step(at: Cursor, part: Part, unary: &[u8], binary: &[u8]) -> Step
+fn split_step(at: Cursor, part: Part, unary: &[u8], binary: &[u8]) -> Option<Candidate>
     ensures { InPart (split_codes unary.now binary.now at.split) part at result }
 {
     if at.split == 0 {
@@ -105,22 +84,26 @@ fn split_step(at: Cursor, part: Part, unary: &[u8], binary: &[u8]) -> Step
 }
 
 // The splits of size s: the unary operators, then i from 1 while i < ceil(s/2).
-fn splits_step(at: Cursor, starts: &[u16], s: usize, unary: &[u8], binary: &[u8]) -> Step
+fn splits_step(
+    at: Cursor,
+    starts: &[u16],
+    s: usize,
+    unary: &[u8],
+    binary: &[u8],
+) -> Option<Candidate>
     requires { (2 ≤ s) × (s < length starts.now) }
     ensures { InParts starts.now s unary.now binary.now at result }
 {
     let half = (s + 1) / 2;
     let mut here = at;
-    while here.split < half {
-        let i = here.split;
-        let part = part_of(starts, s, i);
-        let step = split_step(here, part, unary, binary);
-        let Step::End = step else {
+    for i in at.split..half {
+        let step = split_step(here, part_of(starts, s, i), unary, binary);
+        if step.is_some() {
             return step;
-        };
+        }
         here = part_start(starts, s, i + 1);
     }
-    Step::End
+    None
 }
 
 // The candidate of size s at a cursor and the cursor after it, whatever the cursor's numbers. `starts` has the first place of each size: the places of
@@ -133,14 +116,14 @@ pub fn next(
     constants: u8,
     unary: &[u8],
     binary: &[u8],
-) -> Step
+) -> Option<Candidate>
     ensures { Steps (layer_of s starts.now propositions constants unary.now binary.now) at result }
 {
     if s == 0 {
-        return Step::End;
+        return None;
     }
     if starts.len() <= s {
-        return Step::End;
+        return None;
     }
     if s == 1 {
         return leaf_step(at, propositions, constants);
@@ -153,16 +136,8 @@ pub fn first(starts: &[u16], s: usize) -> Cursor
     ensures { result ≡ first starts.now s }
 {
     if s < 2 {
-        return leaf_cursor(0);
+        return Cursor::at_leaf(0);
     }
-    if starts.len() < s {
-        return leaf_cursor(0);
-    }
-    Cursor {
-        split: 0,
-        left: starts[s - 1] as usize,
-        right: 0,
-        operator: 0,
-        second: false,
-    }
+    let left = starts.get(s - 1).copied().unwrap_or(0);
+    Cursor::at_pair(0, left as usize, 0)
 }

@@ -1,6 +1,7 @@
 -- scarfpylon_check: what it returns and leaves in `out`, for every input.
 -- Assumes nothing.
-use Rattle.std.specs.Prelude.{◌≡◌, List, [], ◌∷◌, ℕ}
+use Rattle.std.specs.Prelude.{◌≡◌, List, [], ◌∷◌, ℕ, Result}
+use Rattle.rules.specs.declared.refusal.Refusal.{Refusal}
 use Rattle.rules.specs.Refusals.{Row, Decided}
 use Rattle.formula.specs.Nodes.{Node}
 use Rattle.session.specs.Recording.{Recording}
@@ -17,4 +18,4 @@ module _ (i : Recording) (k : List Node) (root : Node) (old : List ℕ) where
   pub record CheckDone (returned : ℕ) (new : List ℕ) : Type 0 where
     pub number : Decided out_check_rows returned
     pub refused : (returned ≡ 0 → ⊥) → new ≡ old
-    pub passed : returned ≡ 0 → (v : Verdict) × CheckAnswer i k root (said_verdict v) × (new ≡ written (said_words (said_verdict v)) old)
+    pub passed : returned ≡ 0 → (v : Result Verdict Refusal) × CheckAnswer i k root (said_verdict v) × (new ≡ written (said_words (said_verdict v)) old)

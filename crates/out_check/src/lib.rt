@@ -11,6 +11,7 @@ ghost use Rattle.out_check.specs.Inner.{CheckUnanswered};
 
 use formula::kinds::Node;
 use rules::kinds::Place;
+use rules::refusal::Refusal;
 use verdict::Verdict;
 
 // Whether the root's formula separates the marked sessions, and if not, the first session that disagrees.
@@ -59,31 +60,33 @@ pub fn check(
 fn unanswered(r: usize, m: usize) -> u64
     ensures { CheckUnanswered r m result }
 {
-    session::data::test(r, m, &[], &[], &[]) as u64
-}
-
-fn number(answer: Verdict) -> u64
-    ensures { result ≡ returned_of (said_verdict answer) }
-{
-    match answer {
-        Verdict::Accepted => 0,
-        Verdict::Disagrees(_) => 0,
-        Verdict::Refused(number) => number as u64,
+    match session::data::test(r, m, &[], &[], &[]) {
+        Ok(()) => 0,
+        Err(refusal) => u8::from(refusal) as u64,
     }
 }
 
-fn put(answer: Verdict, out: &mut [u64])
+fn number(answer: Result<Verdict, Refusal>) -> u64
+    ensures { result ≡ returned_of (said_verdict answer) }
+{
+    match answer {
+        Ok(_) => 0,
+        Err(refusal) => u8::from(refusal) as u64,
+    }
+}
+
+fn put(answer: Result<Verdict, Refusal>, out: &mut [u64])
     requires { out_words ≤ length out.old }
     ensures { out.new ≡ written (said_words (said_verdict answer)) out.old }
 {
     match answer {
-        Verdict::Accepted => {
+        Ok(Verdict::Accepted) => {
             out[0] = 1;
         }
-        Verdict::Disagrees(session) => {
+        Ok(Verdict::Disagrees(session)) => {
             out[0] = 0;
             out[1] = session.0 as u64;
         }
-        Verdict::Refused(_) => {}
+        Err(_) => {}
     }
 }

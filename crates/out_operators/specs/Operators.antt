@@ -1,8 +1,7 @@
 -- scarfpylon_unary and scarfpylon_binary: what they return and leave in `out`, for every input.
 -- Assumes nothing.
-use Rattle.std.specs.Prelude.{◌≡◌, List, [], ◌∷◌, ◌++◌, ℕ}
+use Rattle.std.specs.Prelude.{◌≡◌, List, [], ◌∷◌, ◌++◌, ℕ, Ok}
 use Rattle.sequence.specs.declared.CharSeq.{CharSeq}
-use Rattle.sequence.specs.declared.Answer.TheVariants.{Sequence}
 use Rattle.rules.specs.Refusals.{Row, Decided}
 use Rattle.sequence.specs.Sequence.{seq, unary_rows, binary_rows, Answers, UnaryRead, BinaryRead}
 use Rattle.out.specs.Out.{out_short, word_from, written}
@@ -15,7 +14,7 @@ out_last rows old = rows ++ (out_short old ∷ [])
 pub record OperatorDone (rows : List Row) (asked : CharSeq → Type 0) (old : List ℕ) (returned : ℕ) (new : List ℕ) : Type 0 where
   pub number : Decided (out_last rows old) returned
   pub refused : (returned ≡ 0 → ⊥) → new ≡ old
-  pub passed : returned ≡ 0 → (s : CharSeq) × Answers rows asked (Sequence s) × (new ≡ written (word_from 0 s.values ∷ []) old)
+  pub passed : returned ≡ 0 → (s : CharSeq) × Answers rows asked (Ok s) × (new ≡ written (word_from 0 s.values ∷ []) old)
 
 -- the operator with that code, read on the sequence of that length and word
 abbrev pub UnaryDone : ℕ → ℕ → ℕ → List ℕ → ℕ → List ℕ → Type 0

@@ -4,7 +4,8 @@
 ghost use Rattle.out_operators.specs.Operators.{UnaryDone, BinaryDone};
 ghost use Rattle.out_operators.specs.Inner.{SequencePut};
 
-use sequence::{Answer, CharSeq};
+use rules::refusal::Refusal;
+use sequence::CharSeq;
 
 // The unary operator of a code on a sequence.
 pub fn unary(code: u8, length: u64, word: u64, out: &mut [u64]) -> u64
@@ -35,17 +36,17 @@ pub fn binary(code: u8, llen: u64, lword: u64, rlen: u64, rword: u64, out: &mut 
 }
 
 // An operator's answer. It is the one whose `out` is looked at last.
-fn put(answer: Answer, out: &mut [u64]) -> u64
+fn put(answer: Result<CharSeq, Refusal>, out: &mut [u64]) -> u64
     ensures { SequencePut answer out.old result out.new }
 {
     match answer {
-        Answer::Sequence(sequence) => {
+        Ok(sequence) => {
             if out.len() < out::OUT_WORDS {
                 return 3;
             }
             out[0] = sequence.values;
             0
         }
-        Answer::Refused(number) => number as u64,
+        Err(refusal) => u8::from(refusal) as u64,
     }
 }

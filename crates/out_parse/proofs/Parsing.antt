@@ -15,8 +15,9 @@ use Rattle.formula.proofs.Trees.{size-pos}
 use Rattle.grammar.specs.Token.{Typed}
 use Rattle.grammar.specs.Grammar.{Reads}
 use Rattle.grammar.proofs.Theorems.{formula-or-offset}
-use Rattle.reader.specs.declared.Parsed.{Parsed}
-use Rattle.reader.specs.declared.Parsed.TheVariants.{Nodes, Broken, Stops, Unknown, Refused}
+use Rattle.std.proofs.Common.{Result, Ok, Err}
+use Rattle.reader.specs.declared.ParseError.{ParseError}
+use Rattle.reader.specs.declared.ParseError.TheVariants.{Broken, Stops, Unknown, Refused}
 use Rattle.reader.specs.Parsing.{Decides, Columns, columns, no_formula, said_parsed, Taken, Parses}
 use Rattle.reader.specs.Parsing as reader
 use Rattle.reader.proofs.Unique.{parse-unique}
@@ -100,14 +101,14 @@ module _ (names text : List ℕ) where
       short-refuses c s (inr (x, inr (y, inr (z, inr (u, inr (v, inl a)))))) e = omega (arith, a.0)
       short-refuses c s (inr (x, inr (y, inr (z, inr (u, inr (v, inr (w, _))))))) e = w [] (refl, h)
 
-    no_words : (p : Parsed) → ((said_parsed p).number ≡ 0 → ⊥) → old ≡ written (said_words (said_parsed p)) old
-    no_words (Nodes n) f = absurd (f refl)
-    no_words (Broken o) f = refl
-    no_words (Stops o) f = refl
-    no_words (Unknown o) f = refl
-    no_words (Refused k) f = refl
+    no_words : (p : Result ℕ ParseError) → ((said_parsed p).number ≡ 0 → ⊥) → old ≡ written (said_words (said_parsed p)) old
+    no_words (Ok n) f = absurd (f refl)
+    no_words (Err (Broken o)) f = refl
+    no_words (Err (Stops o)) f = refl
+    no_words (Err (Unknown o)) f = refl
+    no_words (Err (Refused k)) f = refl
 
-    pub parse-short : length old < out_words → (p : Parsed) (m : Columns) → Parses names text none m (said_parsed p)
+    pub parse-short : length old < out_words → (p : Result ℕ ParseError) (m : Columns) → Parses names text none m (said_parsed p)
         → ParseDone names text lent old (returned_of (said_parsed p)) lent old
     parse-short h p m a =
         let d = to-short h m lent (said_parsed p) a.answer in
@@ -135,7 +136,7 @@ module _ (names text : List ℕ) where
       from-long s (inr (x, inr (y, inr (z, inr (v, inr (w, inl a)))))) = absurd (omega (arith, a.1.1))
       from-long s (inr (x, inr (y, inr (z, inr (v, inr (w, inr (_, d))))))) = inr (x, inr (y, inr (z, inr (v, inr (w, d)))))
 
-    pub parse-long : out_words ≤ length old → (p : Parsed) (u : Columns) (new : List ℕ) → Parses names text lent u (said_parsed p)
+    pub parse-long : out_words ≤ length old → (p : Result ℕ ParseError) (u : Columns) (new : List ℕ) → Parses names text lent u (said_parsed p)
         → new ≡ written (said_words (said_parsed p)) old → ParseDone names text lent old (returned_of (said_parsed p)) u new
     parse-long h p u new a e =
         record { parsed = p; answer = to-long h u (said_parsed p) a.answer; refused = a.refused; number = refl; words = e }

@@ -1,7 +1,7 @@
 -- scarfpylon_parse: what it returns and leaves in the lent slices and in `out`, for every input.
 -- Assumes nothing.
-use Rattle.std.specs.Prelude.{◌≡◌, List, [], ◌∷◌, ℕ, ◌<◌, length}
-use Rattle.reader.specs.declared.Parsed.{Parsed}
+use Rattle.std.specs.Prelude.{◌≡◌, List, [], ◌∷◌, Result, ℕ, ◌<◌, length}
+use Rattle.reader.specs.declared.ParseError.{ParseError}
 use Rattle.reader.specs.Parsing.{ParseRow, Decides, number_row, Columns, broken_names, long_text, no_formula, unknown_name, large_formula, short_node_room, said_parsed, Taken}
 use Rattle.out.specs.Out.{out_words, written, returned_of, said_words}
 
@@ -25,7 +25,7 @@ module _ (names text : List ℕ) (lent : Columns) (old : List ℕ) where
   -- the rows decide, and where none is given the four slices hold what the reader writes; "a refusal writes nothing"; else "out[0] = nodes written, the
   -- root last"
   pub record ParseDone (returned : ℕ) (lent' : Columns) (new : List ℕ) : Type 0 where
-    pub parsed : Parsed
+    pub parsed : Result ℕ ParseError
     pub answer : Decides out_parse_rows (Taken names text lent lent') (said_parsed parsed)
     pub refused : ((said_parsed parsed).number ≡ 0 → ⊥) → lent' ≡ lent
     pub number : returned ≡ returned_of (said_parsed parsed)

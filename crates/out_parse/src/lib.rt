@@ -7,7 +7,7 @@ ghost use Rattle.out.specs.Out.{out_words, written, returned_of, said_words};
 ghost use Rattle.out_parse.specs.Parse.{ParseDone};
 ghost use Rattle.out_parse.specs.Inner.{ParseUnanswered};
 
-use reader::Parsed;
+use reader::ParseError;
 
 // The nodes of a formula that is typed, in the lent slices, the root last.
 pub fn parse(
@@ -45,30 +45,24 @@ fn unanswered(names: &[u8], text: &[u8]) -> u64
     number(answer)
 }
 
-fn number(answer: Parsed) -> u64
+fn number(answer: Result<usize, ParseError>) -> u64
     requires { returned_of (said_parsed answer) < 2 ^ 32 }
     ensures { result ≡ returned_of (said_parsed answer) }
 {
     match answer {
-        Parsed::Nodes(_) => 0,
-        Parsed::Broken(offset) => out::refused_at(8, offset as u32),
-        Parsed::Stops(offset) => out::refused_at(11, offset as u32),
-        Parsed::Unknown(offset) => out::refused_at(13, offset as u32),
-        Parsed::Refused(number) => number as u64,
+        Ok(_) => 0,
+        Err(ParseError::Broken(offset)) => out::refused_at(8, offset as u32),
+        Err(ParseError::Stops(offset)) => out::refused_at(11, offset as u32),
+        Err(ParseError::Unknown(offset)) => out::refused_at(13, offset as u32),
+        Err(ParseError::Refused(refusal)) => u8::from(refusal) as u64,
     }
 }
 
-fn put(answer: Parsed, out: &mut [u64])
+fn put(answer: Result<usize, ParseError>, out: &mut [u64])
     requires { out_words ≤ length out.old }
     ensures { out.new ≡ written (said_words (said_parsed answer)) out.old }
 {
-    match answer {
-        Parsed::Nodes(count) => {
-            out[0] = count as u64;
-        }
-        Parsed::Broken(_) => {}
-        Parsed::Stops(_) => {}
-        Parsed::Unknown(_) => {}
-        Parsed::Refused(_) => {}
+    if let Ok(count) = answer {
+        out[0] = count as u64;
     }
 }

@@ -12,7 +12,7 @@ ghost use Rattle.out_print.specs.Inner.{PrintUnanswered};
 
 use formula::kinds::Node;
 use rules::kinds::Place;
-use text::Printed;
+use text::PrintError;
 
 // The text of the root's formula, at the start of the lent room.
 pub fn print(
@@ -69,26 +69,22 @@ fn unanswered(
     number(answer)
 }
 
-fn number(answer: Printed) -> u64
+fn number(answer: Result<usize, PrintError>) -> u64
     requires { OffsetFits (said_printed answer) }
     ensures { result ≡ returned_of (said_printed answer) }
 {
     match answer {
-        Printed::Text(_) => 0,
-        Printed::Broken(offset) => out::refused_at(8, offset as u32),
-        Printed::Refused(number) => number as u64,
+        Ok(_) => 0,
+        Err(PrintError::Broken(offset)) => out::refused_at(8, offset as u32),
+        Err(PrintError::Refused(refusal)) => u8::from(refusal) as u64,
     }
 }
 
-fn put(answer: Printed, out: &mut [u64])
+fn put(answer: Result<usize, PrintError>, out: &mut [u64])
     requires { out_words ≤ length out.old }
     ensures { out.new ≡ written (said_words (said_printed answer)) out.old }
 {
-    match answer {
-        Printed::Text(length) => {
-            out[0] = length as u64;
-        }
-        Printed::Broken(_) => {}
-        Printed::Refused(_) => {}
+    if let Ok(length) = answer {
+        out[0] = length as u64;
     }
 }

@@ -1,10 +1,10 @@
 -- scarfpylon_report: what it returns and leaves in the lent text and in `out`, for every input.
 -- Assumes nothing.
-use Rattle.std.specs.Prelude.{◌≡◌, List, [], ◌∷◌, ℕ}
+use Rattle.std.specs.Prelude.{◌≡◌, List, [], ◌∷◌, ℕ, Result}
+use Rattle.rules.specs.declared.refusal.Refusal.{Refusal}
 use Rattle.rules.specs.Refusals.{Decided}
 use Rattle.session.specs.Recording.{Recording}
 use Rattle.formula.specs.Nodes.{Node}
-use Rattle.report.specs.declared.Reported.{Reported}
 use Rattle.report.specs.Report.{said_report, report_rows_with, Reports}
 use Rattle.out.specs.Out.{out_short, written, said_words}
 
@@ -12,4 +12,4 @@ use Rattle.out.specs.Out.{out_short, written, said_words}
 pub record ReportDone (i : Recording) (k : List Node) (root : Node) (text old : List ℕ) (returned : ℕ) (text' new : List ℕ) : Type 0 where
   pub number : Decided (report_rows_with i k root text (out_short old ∷ [])) returned
   pub refused : (returned ≡ 0 → ⊥) → (text' ≡ text) × (new ≡ old)
-  pub passed : returned ≡ 0 → (a : Reported) × Reports i k root text (said_report a) text' × (new ≡ written (said_words (said_report a)) old)
+  pub passed : returned ≡ 0 → (a : Result ℕ Refusal) × Reports i k root text (said_report a) text' × (new ≡ written (said_words (said_report a)) old)

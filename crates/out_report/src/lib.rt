@@ -10,8 +10,8 @@ ghost use Rattle.out_report.specs.Report.{ReportDone};
 ghost use Rattle.out_report.specs.Inner.{ReportUnanswered};
 
 use formula::kinds::Node;
-use report::Reported;
 use rules::kinds::Place;
+use rules::refusal::Refusal;
 
 // Per session and node under the root: the first snapshot where it holds, the first where it doesn't, and at how many it holds.
 pub fn report(
@@ -91,23 +91,20 @@ fn unanswered(
     number(answer)
 }
 
-fn number(answer: Reported) -> u64
+fn number(answer: Result<usize, Refusal>) -> u64
     ensures { result ≡ (said_report answer).number }
 {
     match answer {
-        Reported::Text(_) => 0,
-        Reported::Refused(number) => number as u64,
+        Ok(_) => 0,
+        Err(refusal) => u8::from(refusal) as u64,
     }
 }
 
-fn put(answer: Reported, out: &mut [u64])
+fn put(answer: Result<usize, Refusal>, out: &mut [u64])
     requires { out_words ≤ length out.old }
     ensures { out.new ≡ written (said_words (said_report answer)) out.old }
 {
-    match answer {
-        Reported::Text(length) => {
-            out[0] = length as u64;
-        }
-        Reported::Refused(_) => {}
+    if let Ok(length) = answer {
+        out[0] = length as u64;
     }
 }

@@ -1,6 +1,6 @@
 -- Each return of `parse`: which row decides, and why those before it are not given.
 -- Assumes nothing.
-use mathlib.Core.Path.{◌≡◌, refl, sym, ap, subst, ◌∙◌}
+use mathlib.Core.Path.{◌≡◌, refl, sym, ap, ◌∙◌}
 use mathlib.Core.Logic.{◌⊎◌, inl, inr, ⊎_elim}
 use mathlib.Core.List.{List, [], ◌∷◌, map}
 use Prim.Native.Nat.{ℕ, min, ◌≤◌, ◌<◌}
@@ -16,11 +16,13 @@ use Rattle.grammar.specs.Token.{Typed}
 use Rattle.grammar.specs.Grammar.{Reads}
 use Rattle.grammar.specs.Nodes.{nodes_of}
 use Rattle.grammar.proofs.Theorems.{one-tree, formula-not-refused}
-use Rattle.reader.specs.declared.Parsed.TheVariants.{Nodes, Broken, Stops, Unknown, Refused}
-use Rattle.descent.specs.declared.judge.TextJudged.{TextJudged}
-use Rattle.descent.specs.declared.judge.TextJudged.TheVariants.{Nodes as Sized, Broken as BrokenNames, Long, Room as NoRoom, Stops as StopsAt, Unknown as UnknownName, Large}
+use Rattle.std.proofs.Common.{Ok, Err}
+use Rattle.rules.specs.declared.refusal.Refusal.TheVariants.{Room as TooLittleRoom}
+use Rattle.descent.specs.declared.judge.JudgeError.{JudgeError}
+use Rattle.descent.specs.declared.judge.JudgeError.TheVariants.{Broken as BrokenNames, Long, Room as NoRoom, Stops as StopsAt, Unknown as UnknownName, Large}
+use Rattle.reader.specs.declared.ParseError.TheVariants.{Refused}
 use Rattle.reader.specs.Words.{most_bytes, Deep}
-use Rattle.reader.specs.Parsing.{said_parsed, ParseRow, Decides, Columns, columns, room_of, nodes_over, long_text, no_formula, unknown_name, large_formula, short_node_room, Taken, Parses}
+use Rattle.reader.specs.Parsing.{said_parsed, refused_by, ParseRow, Decides, Columns, columns, room_of, nodes_over, long_text, no_formula, unknown_name, large_formula, short_node_room, Taken, Parses}
 use Rattle.descent.specs.Packed.{codes_by}
 use Rattle.descent.specs.Judging.{AllKnown, JudgedIs}
 use Rattle.reader.specs.Lent.{Enough, Unpacked, ReadsGood}
@@ -29,12 +31,6 @@ use Rattle.reader.proofs.Resolving.{all_listed, resolved, resolved-size, resolve
 use Rattle.reader.proofs.Unpacking.{nodes-range, codes-filled, lefts-filled, rights-filled, sizes-filled}
 
 module _ (file text : List ℕ) (old : Columns) where
-  -- ---- names
-
-  answer-broken : {o : ℕ} → whole_names file ≡ bad o → Parses file text old old (said_parsed (Broken o))
-  unfolding Decides
-  answer-broken {o} e = record { answer = inl (refl, (o, refl, e)); refused = λ n. refl }
-
   -- good names, and the rest of the contract
   with-names : GoodNames file → {new : Columns} {s : Said} → ReadsGood file text old new s → Parses file text old new s
   unfolding Decides
@@ -65,43 +61,25 @@ module _ (file text : List ℕ) (old : Columns) where
 
   -- ---- rows that are
 
-  module _ (scratch new : List ℕ) {j : TextJudged} (is : JudgedIs file text scratch new j) where
-    pub names-broken : {o : ℕ} → j ≡ BrokenNames o → Parses file text old old (said_parsed (Broken o))
-    names-broken e = answer-broken (subst (JudgedIs file text scratch new) e is)
-
-    pub answer-long : j ≡ Long → Parses file text old old (said_parsed (Refused 12))
+  module _ (scratch new : List ℕ) where
+    -- what the judge refuses; a scratch for the longest text is no shorter than a text that is not too long
+    pub answer-refused : most_bytes ≤ length scratch → (e : JudgeError) → JudgedIs file text scratch new (Err e) → Parses file text old old (said_parsed (Err (refused_by e)))
     unfolding Decides
-    answer-long e = let x = subst (JudgedIs file text scratch new) e is in with-names x.1 (record { answer = inl (refl, (refl, x.0)); refused = λ n. refl })
-
-    -- a scratch for the longest text is no shorter than a text that is not too long
-    pub never-room : most_bytes ≤ length scratch → j ≡ NoRoom → ⊥
-    never-room l e = let x = subst (JudgedIs file text scratch new) e is in omega (arith, x.0, x.1)
-
-    pub answer-stops : {k : ℕ} → j ≡ StopsAt k → Parses file text old old (said_parsed (Stops k))
-    unfolding Decides
-    answer-stops {k} e =
-        let x = subst (JudgedIs file text scratch new) e is in
-        with-names x.2 (record { answer = inr (not-long x.0, inl (refl, (k, refl, x.1))); refused = λ n. refl })
-
-    pub answer-unknown : {k : ℕ} → j ≡ UnknownName k → Parses file text old old (said_parsed (Unknown k))
-    unfolding Decides
-    answer-unknown {k} e =
-        let x = subst (JudgedIs file text scratch new) e is in
+    answer-refused l (BrokenNames o) x = record { answer = inl (refl, (o, refl, x)); refused = λ n. refl }
+    answer-refused l Long x = with-names x.1 (record { answer = inl (refl, (refl, x.0)); refused = λ n. refl })
+    answer-refused l NoRoom x = absurd (omega (arith, x.0, x.1))
+    answer-refused l (StopsAt k) x = with-names x.2 (record { answer = inr (not-long x.0, inl (refl, (k, refl, x.1))); refused = λ n. refl })
+    answer-refused l (UnknownName k) x =
         with-names x.4 (record { answer = inr (not-long x.0, inr (not-refused x.2, inl (refl, (k, refl, x.3)))); refused = λ n. refl })
-
-    pub answer-large : j ≡ Large → Parses file text old old (said_parsed (Refused 12))
-    unfolding Decides
-    answer-large e =
-        let x = subst (JudgedIs file text scratch new) e is in
+    answer-refused l Large x =
         let given : ((t : Typed) × Reads text t × (most_size < size t)) ⊎ Deep text = ⊎_elim (λ l. inl (x.1, x.2, l)) inr x.4 in
         with-names x.5
         (record { answer = inr (not-long x.0, inr (not-refused x.2, inr (not-unknown x.3, inl (refl, (refl, given))))); refused = λ n. refl })
 
-    module _ {n : ℕ} (e : j ≡ Sized n) where
-      pub answer-short : room_of old < n → Parses file text old old (said_parsed (Refused 3))
+    module _ {n : ℕ} (x : JudgedIs file text scratch new (Ok n)) where
+      pub answer-short : room_of old < n → Parses file text old old (said_parsed (Err (Refused TooLittleRoom)))
       unfolding Decides
       answer-short h =
-          let x = subst (JudgedIs file text scratch new) e is in
           with-names x.8 (record {
             answer = inr (not-long x.0, inr (not-refused x.2, inr (not-unknown x.3, inr (not-large x.2 x.4 x.5, inl (refl, (refl, (x.1, x.2, omega (arith, x.6))))))));
             refused = λ n. refl;
@@ -109,15 +87,13 @@ module _ (file text : List ℕ) (old : Columns) where
 
       pub enough : most_bytes ≤ length scratch → n ≤ room_of old → Enough n new old.codes old.lefts old.rights old.sizes
       enough l h =
-          let x = subst (JudgedIs file text scratch new) e is in
           let same = written-length scratch 0 (nodes_of (codes_by (names_in file)) 0 x.1) x.7 in
           record { scratch = omega (arith, x.4, x.6); codes = omega arith; lefts = omega arith; rights = omega arith; sizes = omega arith }
 
       pub answer-taken : most_bytes ≤ length scratch → n ≤ room_of old → {c l r z : List ℕ} → Unpacked n new old.codes old.lefts old.rights old.sizes c l r z
-          → Parses file text old (columns c l r z) (said_parsed (Nodes n))
+          → Parses file text old (columns c l r z) (said_parsed (Ok n))
       unfolding Decides
       answer-taken room h {c} {l} {r} {z} u =
-          let x = subst (JudgedIs file text scratch new) e is in
           let t = x.1 in
           let names = names_in file in
           let ns = nodes_of (codes_by names) 0 t in
@@ -131,7 +107,7 @@ module _ (file text : List ℕ) (old : Columns) where
           (lefts-filled scratch new ns x.7 short range old.lefts (omega arith) w.lefts)
           (rights-filled scratch new ns x.7 short range old.rights (omega arith) w.rights)
           (sizes-filled scratch new ns x.7 short range old.sizes (omega arith) w.sizes) in
-          let taken : Taken file text old (columns c l r z) (said_parsed (Nodes n)) = record {
+          let taken : Taken file text old (columns c l r z) (said_parsed (Ok n)) = record {
             number = refl;
             formula = resolved names t;
             under = resolved-under file t listed;

@@ -16,8 +16,7 @@ use Rattle.formula.specs.Formula as formula
 use Rattle.formula.specs.Nodes.{Node, codes}
 use Rattle.names.specs.Names.{is_name_byte, names_in}
 use Rattle.names.specs.Lookup.{find_from}
-use Rattle.names.specs.declared.lookup.FoundName.{FoundName}
-use Rattle.names.specs.declared.lookup.FoundName.TheVariants.{At, Nothing}
+use Rattle.std.proofs.Common.{Option, Some, None}
 use Rattle.names.proofs.Finding.{FoundIs, found-is}
 use Rattle.text.specs.Tokens.{Named}
 use Rattle.grammar.specs.Name.{Name}
@@ -134,9 +133,9 @@ module _ (file : List ℕ) where
   known-word : {text : List ℕ} → AllKnown file text → {k e : ℕ} (w : List ℕ) → WordAt text k e → take (e - k) (drop k text) ≡ w → Name w → Memᴰ w (names_in file)
   known-word {text} known {k} {e} w at q n = by-found (find_from 0 w (names_in file)) (found-is w (names_in file) 0)
     where
-      by-found : (f : FoundName) → FoundIs w (names_in file) 0 f → Memᴰ w (names_in file)
-      by-found (At i) h = h.3
-      by-found Nothing h = absurd (known k (record { end = e; word = at; free = rw q n.free; new = rw q h }))
+      by-found : (f : Option ℕ) → FoundIs w (names_in file) 0 f → Memᴰ w (names_in file)
+      by-found (Some i) h = h.3
+      by-found None h = absurd (known k (record { end = e; word = at; free = rw q n.free; new = rw q h }))
 
   -- ---- token by token
 

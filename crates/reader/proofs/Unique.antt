@@ -20,8 +20,9 @@ use Rattle.names.proofs.NameLaws.{names-sound}
 use Rattle.grammar.specs.Naming.{typed, atom_of}
 use Rattle.grammar.specs.Nodes.{nodes_of}
 use Rattle.grammar.proofs.Theorems.{one-tree, one-offset}
-use Rattle.reader.specs.declared.Parsed.{Parsed}
-use Rattle.reader.specs.declared.Parsed.TheVariants.{Nodes, Broken, Stops, Unknown, Refused}
+use Rattle.std.proofs.Common.{Result, Ok, Err}
+use Rattle.reader.specs.declared.ParseError.{ParseError}
+use Rattle.reader.specs.declared.ParseError.TheVariants.{Broken, Stops, Unknown, Refused}
 use Rattle.typed.proofs.Unique.{first_one}
 use Rattle.text.specs.Tokens.{Named}
 use Rattle.reader.specs.Parsing.{said_parsed, ParseRow, Decides, Columns, nodes_over, parse_rows, Taken, Parses}
@@ -153,35 +154,35 @@ module _ (file text : List ℕ) (old : Columns) where
 
 -- ---- the answer itself
 
-parsed-one : (p q : Parsed) → said_parsed p ≡ said_parsed q → p ≡ q
-parsed-one (Nodes n) (Nodes m) e = ap Nodes (head-eq_of_cons-eq (ap (λ (s : Said). s.values) e))
-parsed-one (Nodes n) (Broken o) e = let z = ap (λ (s : Said). s.number) e in absurd (omega arith)
-parsed-one (Nodes n) (Stops o) e = let z = ap (λ (s : Said). s.number) e in absurd (omega arith)
-parsed-one (Nodes n) (Unknown o) e = let z = ap (λ (s : Said). s.number) e in absurd (omega arith)
-parsed-one (Nodes n) (Refused k) e = absurd (nil≢cons (sym (ap (λ (s : Said). s.values) e)))
-parsed-one (Broken o) (Nodes m) e = let z = ap (λ (s : Said). s.number) e in absurd (omega arith)
-parsed-one (Broken o) (Broken u) e = ap Broken (head-eq_of_cons-eq (ap (λ (s : Said). s.values) e))
-parsed-one (Broken o) (Stops u) e = let z = ap (λ (s : Said). s.number) e in absurd (omega arith)
-parsed-one (Broken o) (Unknown u) e = let z = ap (λ (s : Said). s.number) e in absurd (omega arith)
-parsed-one (Broken o) (Refused k) e = absurd (nil≢cons (sym (ap (λ (s : Said). s.values) e)))
-parsed-one (Stops o) (Nodes m) e = let z = ap (λ (s : Said). s.number) e in absurd (omega arith)
-parsed-one (Stops o) (Broken u) e = let z = ap (λ (s : Said). s.number) e in absurd (omega arith)
-parsed-one (Stops o) (Stops u) e = ap Stops (head-eq_of_cons-eq (ap (λ (s : Said). s.values) e))
-parsed-one (Stops o) (Unknown u) e = let z = ap (λ (s : Said). s.number) e in absurd (omega arith)
-parsed-one (Stops o) (Refused k) e = absurd (nil≢cons (sym (ap (λ (s : Said). s.values) e)))
-parsed-one (Unknown o) (Nodes m) e = let z = ap (λ (s : Said). s.number) e in absurd (omega arith)
-parsed-one (Unknown o) (Broken u) e = let z = ap (λ (s : Said). s.number) e in absurd (omega arith)
-parsed-one (Unknown o) (Stops u) e = let z = ap (λ (s : Said). s.number) e in absurd (omega arith)
-parsed-one (Unknown o) (Unknown u) e = ap Unknown (head-eq_of_cons-eq (ap (λ (s : Said). s.values) e))
-parsed-one (Unknown o) (Refused k) e = absurd (nil≢cons (sym (ap (λ (s : Said). s.values) e)))
-parsed-one (Refused k) (Nodes m) e = absurd (nil≢cons (ap (λ (s : Said). s.values) e))
-parsed-one (Refused k) (Broken u) e = absurd (nil≢cons (ap (λ (s : Said). s.values) e))
-parsed-one (Refused k) (Stops u) e = absurd (nil≢cons (ap (λ (s : Said). s.values) e))
-parsed-one (Refused k) (Unknown u) e = absurd (nil≢cons (ap (λ (s : Said). s.values) e))
-parsed-one (Refused k) (Refused l) e = ap Refused (ap (λ (s : Said). s.number) e)
+parsed-one : (p q : Result ℕ ParseError) → said_parsed p ≡ said_parsed q → p ≡ q
+parsed-one (Ok a) (Ok b) e = ap Ok (head-eq_of_cons-eq (ap (λ (s : Said). s.values) e))
+parsed-one (Ok a) (Err (Broken b)) e = let z = ap (λ (s : Said). s.number) e in absurd (omega arith)
+parsed-one (Ok a) (Err (Stops b)) e = let z = ap (λ (s : Said). s.number) e in absurd (omega arith)
+parsed-one (Ok a) (Err (Unknown b)) e = let z = ap (λ (s : Said). s.number) e in absurd (omega arith)
+parsed-one (Ok a) (Err (Refused b)) e = absurd (nil≢cons (sym (ap (λ (s : Said). s.values) e)))
+parsed-one (Err (Broken a)) (Ok b) e = let z = ap (λ (s : Said). s.number) e in absurd (omega arith)
+parsed-one (Err (Broken a)) (Err (Broken b)) e = ap (λ v. Err (Broken v)) (head-eq_of_cons-eq (ap (λ (s : Said). s.values) e))
+parsed-one (Err (Broken a)) (Err (Stops b)) e = let z = ap (λ (s : Said). s.number) e in absurd (omega arith)
+parsed-one (Err (Broken a)) (Err (Unknown b)) e = let z = ap (λ (s : Said). s.number) e in absurd (omega arith)
+parsed-one (Err (Broken a)) (Err (Refused b)) e = absurd (nil≢cons (sym (ap (λ (s : Said). s.values) e)))
+parsed-one (Err (Stops a)) (Ok b) e = let z = ap (λ (s : Said). s.number) e in absurd (omega arith)
+parsed-one (Err (Stops a)) (Err (Broken b)) e = let z = ap (λ (s : Said). s.number) e in absurd (omega arith)
+parsed-one (Err (Stops a)) (Err (Stops b)) e = ap (λ v. Err (Stops v)) (head-eq_of_cons-eq (ap (λ (s : Said). s.values) e))
+parsed-one (Err (Stops a)) (Err (Unknown b)) e = let z = ap (λ (s : Said). s.number) e in absurd (omega arith)
+parsed-one (Err (Stops a)) (Err (Refused b)) e = absurd (nil≢cons (sym (ap (λ (s : Said). s.values) e)))
+parsed-one (Err (Unknown a)) (Ok b) e = let z = ap (λ (s : Said). s.number) e in absurd (omega arith)
+parsed-one (Err (Unknown a)) (Err (Broken b)) e = let z = ap (λ (s : Said). s.number) e in absurd (omega arith)
+parsed-one (Err (Unknown a)) (Err (Stops b)) e = let z = ap (λ (s : Said). s.number) e in absurd (omega arith)
+parsed-one (Err (Unknown a)) (Err (Unknown b)) e = ap (λ v. Err (Unknown v)) (head-eq_of_cons-eq (ap (λ (s : Said). s.values) e))
+parsed-one (Err (Unknown a)) (Err (Refused b)) e = absurd (nil≢cons (sym (ap (λ (s : Said). s.values) e)))
+parsed-one (Err (Refused a)) (Ok b) e = absurd (nil≢cons (ap (λ (s : Said). s.values) e))
+parsed-one (Err (Refused a)) (Err (Broken b)) e = absurd (nil≢cons (ap (λ (s : Said). s.values) e))
+parsed-one (Err (Refused a)) (Err (Stops b)) e = absurd (nil≢cons (ap (λ (s : Said). s.values) e))
+parsed-one (Err (Refused a)) (Err (Unknown b)) e = absurd (nil≢cons (ap (λ (s : Said). s.values) e))
+parsed-one (Err (Refused a)) (Err (Refused b)) e = ap (λ v. Err (Refused v)) (one-refusal a b (ap (λ (s : Said). s.number) e))
 
 -- the answer, and what the four lent slices hold
-pub parse-unique : (file text : List ℕ) (old : Columns) (p q : Parsed) (m n : Columns)
+pub parse-unique : (file text : List ℕ) (old : Columns) (p q : Result ℕ ParseError) (m n : Columns)
     → Parses file text old m (said_parsed p) → Parses file text old n (said_parsed q) → (p ≡ q) × (m ≡ n)
 parse-unique file text old p q m n a b =
     let e = same-parse file text old (said_parsed p) (said_parsed q) m n a b in

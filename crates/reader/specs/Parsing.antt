@@ -1,8 +1,9 @@
 -- Reading a formula from text: what it answers and leaves in the lent slices, for every byte string.
 -- Assumes nothing.
-use Rattle.std.specs.Prelude.{◌≡◌, ◌⊎◌, List, [], ◌∷◌, map, ℕ, ◌<◌, length}
+use Rattle.std.specs.Prelude.{◌≡◌, ◌⊎◌, List, [], ◌∷◌, map, Result, Ok, Err, ℕ, ◌<◌, length}
 use Rattle.rules.specs.Limits.{most_size}
 use Rattle.rules.specs.Answers.{Said, over}
+use Rattle.rules.specs.Refusals.{refusal_number}
 use Rattle.formula.specs.Formula.{size, Formula}
 use Rattle.formula.specs.Nodes.{Node, codes}
 use Rattle.formula.specs.Kinds.{count_of}
@@ -13,17 +14,29 @@ use Rattle.grammar.specs.Token.{Typed}
 use Rattle.grammar.specs.Grammar.{Reads, Refused11}
 use Rattle.grammar.specs.Naming.{typed}
 use Rattle.grammar.specs.Nodes.{nodes_of}
-use Rattle.reader.specs.declared.Parsed.{Parsed}
-use Rattle.reader.specs.declared.Parsed.TheVariants.{Nodes, Broken, Stops, Unknown, Refused}
+use Rattle.rules.specs.declared.refusal.Refusal.TheVariants.{Large as TooLarge, Room as NoRoom}
+use Rattle.descent.specs.declared.judge.JudgeError.{JudgeError}
+use Rattle.descent.specs.declared.judge.JudgeError.TheVariants.{Broken as BrokenNames, Long, Room, Stops as StopsAt, Unknown as UnknownName, Large}
+use Rattle.reader.specs.declared.ParseError.{ParseError}
+use Rattle.reader.specs.declared.ParseError.TheVariants.{Broken, Stops, Unknown, Refused}
 use Rattle.reader.specs.Words.{most_bytes, FirstUnknown, Deep}
 
 -- the answer in document 01's terms: 0 with how many nodes were written, the root last; 8, 11 and 13 with the offset; or a number alone
-abbrev pub said_parsed : Parsed → Said
-said_parsed (Nodes n) = record { number = 0; values = n ∷ [] }
-said_parsed (Broken o) = record { number = 8; values = o ∷ [] }
-said_parsed (Stops o) = record { number = 11; values = o ∷ [] }
-said_parsed (Unknown o) = record { number = 13; values = o ∷ [] }
-said_parsed (Refused k) = record { number = k; values = [] }
+abbrev pub said_parsed : Result ℕ ParseError → Said
+said_parsed (Ok n) = record { number = 0; values = n ∷ [] }
+said_parsed (Err (Broken o)) = record { number = 8; values = o ∷ [] }
+said_parsed (Err (Stops o)) = record { number = 11; values = o ∷ [] }
+said_parsed (Err (Unknown o)) = record { number = 13; values = o ∷ [] }
+said_parsed (Err (Refused refusal)) = record { number = refusal_number refusal; values = [] }
+
+-- what is answered of a text that the judge refuses
+abbrev pub refused_by : JudgeError → ParseError
+refused_by (BrokenNames o) = Broken o
+refused_by Long = Refused TooLarge
+refused_by Room = Refused NoRoom
+refused_by (StopsAt k) = Stops k
+refused_by (UnknownName k) = Unknown k
+refused_by Large = Refused TooLarge
 
 -- ---- refusals
 

@@ -1,24 +1,7 @@
 // What was judged good, into the lent slices.
-ghost use Rattle.std.specs.Prelude.{◌≡◌, min};
 ghost use Rattle.reader.specs.Lent.{Enough, Unpacked};
 
 use crate::fill::{fill_bytes, fill_places};
-
-fn lesser(a: usize, b: usize) -> usize
-    ensures { result ≡ min a b }
-{
-    if a < b {
-        return a;
-    }
-    b
-}
-
-// The smallest of four.
-pub(crate) fn least(a: usize, b: usize, c: usize, d: usize) -> usize
-    ensures { result ≡ min a (min b (min c d)) }
-{
-    lesser(a, lesser(b, lesser(c, d)))
-}
 
 pub(crate) fn write(
     scratch: &[u64],

@@ -1,11 +1,11 @@
 -- Sections of lent bytes, each after its one-byte count, and their first offending byte, by a rule that goes through the bytes from the start, item by
 -- item: an item that is whole and good is passed, and the first that is not decides. The session file and the names section are made of these pieces.
 -- Assumes nothing.
-use Rattle.std.specs.Prelude.{Bool, false, cond, ◌&&◌, ◌||◌, ℕ, zero, suc, ◌+◌, eqb, leb, ltb, length, get_or}
+use Rattle.std.specs.Prelude.{Bool, false, cond, ◌&&◌, ◌||◌, ℕ, zero, suc, ◌+◌, eqb, leb, ltb, length, get_or, Result, Ok, Err}
 use mathlib.Core.List.{List, [], ◌∷◌, ◌++◌, flat_map}
 use Rattle.rules.specs.Answers.{Said}
-use Rattle.reading.specs.declared.ReadStep.{ReadStep}
-use Rattle.reading.specs.declared.ReadStep.TheVariants.{Read, Broken}
+use Rattle.reading.specs.declared.Read.{Read}
+use Rattle.reading.specs.declared.Broken.{Broken}
 
 -- ---- the bytes of a section
 
@@ -64,9 +64,9 @@ is_in same x (y ∷ ys) = same x y || is_in same x ys
 -- ---- answers
 
 -- of what was read a sub-reader hands up one number
-abbrev pub step_of : {A : Type 0} → (A → ℕ) → Got A → ReadStep
-step_of value (got a next) = Read (value a) next
-step_of value (bad o) = Broken o
+abbrev pub step_of : {A : Type 0} → (A → ℕ) → Got A → Result Read Broken
+step_of value (got a next) = Ok (record { value = value a; next = next })
+step_of value (bad o) = Err (record { 0 = o })
 
 -- "8: session file or names section broken, with byte offset"; "A refusal carries only its number (8 also the offset)"
 abbrev pub broken : ℕ → Said

@@ -4,29 +4,30 @@
 ghost use Rattle.std.specs.Prelude.{◌≡◌};
 ghost use Rattle.reading.specs.Reading.{byte, within, step_of};
 
-// What a sub-reader hands up: a number and the offset after what it read, or the offset that offends.
-#[derive(Clone, Copy)]
-pub enum ReadStep {
-    Read { value: usize, next: usize },
-    Broken(usize),
+// The offset that offends: of a byte, of a name's or a word's first byte, or the file's length where the file ends too early.
+#[derive(Clone, Copy, Debug, PartialEq, Eq)]
+pub struct Broken(pub usize);
+
+// What a sub-reader hands up of what it read: a number, and the offset after it.
+#[derive(Clone, Copy, Debug, PartialEq, Eq)]
+pub struct Read {
+    pub value: usize,
+    pub next: usize,
 }
 
 // The byte at an offset, from lo to hi.
-pub fn byte_within(file: &[u8], at: usize, lo: usize, hi: usize) -> ReadStep
+pub fn byte_within(file: &[u8], at: usize, lo: usize, hi: usize) -> Result<Read, Broken>
     ensures { result ≡ step_of (λ b. b) (byte (within lo hi) file.now at) }
 {
     if file.len() <= at {
-        return ReadStep::Broken(file.len());
+        return Err(Broken(file.len()));
     }
-    let b = file[at] as usize;
-    if b < lo {
-        return ReadStep::Broken(at);
+    let value = file[at] as usize;
+    if value < lo || hi < value {
+        return Err(Broken(at));
     }
-    if hi < b {
-        return ReadStep::Broken(at);
-    }
-    ReadStep::Read {
-        value: b,
+    Ok(Read {
+        value,
         next: at + 1,
-    }
+    })
 }

@@ -1,19 +1,18 @@
 -- The report: what it answers and leaves in the lent text, for every input.
 -- Assumes nothing.
-use Rattle.std.specs.Prelude.{◌≡◌, List, [], ◌∷◌, ◌++◌, ℕ, ◌<◌, length}
-use Rattle.rules.specs.Refusals.{Row, Decided}
+use Rattle.std.specs.Prelude.{◌≡◌, List, [], ◌∷◌, ◌++◌, ℕ, ◌<◌, length, Result, Ok, Err}
+use Rattle.rules.specs.declared.refusal.Refusal.{Refusal}
+use Rattle.rules.specs.Refusals.{Row, Decided, refusal_number}
 use Rattle.rules.specs.Answers.{Said, over}
 use Rattle.session.specs.Recording.{Recording}
 use Rattle.formula.specs.Nodes.{Node}
 use Rattle.verdict.specs.Check.{check_rows}
-use Rattle.report.specs.declared.Reported.{Reported}
-use Rattle.report.specs.declared.Reported.TheVariants.{Text, Refused}
 use Rattle.report.specs.Lines.{ReportText}
 
 -- the answer in document 01's terms: 0 with the text's length, or a refusal's number alone
-abbrev pub said_report : Reported → Said
-said_report (Text n) = record { number = 0; values = n ∷ [] }
-said_report (Refused n) = record { number = n; values = [] }
+abbrev pub said_report : Result ℕ Refusal → Said
+said_report (Ok n) = record { number = 0; values = n ∷ [] }
+said_report (Err refusal) = record { number = refusal_number refusal; values = [] }
 
 module _ (i : Recording) (k : List Node) (root : Node) (old : List ℕ) where
   -- "and last 3 for text room too short": shorter than the report, its last newline counted

@@ -12,19 +12,12 @@ ghost use Rattle.rules.specs.Refusals.{Decided};
 ghost use Rattle.report.specs.Report.{said_report, Reports};
 
 use formula::kinds::Node;
+use rules::refusal::Refusal;
 use sessions::put_sessions;
 use under::places_under;
-use verdict::Verdict;
 
 // The most bytes that a report can have.
 pub const LONGEST: usize = 15562;
-
-// The report's length, or a refusal.
-#[derive(Clone, Copy)]
-pub enum Reported {
-    Text(usize),
-    Refused(u8),
-}
 
 // The report of what has passed the check.
 fn write(
@@ -39,7 +32,7 @@ fn write(
     sizes: &[u8],
     root: Node,
     text: &mut [u8],
-) -> Reported
+) -> Result<usize, Refusal>
     requires { Decided (check_rows (recording r m marks.now lengths.now words.now) (nodes codes.now lefts.now rights.now sizes.now) (node_of root)) 0 }
     ensures { Reports (recording r m marks.now lengths.now words.now)
         (nodes codes.now lefts.now rights.now sizes.now) (node_of root) text.old (said_report result)
@@ -51,10 +44,9 @@ fn write(
         r, m, marks, lengths, words, codes, lefts, rights, sizes, root, &under, &mut whole,
     );
     if text.len() < n {
-        return Reported::Refused(3);
+        return Err(Refusal::Room);
     }
-    let length = writing::put(text, 0, &whole[..n]);
-    Reported::Text(length)
+    Ok(writing::put(text, 0, &whole[..n]))
 }
 
 // The report on the root's formula, at the start of the lent text. A formula that doesn't separate is reported all the same.
@@ -70,17 +62,14 @@ pub fn report(
     sizes: &[u8],
     root: Node,
     text: &mut [u8],
-) -> Reported
+) -> Result<usize, Refusal>
     ensures { Reports (recording r m marks.now lengths.now words.now)
         (nodes codes.now lefts.now rights.now sizes.now) (node_of root) text.old (said_report result)
         text.new }
 {
-    let verdict = verdict::check(
+    verdict::check(
         r, m, marks, lengths, words, codes, lefts, rights, sizes, root,
-    );
-    if let Verdict::Refused(number) = verdict {
-        return Reported::Refused(number);
-    }
+    )?;
     write(
         r, m, marks, lengths, words, codes, lefts, rights, sizes, root, text,
     )

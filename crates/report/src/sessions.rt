@@ -12,8 +12,8 @@ use formula::kinds::Node;
 use formula::nodes::{count, node_at};
 use rules::kinds::{Place, Session};
 use summary::line;
-use summary::values::{First, Summary, summary_of};
-use verdict::{Sequenced, sequence_of};
+use summary::values::{Summary, summary_of};
+use verdict::sequence_of;
 
 // What there is to say of a node on a session.
 fn summary_at(
@@ -36,7 +36,7 @@ fn summary_at(
     let sequenced = sequence_of(
         r, m, marks, lengths, words, codes, lefts, rights, sizes, node, on,
     );
-    let Sequenced::Sequence(seq) = sequenced else {
+    let Ok(Some(seq)) = sequenced else {
         // This can't come up: what is reported has passed the check.
         return nothing();
     };
@@ -45,8 +45,8 @@ fn summary_at(
 
 fn nothing() -> Summary {
     Summary {
-        holds: First::Never,
-        fails: First::Never,
+        holds: None,
+        fails: None,
         count: 0,
     }
 }

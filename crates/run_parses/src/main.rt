@@ -3,32 +3,22 @@
 // A line of standard input has two fields, what is said of the text and the text.
 #![tactic(auto)]
 
-use reader::Parsed;
+use reader::ParseError;
 use std::io;
 use std::io::Write;
 use stored::{say, say_number};
 
-fn say_parsed(to: &mut impl Write, p: Parsed) -> io::Result<()> {
-    match p {
-        Parsed::Nodes(n) => {
-            say_number(to, b"nodes ", n as u64)?;
-        }
-        Parsed::Broken(o) => {
-            say_number(to, b"refused 8 at ", o as u64)?;
-        }
-        Parsed::Stops(o) => {
-            say_number(to, b"refused 11 at ", o as u64)?;
-        }
-        Parsed::Unknown(o) => {
-            say_number(to, b"refused 13 at ", o as u64)?;
-        }
-        Parsed::Refused(k) => {
-            say_number(to, b"refused ", k as u64)?;
-        }
-    }
+fn say_refused(to: &mut impl Write, error: ParseError) -> io::Result<()> {
+    match error {
+        ParseError::Broken(o) => say_number(to, b"refused 8 at ", o as u64)?,
+        ParseError::Stops(o) => say_number(to, b"refused 11 at ", o as u64)?,
+        ParseError::Unknown(o) => say_number(to, b"refused 13 at ", o as u64)?,
+        ParseError::Refused(refusal) => say_number(to, b"refused ", u8::from(refusal) as u64)?,
+    };
     Ok(())
 }
 
+// A node: code, left place, right place, size.
 fn say_node(to: &mut impl Write, code: u8, left: u16, right: u16, size: u8) -> io::Result<()> {
     say_number(to, b" / ", code as u64)?;
     say_number(to, b" ", left as u64)?;
@@ -37,7 +27,7 @@ fn say_node(to: &mut impl Write, code: u8, left: u16, right: u16, size: u8) -> i
     Ok(())
 }
 
-// The first nodes of the four lists: code, left place, right place, size.
+// The first nodes of the four lists.
 fn say_nodes(
     to: &mut impl Write,
     codes: &[u8; 31],
@@ -46,6 +36,7 @@ fn say_nodes(
     sizes: &[u8; 31],
     n: usize,
 ) -> io::Result<()> {
+    say_number(to, b"nodes ", n as u64)?;
     let places = lefts.iter().zip(rights);
     for ((code, (left, right)), size) in codes.iter().zip(places).zip(sizes).take(n) {
         say_node(to, *code, *left, *right, *size)?;
@@ -53,19 +44,12 @@ fn say_nodes(
     Ok(())
 }
 
-fn count(p: Parsed) -> usize {
-    match p {
-        Parsed::Nodes(n) => n,
-        _ => 0,
-    }
-}
-
 fn parse(to: &mut impl Write, text: &[u8]) -> io::Result<()> {
     let mut codes = [0u8; 31];
     let mut lefts = [0u16; 31];
     let mut rights = [0u16; 31];
     let mut sizes = [0u8; 31];
-    let p = reader::parse(
+    let parsed = reader::parse(
         b"\x03\x01p\x01q\x01r",
         text,
         &mut codes,
@@ -73,9 +57,10 @@ fn parse(to: &mut impl Write, text: &[u8]) -> io::Result<()> {
         &mut rights,
         &mut sizes,
     );
-    say_parsed(to, p)?;
-    let n = count(p);
-    say_nodes(to, &codes, &lefts, &rights, &sizes, n)
+    match parsed {
+        Ok(n) => say_nodes(to, &codes, &lefts, &rights, &sizes, n),
+        Err(error) => say_refused(to, error),
+    }
 }
 
 fn example(to: &mut impl Write, line: &[u8]) -> io::Result<()> {

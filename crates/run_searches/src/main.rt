@@ -8,6 +8,7 @@
 
 use counting::Counts;
 use formula::kinds::Node;
+use rules::refusal::Refusal;
 use search::SearchAnswer;
 use std::io;
 use std::io::Write;
@@ -32,23 +33,23 @@ fn say_node(to: &mut impl Write, node: Node) -> io::Result<()> {
     say_next(to, node.size as u64)
 }
 
-fn say_answer(to: &mut impl Write, answer: SearchAnswer) -> io::Result<()> {
+fn say_answer(to: &mut impl Write, answer: Result<SearchAnswer, Refusal>) -> io::Result<()> {
     match answer {
-        SearchAnswer::Found { root, counts } => {
+        Ok(SearchAnswer::Found { root, counts }) => {
             say_number(to, b"found size ", root.size as u64)?;
             say_counts(to, counts)?;
             say_node(to, root)?;
         }
-        SearchAnswer::None(counts) => {
+        Ok(SearchAnswer::None(counts)) => {
             say(to, b"none")?;
             say_counts(to, counts)?;
         }
-        SearchAnswer::Full { size, counts } => {
+        Ok(SearchAnswer::Full { size, counts }) => {
             say_number(to, b"full size ", size as u64)?;
             say_counts(to, counts)?;
         }
-        SearchAnswer::Refused(number) => {
-            say_number(to, b"refused ", number as u64)?;
+        Err(refusal) => {
+            say_number(to, b"refused ", u8::from(refusal) as u64)?;
         }
     }
     Ok(())

@@ -5,20 +5,19 @@ ghost use Rattle.std.specs.Prelude.{◌≡◌, ◌<◌};
 ghost use Rattle.walk.specs.Input.{input_of};
 ghost use Rattle.search.specs.Table.{cols};
 ghost use Rattle.search.specs.Search.{Searched};
-ghost use Rattle.search.specs.Inner.{end_of, SizeFits, search_answer_of};
+ghost use Rattle.search.specs.Inner.{end_of};
 
 use counting::Counts;
 use formula::kinds::Node;
-use slices::Resumed;
-use state::State;
+use rules::refusal::Refusal;
+use state::{End, State};
 
-// FOUND with the root node over the kept list, NONE, FULL at a size, each with the counts; or a refusal.
+// FOUND with the root node over the kept list, NONE, FULL at a size, each with the counts.
 #[derive(Clone, Copy)]
 pub enum SearchAnswer {
     Found { root: Node, counts: Counts },
     None(Counts),
     Full { size: u8, counts: Counts },
-    Refused(u8),
 }
 
 // The answer where the walk has ended.
@@ -27,25 +26,16 @@ fn end_of(state: State) -> SearchAnswer
     ensures { result ≡ end_of state }
 {
     let counts = state.counts;
-    let root = state.root;
-    let size = state.size as u8;
-    if state.end == 1 {
-        return SearchAnswer::Found { root, counts };
-    }
-    if state.end == 3 {
-        return SearchAnswer::Full { size, counts };
-    }
-    SearchAnswer::None(counts)
-}
-
-// The answer, or the refusal.
-fn answer_of(resumed: Resumed) -> SearchAnswer
-    requires { SizeFits resumed }
-    ensures { result ≡ search_answer_of resumed }
-{
-    match resumed {
-        Resumed::Goes(state) => end_of(state),
-        Resumed::Refused(number) => SearchAnswer::Refused(number),
+    match state.end {
+        End::Found => SearchAnswer::Found {
+            root: state.root,
+            counts,
+        },
+        End::Full => SearchAnswer::Full {
+            size: state.size as u8,
+            counts,
+        },
+        End::None | End::More => SearchAnswer::None(counts),
     }
 }
 
@@ -69,14 +59,14 @@ pub fn search(
     rights: &mut [u16],
     sizes: &mut [u8],
     matrices: &mut [u64],
-) -> SearchAnswer
+) -> Result<SearchAnswer, Refusal>
     ensures { Searched
         (input_of r m bound room constants marks.now lengths.now words.now unary.now binary.now)
         (cols codes.old lefts.old rights.old sizes.old matrices.old)
         result
         (cols codes.new lefts.new rights.new sizes.new matrices.new) }
 {
-    let resumed = slices::advance(
+    let state = slices::advance(
         r,
         m,
         bound,
@@ -87,13 +77,13 @@ pub fn search(
         words,
         unary,
         binary,
-        18446744073709551615,
+        u64::MAX,
         slices::fresh(),
         codes,
         lefts,
         rights,
         sizes,
         matrices,
-    );
-    answer_of(resumed)
+    )?;
+    Ok(end_of(state))
 }

@@ -4,77 +4,54 @@ ghost use Rattle.reading.specs.Reading.{each_item, is_in, step_of};
 ghost use Rattle.sections.specs.Sections.{group_of, code, all_codes};
 
 use operators::in_group;
-use reading::{ReadStep, byte_within};
+use reading::{Broken, Read, byte_within};
 
 // Whether the code is one of the `count` from an offset on.
 fn seen_code(file: &[u8], from: usize, count: usize, c: u8) -> bool
     requires { from + count ≤ length file.now }
     ensures { result ≡ is_in eqb c (take count (drop from file.now)) }
 {
-    let mut i: usize = 0;
-    while i < count {
-        if file[from + i] == c {
-            return true;
-        }
-        i += 1;
-    }
-    false
+    file[from..from + count].contains(&c)
 }
 
 // The code after `count` codes from an offset on.
-fn code_at(file: &[u8], from: usize, count: usize, unary: bool) -> ReadStep
+fn code_at(file: &[u8], from: usize, count: usize, unary: bool) -> Result<Read, Broken>
     requires { from + count ≤ length file.now }
     ensures { result ≡ step_of (λ c. c) (code (group_of unary) (take count (drop from file.now)) file.now (from + count)) }
 {
     let at = from + count;
     if file.len() <= at {
-        return ReadStep::Broken(file.len());
+        return Err(Broken(file.len()));
     }
     let c = file[at];
-    if in_group(c, unary) {
-        if seen_code(file, from, count, c) {
-            return ReadStep::Broken(at);
-        }
-        return ReadStep::Read {
-            value: c as usize,
-            next: at + 1,
-        };
+    if !in_group(c, unary) || seen_code(file, from, count, c) {
+        return Err(Broken(at));
     }
-    ReadStep::Broken(at)
+    Ok(Read {
+        value: c as usize,
+        next: at + 1,
+    })
 }
 
 // `count` codes from an offset.
-fn codes_from(file: &[u8], from: usize, count: usize, unary: bool) -> ReadStep
+fn codes_from(file: &[u8], from: usize, count: usize, unary: bool) -> Result<Read, Broken>
     requires { from ≤ length file.now }
     ensures { result ≡ step_of length (each_item (code (group_of unary)) count [] file.now from) }
 {
-    let mut i: usize = 0;
     let mut p = from;
-    while i < count {
-        let s = code_at(file, from, i, unary);
-        match s {
-            ReadStep::Read { value: _, next } => {
-                p = next;
-            }
-            ReadStep::Broken(o) => {
-                return ReadStep::Broken(o);
-            }
-        }
-        i += 1;
+    for i in 0..count {
+        p = code_at(file, from, i, unary)?.next;
     }
-    ReadStep::Read {
+    Ok(Read {
         value: count,
         next: p,
-    }
+    })
 }
 
 // A count of codes, and as many codes.
-pub fn codes_section(file: &[u8], at: usize, unary: bool) -> ReadStep
+pub fn codes_section(file: &[u8], at: usize, unary: bool) -> Result<Read, Broken>
     ensures { result ≡ step_of length (all_codes (group_of unary) file.now at) }
 {
-    let c = byte_within(file, at, 0, 255);
-    match c {
-        ReadStep::Read { value: n, next } => codes_from(file, next, n, unary),
-        ReadStep::Broken(o) => ReadStep::Broken(o),
-    }
+    let count = byte_within(file, at, 0, 255)?;
+    codes_from(file, count.next, count.value, unary)
 }

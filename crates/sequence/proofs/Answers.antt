@@ -1,6 +1,7 @@
--- The operators' rows, decided part by part, and what passes them: well-formed sequences, and two of one length.
+-- What passes the operators' rows: well-formed sequences, and two of one length; and what a constructor's answer tells of a word.
 -- Assumes nothing.
 use mathlib.Core.Path.{◌≡◌, refl, sym, subst}
+use mathlib.Core.Bool.{true≢false}
 use mathlib.Core.Logic.{inr}
 use mathlib.Core.List.{List, [], ◌∷◌, ◌++◌}
 use Prim.Native.Nat.{ℕ, ◌≤◌, ◌<◌}
@@ -10,26 +11,18 @@ use lib.Dec.{lit<}
 use Rattle.words.specs.Word.{width, WfRecorded, places}
 use Rattle.words.proofs.At.{not_at}
 use Rattle.sequence.specs.declared.CharSeq.{CharSeq}
-use Rattle.sequence.specs.declared.Answer.{Answer}
-use Rattle.sequence.specs.declared.Answer.TheVariants.{Sequence, Refused}
+use Rattle.std.specs.Prelude.{Result, Ok, Err, is_ok, IsErr, IsErrAnd, true, ◌↔◌}
+use Rattle.rules.specs.declared.refusal.Refusal.{Refusal}
 use Rattle.sequence.specs.Operators.{Unary, Binary, unary_code, binary_code}
-use Rattle.rules.specs.Refusals.{Row, Decided, first_of}
-use Rattle.sequence.specs.Sequence.{seq, WellFormed, not_unary, not_binary, unequal, ill_formed, ill_recorded, RecordedAnswer, unary_rows, binary_rows}
-use Rattle.rules.proofs.Refusals.{Numbered, decided-unique, decided-both, decided-none, decided-not}
+use Rattle.rules.specs.Refusals.{Row, Decided, refusal_number}
+use Rattle.sequence.specs.Sequence.{seq, WellFormed, unequal, ill_formed, ill_recorded, Answers, RecordedAnswer, unary_rows, binary_rows}
+use Rattle.rules.proofs.Refusals.{Numbered, decided-unique, decided-none, decided-not, refusal-positive, handed-up}
 
--- ---- the rows, part by part
+-- ---- an answer that is a refusal: what `?` hands up of a check that decided
 
-pub unary-decided : (code : ℕ) (s : CharSeq) (g i : ℕ) {k : ℕ} → Decided (not_unary code ∷ []) g → Decided (ill_formed s) i → k ≡ first_of g i → Decided (unary_rows code s) k
-unary-decided code s g i p q e = subst (Decided (unary_rows code s)) (sym e) (decided-both (not_unary code ∷ []) (ill_formed s) g i (lit< tt, tt) p q)
-
-pub binary-decided : (code : ℕ) (s t : CharSeq) (g a b l : ℕ) {i j k : ℕ} → Decided (not_binary code ∷ []) g → Decided (ill_formed s) a → Decided (ill_formed t) b
-    → i ≡ first_of a b → Decided (unequal s t ∷ []) l → j ≡ first_of g i → k ≡ first_of j l → Decided (binary_rows code s t) k
-binary-decided code s t g a b l {i} {j} p q r ei u ej ek =
-    let both : Decided (ill_formed s ++ ill_formed t) i = subst (Decided (ill_formed s ++ ill_formed t)) (sym ei) (decided-both (ill_formed s) (ill_formed t) a b (lit< tt, (lit< tt, tt)) q r) in
-    let three : Decided (not_binary code ∷ (ill_formed s ++ ill_formed t)) j =
-    subst (Decided (not_binary code ∷ (ill_formed s ++ ill_formed t))) (sym ej) (decided-both (not_binary code ∷ []) (ill_formed s ++ ill_formed t) g i (lit< tt, tt) p both) in
-    subst (Decided (binary_rows code s t)) (sym ek) (decided-both (not_binary code ∷ (ill_formed s ++ ill_formed t)) (unequal s t ∷ []) j l
-    (lit< tt, (lit< tt, (lit< tt, (lit< tt, (lit< tt, tt))))) three u)
+pub refused-answers : (rows : List Row) (asked : CharSeq → Type 0) (a : Result CharSeq Refusal) (refusal : Refusal) → Decided rows (refusal_number refusal)
+    → IsErr a × IsErrAnd a (λ e. e ≡ refusal) → Answers rows asked a
+refused-answers rows asked a refusal d h = subst (Answers rows asked) (sym (handed-up a refusal h)) (d, refusal-positive refusal)
 
 -- ---- what passes
 
@@ -75,9 +68,9 @@ binary-passes op s t w u e = inr (λ h. h op refl, passes s (ill_formed t ++ (un
 
 -- ---- the constructor of what was recorded: its answer tells whether the word is well formed at the length
 
-pub recorded-passed : {n x : ℕ} {a : Answer} {s : CharSeq} → RecordedAnswer n x a → a ≡ Sequence s → WfRecorded n x
-recorded-passed {n} {x} {a} {s} p e =
-    let f = decided-none _ _ (lit< tt, (lit< tt, tt)) (subst (λ (b : Answer). RecordedAnswer n x b) e p).0 in
+recorded-clear : {n x : ℕ} → Decided (ill_recorded (seq n x)) 0 → WfRecorded n x
+recorded-clear {n} {x} d =
+    let f = decided-none _ _ (lit< tt, (lit< tt, tt)) d in
     let g = decided-none _ _ (lit< tt, tt) f.1 in
     record { short = short f.0; clear = λ i h. not_at x i (λ q. g.0 (i, h, q)) }
   where
@@ -88,7 +81,7 @@ pub recorded-passes : {n x : ℕ} → WfRecorded n x → Decided (ill_recorded (
 unfolding Decided
 recorded-passes w = inr (λ h. omega (arith, w.short), inr (λ t. omega (arith, w.clear t.0 t.1), refl))
 
-pub recorded-refused : {n x k : ℕ} {a : Answer} → RecordedAnswer n x a → a ≡ Refused k → WfRecorded n x → ⊥
-recorded-refused {n} {x} {k} {a} p e w =
-    let q = subst (λ (b : Answer). RecordedAnswer n x b) e p in
-    omega (arith, q.1, decided-unique (ill_recorded (seq n x)) k 0 q.0 (recorded-passes w))
+pub recorded_ok : {n x : ℕ} (a : Result CharSeq Refusal) → RecordedAnswer n x a → (is_ok a ≡ true) ↔ WfRecorded n x
+recorded_ok (Ok s) p = (λ e. recorded-clear p.0, λ w. refl)
+recorded_ok {n} {x} (Err refusal) p =
+    (λ e. absurd (true≢false (sym e)), λ w. absurd (omega (arith, refusal-positive refusal, decided-unique (ill_recorded (seq n x)) _ 0 p.0 (recorded-passes w))))

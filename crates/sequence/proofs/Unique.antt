@@ -1,5 +1,5 @@
 -- Uniqueness: any two results that a public operation's contract allows for the same input are equal.
--- For the words of crate `words` and for `CharSeq::mask` that is `means-unique` of its proofs/At.antt, for `CharSeq::refusal` `decided-unique`.
+-- For the words of crate `words` and for `CharSeq::mask` that is `means-unique` of its proofs/At.antt, for `CharSeq::check` `decided-unique`.
 -- Assumes nothing.
 use mathlib.Core.Path.{◌≡◌, refl, sym, ap, ap₂, ◌∙◌, subst}
 use mathlib.Core.Logic.{◌↔◌}
@@ -11,15 +11,15 @@ use Rattle.words.specs.Ltlf.{Reading}
 use Rattle.words.specs.Word.{At}
 use Rattle.words.proofs.At.{means-unique}
 use Rattle.sequence.specs.declared.CharSeq.{CharSeq}
-use Rattle.sequence.specs.declared.Answer.{Answer}
-use Rattle.sequence.specs.declared.Answer.TheVariants.{Sequence, Refused}
+use Rattle.std.specs.Prelude.{Result, Ok, Err}
+use Rattle.rules.specs.declared.refusal.Refusal.{Refusal}
 use Rattle.sequence.specs.Operators.{Unary, Binary, unary_code, binary_code, unary_reading, binary_reading, not, weak_next, strong_next, finally, globally, or, and, until, release, implies, equiv}
 use Rattle.sequence.specs.Masked.{UnaryOn, BinaryOn, UnaryBy, BinaryBy}
 use Rattle.sequence.specs.Masked.UnaryBy.{operator as uop, nothing as unothing}
 use Rattle.sequence.specs.Masked.BinaryBy.{operator as bop, nothing as bnothing}
 use Rattle.sequence.specs.Sequence.{seq, Denotes, Answers, NewAnswer, RecordedAnswer, UnaryRead, UnaryAnswer, BinaryRead, BinaryAnswer}
-use Rattle.rules.specs.Refusals.{Row}
-use Rattle.rules.proofs.Refusals.{decided-unique}
+use Rattle.rules.specs.Refusals.{Row, refusal_number}
+use Rattle.rules.proofs.Refusals.{decided-unique, refusal-one}
 
 -- ---- tests: `CharSeq::is_well_formed`, `CharSeq::accepts`
 
@@ -78,25 +78,25 @@ binary-one a b e = sym (binary-back a) ∙ ap (λ (k : ℕ). binary-at (k - 5)) 
 
 -- of the answers by a list, where what is asked of the sequence leaves one, there is one
 answers-unique : (rows : List Row) (asked : CharSeq → Type 0) → ((s t : CharSeq) → asked s → asked t → s ≡ t)
-    → (a b : Answer) → Answers rows asked a → Answers rows asked b → a ≡ b
-answers-unique rows asked one (Sequence s) (Sequence t) p q = ap Sequence (one s t p.1 q.1)
-answers-unique rows asked one (Sequence s) (Refused k) p q = absurd (omega (arith, q.1, decided-unique rows 0 k p.0 q.0))
-answers-unique rows asked one (Refused k) (Sequence t) p q = absurd (omega (arith, p.1, decided-unique rows k 0 p.0 q.0))
-answers-unique rows asked one (Refused k) (Refused l) p q = ap Refused (decided-unique rows k l p.0 q.0)
+    → (a b : Result CharSeq Refusal) → Answers rows asked a → Answers rows asked b → a ≡ b
+answers-unique rows asked one (Ok s) (Ok t) p q = ap Ok (one s t p.1 q.1)
+answers-unique rows asked one (Ok s) (Err k) p q = absurd (omega (arith, q.1, decided-unique rows 0 (refusal_number k) p.0 q.0))
+answers-unique rows asked one (Err k) (Ok t) p q = absurd (omega (arith, p.1, decided-unique rows (refusal_number k) 0 p.0 q.0))
+answers-unique rows asked one (Err k) (Err l) p q = ap Err (refusal-one k l (decided-unique rows (refusal_number k) (refusal_number l) p.0 q.0))
 
-pub new-unique : (n x : ℕ) (a b : Answer) → NewAnswer n x a → NewAnswer n x b → a ≡ b
+pub new-unique : (n x : ℕ) (a b : Result CharSeq Refusal) → NewAnswer n x a → NewAnswer n x b → a ≡ b
 new-unique n x a b p q = answers-unique _ _ (λ s t u v. same-seq s t (u.0 ∙ sym v.0) (u.1 ∙ sym v.1)) a b p q
 
-pub recorded-unique : (n x : ℕ) (a b : Answer) → RecordedAnswer n x a → RecordedAnswer n x b → a ≡ b
+pub recorded-unique : (n x : ℕ) (a b : Result CharSeq Refusal) → RecordedAnswer n x a → RecordedAnswer n x b → a ≡ b
 recorded-unique n x a b p q = answers-unique _ _ (λ s t u v. same-seq s t (u.0 ∙ sym v.0) (u.1 ∙ sym v.1)) a b p q
 
-pub unary-unique : (code : ℕ) (s : CharSeq) (a b : Answer) → UnaryAnswer code s a → UnaryAnswer code s b → a ≡ b
+pub unary-unique : (code : ℕ) (s : CharSeq) (a b : Result CharSeq Refusal) → UnaryAnswer code s a → UnaryAnswer code s b → a ≡ b
 unary-unique code s a b p q = answers-unique _ _ one a b p q
   where
     one : (r t : CharSeq) → UnaryRead code s r → UnaryRead code s t → r ≡ t
     one r t u v = denotes-unique r t u.2 (subst (λ (op : Unary). Denotes s.length (unary_reading op s.length (At s.values)) t) (unary-one v.0 u.0 (v.1 ∙ sym u.1)) v.2)
 
-pub binary-unique : (code : ℕ) (s t : CharSeq) (a b : Answer) → BinaryAnswer code s t a → BinaryAnswer code s t b → a ≡ b
+pub binary-unique : (code : ℕ) (s t : CharSeq) (a b : Result CharSeq Refusal) → BinaryAnswer code s t a → BinaryAnswer code s t b → a ≡ b
 binary-unique code s t a b p q = answers-unique _ _ one a b p q
   where
     one : (r r' : CharSeq) → BinaryRead code s t r → BinaryRead code s t r' → r ≡ r'

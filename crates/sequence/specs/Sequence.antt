@@ -1,13 +1,12 @@
 -- What the contracts say of a `CharSeq`, and the rows of the refusal table that operators give.
 -- Assumes nothing.
-use Rattle.std.specs.Prelude.{◌≡◌, List, [], ◌∷◌, ◌++◌, ℕ, ◌<◌, ◌≤◌}
+use Rattle.std.specs.Prelude.{◌≡◌, List, [], ◌∷◌, ◌++◌, ℕ, ◌<◌, ◌≤◌, Result, Ok, Err}
 use Rattle.words.specs.Ltlf.{Reading, AcceptsAt}
 use Rattle.words.specs.Word.{width, At, WfComputed, places, Means}
 use Rattle.sequence.specs.declared.CharSeq.{CharSeq}
-use Rattle.sequence.specs.declared.Answer.{Answer}
-use Rattle.sequence.specs.declared.Answer.TheVariants.{Sequence, Refused}
 use Rattle.sequence.specs.Operators.{Unary, Binary, unary_code, binary_code, unary_reading, binary_reading}
-use Rattle.rules.specs.Refusals.{Row, Decided}
+use Rattle.rules.specs.declared.refusal.Refusal.{Refusal}
+use Rattle.rules.specs.Refusals.{Row, Decided, refusal_number, number_of}
 
 -- "A sequence is a length n and a 64-bit word"
 abbrev pub seq : ℕ → ℕ → CharSeq
@@ -65,39 +64,38 @@ binary_rows code s t = not_binary code ∷ (ill_formed s ++ (ill_formed t ++ (un
 -- ---- the answers
 
 -- 01's number of each case of an answer; 0 where it is a sequence
-abbrev pub answer_number : Answer → ℕ
-answer_number (Sequence s) = 0
-answer_number (Refused k) = k
+abbrev pub answer_number : Result CharSeq Refusal → ℕ
+answer_number a = number_of a
 
 -- and what the case carries: the sequence is as it is asked, and a refusal has only its number, which is not 0
-abbrev pub AnswerCarries : (CharSeq → Type 0) → Answer → Type 0
-AnswerCarries asked (Sequence s) = asked s
-AnswerCarries asked (Refused k) = 0 < k
+abbrev pub AnswerCarries : (CharSeq → Type 0) → Result CharSeq Refusal → Type 0
+AnswerCarries asked (Ok s) = asked s
+AnswerCarries asked (Err refusal) = 0 < refusal_number refusal
 
 -- an answer by the rows
-abbrev pub Answers : List Row → (CharSeq → Type 0) → Answer → Type 0
+abbrev pub Answers : List Row → (CharSeq → Type 0) → Result CharSeq Refusal → Type 0
 Answers rows asked a = Decided rows (answer_number a) × AnswerCarries asked a
 
 -- the sequence of that length and word
 abbrev pub IsSeq : ℕ → ℕ → CharSeq → Type 0
 IsSeq n x r = (r.length ≡ n) × (r.values ≡ x)
 
-abbrev pub NewAnswer : ℕ → ℕ → Answer → Type 0
+abbrev pub NewAnswer : ℕ → ℕ → Result CharSeq Refusal → Type 0
 NewAnswer n x a = Answers (ill_formed (seq n x)) (IsSeq n x) a
 
-abbrev pub RecordedAnswer : ℕ → ℕ → Answer → Type 0
+abbrev pub RecordedAnswer : ℕ → ℕ → Result CharSeq Refusal → Type 0
 RecordedAnswer n x a = Answers (ill_recorded (seq n x)) (IsSeq n x) a
 
 -- the operator with that code, read on the sequence
 abbrev pub UnaryRead : ℕ → CharSeq → CharSeq → Type 0
 UnaryRead code s r = (op : Unary) × (unary_code op ≡ code) × Denotes s.length (unary_reading op s.length (At s.values)) r
 
-abbrev pub UnaryAnswer : ℕ → CharSeq → Answer → Type 0
+abbrev pub UnaryAnswer : ℕ → CharSeq → Result CharSeq Refusal → Type 0
 UnaryAnswer code s a = Answers (unary_rows code s) (UnaryRead code s) a
 
 -- the operator with that code, read on two sequences
 abbrev pub BinaryRead : ℕ → CharSeq → CharSeq → CharSeq → Type 0
 BinaryRead code s t r = (op : Binary) × (binary_code op ≡ code) × Denotes s.length (binary_reading op s.length (At s.values) (At t.values)) r
 
-abbrev pub BinaryAnswer : ℕ → CharSeq → CharSeq → Answer → Type 0
+abbrev pub BinaryAnswer : ℕ → CharSeq → CharSeq → Result CharSeq Refusal → Type 0
 BinaryAnswer code s t a = Answers (binary_rows code s t) (BinaryRead code s t) a

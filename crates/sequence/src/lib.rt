@@ -3,22 +3,17 @@
 
 ghost use Rattle.std.specs.Prelude.{◌≡◌, ◌↔◌, true, ◌<◌};
 ghost use Rattle.words.specs.Word.{width, Wf, places, Means};
-ghost use Rattle.rules.specs.Refusals.{Decided};
+ghost use Rattle.rules.specs.Refusals.{Decided, number_of};
 ghost use Rattle.sequence.specs.Operators.{not, weak_next, strong_next, finally, globally, or, and, until, release, implies, equiv};
 ghost use Rattle.sequence.specs.Masked.{UnaryOn, BinaryOn, UnaryBy, BinaryBy};
 ghost use Rattle.sequence.specs.Sequence.{seq, WellFormed, SeqAccepts, ill_formed, NewAnswer, RecordedAnswer};
+
+use rules::refusal::Refusal;
 
 #[derive(Clone, Copy)]
 pub struct CharSeq {
     pub length: usize,
     pub values: u64,
-}
-
-// The sequence that an operation answers, or the number of its refusal.
-#[derive(Clone, Copy)]
-pub enum Answer {
-    Sequence(CharSeq),
-    Refused(u8),
 }
 
 impl CharSeq {
@@ -30,28 +25,26 @@ impl CharSeq {
     pub const FULL_MASK: u64 = 0xffff_ffff_ffff_ffff;
 
     // The sequence of that length and word, or a refusal.
-    pub fn new(length: usize, values: u64) -> Answer
+    pub fn new(length: usize, values: u64) -> Result<CharSeq, Refusal>
         ensures { NewAnswer length values result }
     {
         let seq = CharSeq { length, values };
-        let refusal = seq.refusal();
-        if refusal != 0 {
-            return Answer::Refused(refusal);
-        }
-        Answer::Sequence(seq)
+        seq.check()?;
+        Ok(seq)
     }
 
     // The same of a word that was recorded: it has a bit for each snapshot and no other, so at length 0 it is 0.
-    pub fn recorded(length: usize, values: u64) -> Answer
+    pub fn recorded(length: usize, values: u64) -> Result<CharSeq, Refusal>
         ensures { RecordedAnswer length values result }
     {
         if length > Self::MAX_LENGTH {
-            return Answer::Refused(4);
+            return Err(Refusal::Length);
         }
         if Self::is_clear(values, length) {
-            return Answer::Sequence(CharSeq { length, values });
+            Ok(CharSeq { length, values })
+        } else {
+            Err(Refusal::Bit)
         }
-        Answer::Refused(5)
     }
 
     // The places of a formula's word: one for each snapshot, and the first at every length.
@@ -74,14 +67,18 @@ impl CharSeq {
         Self::is_clear(self.values, Self::places(self.length))
     }
 
-    // The number that refuses the sequence, or 0.
-    pub fn refusal(self) -> u8
-        ensures { Decided (ill_formed self) result }
+    // What refuses the sequence, if anything does.
+    pub fn check(self) -> Result<(), Refusal>
+        ensures { Decided (ill_formed self) (number_of result) }
     {
         if self.length > Self::MAX_LENGTH {
-            return 4;
+            return Err(Refusal::Length);
         }
-        if self.is_well_formed() { 0 } else { 5 }
+        if self.is_well_formed() {
+            Ok(())
+        } else {
+            Err(Refusal::Bit)
+        }
     }
 
     // Whether the formula holds at 0. At length 0 that is its reading on the empty trace.

@@ -1,3 +1,2 @@
--- Codes, and that the contracts leave one answer.
-pub mod Codes
+-- That the contracts leave one answer.
 pub mod Unique

@@ -1,3 +1,2 @@
--- What a reader must believe of the settings: Settings. `Inner` is only for private functions: no public contract cites it.
+-- What a reader must believe of the settings: Settings.
 pub mod Settings
-pub mod Inner

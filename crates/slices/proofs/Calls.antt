@@ -11,8 +11,9 @@ use lib.ListN.{length, drop, length-append}
 use lib.Dec.{eqb}
 use Rattle.rules.specs.Limits.{most_size, most_room}
 use Rattle.rules.specs.Lists.{count}
-use Rattle.rules.specs.Refusals.{Decided, first_of}
-use Rattle.rules.proofs.Refusals.{Numbered, decided-both, decided-none}
+use Rattle.rules.specs.declared.refusal.Refusal.{Refusal}
+use Rattle.rules.specs.Refusals.{Decided, refusal_number}
+use Rattle.rules.proofs.Refusals.{Numbered, decided-later, refused-early}
 use Rattle.formula.specs.Formula.{proposition}
 use Rattle.walk.specs.Walk.{tally, layer, seed}
 use Rattle.walk.specs.Input as walk
@@ -26,6 +27,7 @@ use Rattle.rows.proofs.Matrices.{length-map}
 use Rattle.table.specs.Slices.{Cols, table_over}
 use Rattle.checks.specs.Refusals.{setting_wrong, search_rows}
 use Rattle.state.specs.declared.State.{State}
+use Rattle.state.specs.declared.End.{End}
 use Rattle.turns.specs.Costs.{in_all}
 use Rattle.turns.specs.Standing.{starts_in, layer_at, state_at, todo, StandsIn}
 use Rattle.turns.specs.Turns.{StateIn, GoAsks, GoDoes}
@@ -34,16 +36,10 @@ use Rattle.turns.proofs.Settling.{settled-more, turn-none, turn-over, begun-is}
 use Rattle.rules.specs.Limits.{most_budget}
 use Rattle.slices.specs.Slices.{fresh_state, StandsAt, state_wrong, resume_rows, advance_rows}
 use Rattle.slices.specs.Resume.{Went}
-use Rattle.slices.specs.Inner.{OneOrTwo, ThenState}
+use Rattle.slices.specs.Inner.{OneOrTwo}
 use Rattle.slices.proofs.Checks.{unary-few, binary-few}
 
 -- ---- the refusals
-
-pub one-or-two-some : (r m k : ℕ) → OneOrTwo r m k → 0 < k
-unfolding Decided
-one-or-two-some r m k (inl a) = omega (arith, a.1)
-one-or-two-some r m k (inr (a, inl b)) = omega (arith, b.1)
-one-or-two-some r m k (inr (a, inr b)) = absurd (b.0 tt)
 
 -- a setting is wrong, or none is
 settings : (i : Input) → (setting_wrong i).given ⊎ ((setting_wrong i).given → ⊥)
@@ -67,29 +63,17 @@ settings i = elim (dec_le 1 i.bound) [
   ]
 ]
 
-abbrev pub Then : Input → State → ℕ → ℕ → Type 0
-Then i state refused k = ThenState refused i.recording.propositions i.bound i.room i.constants (length i.unary) (length i.binary) state k
-
-first-none : (a b : ℕ) → first_of a b ≡ 0 → (a ≡ 0) × (b ≡ 0)
-first-none zero b e = (refl, e)
-first-none (suc a) b e = absurd (omega (arith, e))
-
--- where nothing is refused the search refuses nothing and the state passes
-pub none-refused : (i : Input) (state : State) {refused k : ℕ} → Then i state refused k → k ≡ 0 → (refused ≡ 0) × ((state_wrong i state).given → ⊥)
-none-refused i state {refused} w e =
-    let (a, b) = first-none refused w.own (sym w.is ∙ e) in
-    (a, (decided-none (state_wrong i state) [] (omega arith, tt) (subst (Decided (state_wrong i state ∷ [])) b w.decided)).0)
-
 module _ (i : Input) (t : Cols) (state : State) where
   numbered : Numbered (search_rows i t)
   numbered = (omega arith, (omega arith, (omega arith, (omega arith, (omega arith, (omega arith, (omega arith, (omega arith, tt))))))))
 
-  -- what the search refuses comes first, and then the state
-  pub rows_all : (refused k : ℕ) → Decided (search_rows i t) refused → Then i state refused k → Decided (advance_rows i t state) k
-  rows_all refused k d w = subst (Decided (advance_rows i t state)) (sym w.is) (decided-both (search_rows i t) (state_wrong i state ∷ []) refused w.own numbered d w.decided)
+  -- what the search refuses comes first
+  pub rows-refused : (refusal : Refusal) → Decided (search_rows i t) (refusal_number refusal) → Decided (advance_rows i t state) (refusal_number refusal)
+  rows-refused refusal d = refused-early (search_rows i t) (state_wrong i state ∷ []) refusal d
 
-  pub rows-state : (k : ℕ) → Decided (search_rows i t) k → k ≡ 0 → (m : ℕ) → Decided (state_wrong i state ∷ []) m → Decided (advance_rows i t state) m
-  rows-state k d z m s = decided-both (search_rows i t) (state_wrong i state ∷ []) 0 m numbered (subst (Decided (search_rows i t)) z d) s
+  -- and then the state
+  pub rows-state : Decided (search_rows i t) 0 → (k : ℕ) → Decided (state_wrong i state ∷ []) k → Decided (advance_rows i t state) k
+  rows-state d k s = decided-later (search_rows i t) (state_wrong i state ∷ []) k numbered d s
 
   -- a budget that is too large comes after 1 and as 2, before 3; one that isn't is passed over
   pub rows-budget : (budget k : ℕ) → most_budget < budget → OneOrTwo i.recording.sessions i.recording.propositions k → Decided (resume_rows i t budget state) k
@@ -106,9 +90,15 @@ module _ (i : Input) (t : Cols) (state : State) where
 
 -- ---- the walk goes on
 
+more_or_not : (end : End) → (end ≡ End.More) ⊎ (end ≡ End.More → ⊥)
+more_or_not End.More = inl refl
+more_or_not End.Found = inr (λ e. cc)
+more_or_not End.None = inr (λ e. cc)
+more_or_not End.Full = inr (λ e. cc)
+
 module _ (i : Input) (t : Cols) (ok : Passes i) (budget : ℕ) (state : State) where
   -- where it has ended it stays
-  stays : (t₀ : Cols) (c : Cut (List ℕ)) → (state.end ≡ 0 → ⊥) → StandsIn i t₀ c state t → StandsIn i t₀ (go_on i budget c) state t
+  stays : (t₀ : Cols) (c : Cut (List ℕ)) → (state.end ≡ End.More → ⊥) → StandsIn i t₀ c state t → StandsIn i t₀ (go_on i budget c) state t
   stays t₀ (more s j k n) e w = absurd (e (ap (λ (x : State). x.end) w.is))
   stays t₀ (over f k n) e w = subst (λ (c : Cut (List ℕ)). StandsIn i t₀ c state t) (sym (turn-over i budget f k n)) w
 
@@ -117,10 +107,9 @@ module _ (i : Input) (t : Cols) (ok : Passes i) (budget : ℕ) (state : State) w
     passes = v.state-in;
     spends = v.spends;
     keeps = v.keeps;
-    runs = λ t₀ r n w. subst (λ (c : Cut (List ℕ)). StandsIn i t₀ c after t') (turns-add i n budget (begun i)) (elim (dec_le state.end 0) [
-      | yes e ↦ v.runs t₀ (go_on i n (begun i)) ok r (omega arith) w
-      | no e ↦
-          let o : state.end ≡ 0 → ⊥ = λ z. e (omega arith) in
+    runs = λ t₀ r n w. subst (λ (c : Cut (List ℕ)). StandsIn i t₀ c after t') (turns-add i n budget (begun i)) (elim (more_or_not state.end) [
+      | inl e ↦ v.runs t₀ (go_on i n (begun i)) ok r e w
+      | inr o ↦
           let (a, b) = v.ended o in
           subst (λ (x : State). StandsIn i t₀ (go_on i budget (go_on i n (begun i))) x t') (sym a)
           (subst (λ (x : Cols). StandsIn i t₀ (go_on i budget (go_on i n (begun i))) state x) (sym b) (stays t₀ (go_on i n (begun i)) o w))

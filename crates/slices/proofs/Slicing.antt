@@ -3,6 +3,7 @@
 use mathlib.Core.Path.{◌≡◌, refl, sym, ap, ◌∙◌, subst}
 use mathlib.Core.Logic.{◌⊎◌, inl, inr}
 use mathlib.Core.List.{List, [], ◌∷◌}
+use Rattle.std.specs.Prelude.{Ok, Err}
 use Prim.Native.Nat.{ℕ, ◌+◌, ◌≤◌, ◌<◌}
 use native.Mathlib.Omega.{arith}
 use lib.ListN.{length}
@@ -20,11 +21,11 @@ use Rattle.turns.specs.Standing.{state_at, StandsIn}
 use Rattle.turns.proofs.Settling.{turn-over}
 use Rattle.slices.specs.Said.{walk_said}
 use Rattle.slices.specs.Slices.{fresh_state, state_said, cut_said, more_said, StandsAt, state_wrong, resume_rows}
-use Rattle.slices.specs.declared.Resumed.TheVariants.{Goes, Refused}
 use Rattle.slices.specs.Resume.{resumed_number}
 use Rattle.slices.specs.Slicing.{FreshStands, CallStands, StandsUnique, CallUnique, TellsCut, GrownByBudget, BudgetNone, EndsInTime, EndRepeats}
 use Rattle.slices.specs.Slicing.{Turns, stop, turn, total, Each1, WholeByTurns, EnoughTurns, FreshPasses, LeftPasses, WithinBudget, CallGoes}
-use Rattle.rules.proofs.Refusals.{decided-unique, decided-not}
+use Rattle.rules.specs.Refusals.{refusal_number}
+use Rattle.rules.proofs.Refusals.{decided-unique, decided-not, refusal-one}
 use Rattle.checks.proofs.Passing.{passes-whole}
 use Rattle.slices.proofs.Calls.{fresh_in, fresh-stands-here, rows-state, rows-within}
 
@@ -38,14 +39,14 @@ pub stands-unique : StandsUnique
 stands-unique i t₀ n a b t u v w = (v.is ∙ sym w.is, v.holds ∙ sym w.holds)
 
 pub call-unique : CallUnique
-call-unique i t₀ t budget n state (Goes a) (Goes b) t' u' r w c d =
-    let s = stands-unique i t₀ (n + budget) a b t' u' (c.outcome.runs t₀ r n w) (d.outcome.runs t₀ r n w) in (ap Goes s.0, s.1)
-call-unique i t₀ t budget n state (Goes a) (Refused k) t' u' r w c d =
-    absurd (let e = decided-unique (resume_rows i t budget state) 0 k c.decided d.decided in omega (arith, e, d.outcome.0))
-call-unique i t₀ t budget n state (Refused k) (Goes b) t' u' r w c d =
-    absurd (let e = decided-unique (resume_rows i t budget state) k 0 c.decided d.decided in omega (arith, e, c.outcome.0))
-call-unique i t₀ t budget n state (Refused k) (Refused l) t' u' r w c d =
-    (ap Refused (decided-unique (resume_rows i t budget state) k l c.decided d.decided), c.outcome.1 ∙ sym d.outcome.1)
+call-unique i t₀ t budget n state (Ok a) (Ok b) t' u' r w c d =
+    let s = stands-unique i t₀ (n + budget) a b t' u' (c.outcome.runs t₀ r n w) (d.outcome.runs t₀ r n w) in (ap Ok s.0, s.1)
+call-unique i t₀ t budget n state (Ok a) (Err k) t' u' r w c d =
+    absurd (let e = decided-unique (resume_rows i t budget state) 0 (refusal_number k) c.decided d.decided in omega (arith, e, d.outcome.0))
+call-unique i t₀ t budget n state (Err k) (Ok b) t' u' r w c d =
+    absurd (let e = decided-unique (resume_rows i t budget state) (refusal_number k) 0 c.decided d.decided in omega (arith, e, c.outcome.0))
+call-unique i t₀ t budget n state (Err k) (Err l) t' u' r w c d =
+    (ap Err (refusal-one k l (decided-unique (resume_rows i t budget state) (refusal_number k) (refusal_number l) c.decided d.decided)), c.outcome.1 ∙ sym d.outcome.1)
 
 said_at : (i : Input) (c : Cut (List ℕ)) → state_said (state_at i c) ≡ cut_said c
 said_at i (more s j k n) = refl
@@ -132,4 +133,4 @@ within-budget i t budget state after t' c = (c.outcome.spends, c.outcome.keeps)
 pub call-goes : CallGoes
 call-goes i ok t r budget h state w a t' c =
     decided-unique (resume_rows i t budget state) (resumed_number a) 0 c.decided
-    (rows-within i t state budget 0 h (rows-state i t state 0 ((passes-whole i t).1 (ok, r)) refl 0 (decided-not (state_wrong i state) w)))
+    (rows-within i t state budget 0 h (rows-state i t state ((passes-whole i t).1 (ok, r)) 0 (decided-not (state_wrong i state) w)))

@@ -1,7 +1,7 @@
 -- Request E7, "Search in slices between screen updates": a fresh state, what it is that state and room stand at count n of the walk, the answer that a state tells, and the
 -- refusals.
 -- Assumes nothing.
-use Rattle.std.specs.Prelude.{cond, List, [], ◌∷◌, ◌++◌, ℕ, ◌<◌, length, eqb}
+use Rattle.std.specs.Prelude.{List, [], ◌∷◌, ◌++◌, ℕ, ◌<◌, length}
 use Rattle.rules.specs.Limits.{most_budget}
 use Rattle.rules.specs.Refusals.{Row}
 use Rattle.rules.specs.Answers.{Said}
@@ -15,6 +15,7 @@ use Rattle.checks.specs.Refusals.{setting_wrong, no_room, code_wrong, search_row
 use Rattle.counting.specs.declared.Counts.{Counts}
 use Rattle.table.specs.Slices.{Cols}
 use Rattle.state.specs.declared.State.{State}
+use Rattle.state.specs.declared.End.{End}
 use Rattle.state.specs.Row as row
 use Rattle.turns.specs.Standing.{StandsIn}
 use Rattle.slices.specs.Said.{counts, found_said, none_said, full_said, end_said}
@@ -23,17 +24,22 @@ use Rattle.slices.specs.Said.{counts, found_said, none_said, full_said, end_said
 
 -- "or a fresh one": nothing is tried
 abbrev pub fresh_state : State
-fresh_state = record { size = 1; at = leaf_cursor 0; counts = record { tried = 0; kept = 0; dropped = 0 }; end = 0; root = no_node }
+fresh_state = record { size = 1; at = leaf_cursor 0; counts = record { tried = 0; kept = 0; dropped = 0 }; end = End.More; root = no_node }
 
 -- ---- the answer, told by the state: "It answers MORE until the walk ends"; its case is 4
 
 abbrev pub more_said : Counts → Said
 more_said n = record { number = 0; values = 4 ∷ n.tried ∷ n.kept ∷ n.dropped ∷ [] }
 
+-- what a state says by its end
+abbrev pub said_at : End → State → Said
+said_at End.More st = more_said st.counts
+said_at End.Found st = found_said (node_of st.root) st.counts
+said_at End.None st = none_said st.counts
+said_at End.Full st = full_said st.size st.counts
+
 abbrev pub state_said : State → Said
-state_said st =
-    cond (eqb st.end 1) (found_said (node_of st.root) st.counts)
-    (cond (eqb st.end 2) (none_said st.counts) (cond (eqb st.end 3) (full_said st.size st.counts) (more_said st.counts)))
+state_said st = said_at st.end st
 
 abbrev pub cut_said : Cut (List ℕ) → Said
 cut_said (more s j k n) = more_said (counts k n)

@@ -2,20 +2,18 @@
 -- name in proofs/Slicing: fresh-stands, call-stands, stands-unique, call-unique, tells-cut, grown-by-budget, budget-none, ends-in-time,
 -- end-repeats, whole-by-turns, enough-turns; and for any state, made up or not: fresh-passes, left-passes, within-budget, call-goes.
 -- Assumes nothing.
-use Rattle.std.specs.Prelude.{◌≡◌, ◌⊎◌, List, [], ◌∷◌, ℕ, ◌+◌, ◌≤◌, ◌<◌, length}
+use Rattle.std.specs.Prelude.{◌≡◌, ◌⊎◌, List, [], ◌∷◌, ℕ, ◌+◌, ◌≤◌, ◌<◌, length, Ok}
 use Rattle.walk.specs.Walk.{tried, kept}
 use Rattle.walk.specs.Input.{Input, Passes, search}
 use Rattle.walk.specs.Kept.{begun, go_on}
 use Rattle.checks.specs.Promises.{RoomThere}
-use Rattle.slices.specs.declared.Resumed.{Resumed}
-use Rattle.slices.specs.declared.Resumed.TheVariants.{Goes}
 use Rattle.table.specs.Slices.{Cols, table_over}
 use Rattle.state.specs.declared.State as value
 use Rattle.turns.specs.Standing.{kept_in}
 use Rattle.slices.specs.Said.{walk_said}
 use Rattle.rules.specs.Limits.{most_budget}
 use Rattle.slices.specs.Slices.{fresh_state, state_said, cut_said, more_said, StandsAt, state_wrong}
-use Rattle.slices.specs.Resume.{resumed_number, Called}
+use Rattle.slices.specs.Resume.{Resumed, resumed_number, Called}
 
 -- "or a fresh one": a fresh state stands at count 0, whatever the slices hold
 abbrev pub FreshStands : Type 0
@@ -24,7 +22,7 @@ FreshStands = (i : Input) → Passes i → (t : Cols) → StandsAt i t 0 fresh_s
 -- every call keeps the relation: what stood at count n stands at n + budget
 abbrev pub CallStands : Type 0
 CallStands = (i : Input) (t₀ t : Cols) (budget n : ℕ) (state after : value.State) (t' : Cols) → RoomThere i t₀ → StandsAt i t₀ n state t
-    → Called i t budget state (Goes after) t' → StandsAt i t₀ (n + budget) after t'
+    → Called i t budget state (Ok after) t' → StandsAt i t₀ (n + budget) after t'
 
 -- and it fixes the state and the slices: at a count there is one
 abbrev pub StandsUnique : Type 0
@@ -50,7 +48,7 @@ GrownByBudget = (i : Input) (t₀ : Cols) (n : ℕ) (state : value.State) (t : C
 -- "Budget 0 returns the same state", and nothing is written
 abbrev pub BudgetNone : Type 0
 BudgetNone = (i : Input) (t₀ t : Cols) (n : ℕ) (state after : value.State) (t' : Cols) → RoomThere i t₀ → StandsAt i t₀ n state t
-    → Called i t 0 state (Goes after) t' → (after ≡ state) × (t' ≡ t)
+    → Called i t 0 state (Ok after) t' → (after ≡ state) × (t' ≡ t)
 
 -- "A walk with no candidate left has ended, and the same call says so": once as many are spent as the walk tries, the answer is the whole walk's
 abbrev pub EndsInTime : Type 0
@@ -60,12 +58,12 @@ EndsInTime = (i : Input) (t₀ : Cols) (n : ℕ) (state : value.State) (t : Cols
 -- "A call after the end repeats it", for every budget
 abbrev pub EndRepeats : Type 0
 EndRepeats = (i : Input) (t₀ t : Cols) (budget n : ℕ) (state after : value.State) (t' : Cols) → RoomThere i t₀ → StandsAt i t₀ n state t → tried (search i) ≤ n
-    → Called i t budget state (Goes after) t' → (after ≡ state) × (t' ≡ t)
+    → Called i t budget state (Ok after) t' → (after ≡ state) × (t' ≡ t)
 
 -- ---- the search turn by turn: calls with these budgets, each from the state and the slices that the one before it left
 pub data Turns (i : Input) : value.State → Cols → List ℕ → value.State → Cols → Type 0 where
   stop : (state : value.State) (t : Cols) → Turns i state t [] state t
-  turn : (budget : ℕ) (rest : List ℕ) (state next last : value.State) (t t' u : Cols) → Called i t budget state (Goes next) t' → Turns i next t' rest last u
+  turn : (budget : ℕ) (rest : List ℕ) (state next last : value.State) (t t' u : Cols) → Called i t budget state (Ok next) t' → Turns i next t' rest last u
       → Turns i state t (budget ∷ rest) last u
 
 -- the candidates of all turns
@@ -97,11 +95,11 @@ FreshPasses = (i : Input) → Passes i → (state_wrong i fresh_state).given →
 
 -- what a call leaves is a state that a next call may be given
 abbrev pub LeftPasses : Type 0
-LeftPasses = (i : Input) (t : Cols) (budget : ℕ) (state after : value.State) (t' : Cols) → Called i t budget state (Goes after) t' → (state_wrong i after).given → ⊥
+LeftPasses = (i : Input) (t : Cols) (budget : ℕ) (state after : value.State) (t' : Cols) → Called i t budget state (Ok after) t' → (state_wrong i after).given → ⊥
 
 -- and the counts tried and kept have grown by no more than its budget
 abbrev pub WithinBudget : Type 0
-WithinBudget = (i : Input) (t : Cols) (budget : ℕ) (state after : value.State) (t' : Cols) → Called i t budget state (Goes after) t'
+WithinBudget = (i : Input) (t : Cols) (budget : ℕ) (state after : value.State) (t' : Cols) → Called i t budget state (Ok after) t'
     → (after.counts.tried ≤ state.counts.tried + budget) × (after.counts.kept ≤ state.counts.kept + budget)
 
 -- where the input passes, the room is there, the budget is one and 14 lets the state pass, the call is not refused

@@ -1,21 +1,24 @@
-// The number by which a budget that is too large is refused, and the state after all else.
-ghost use Rattle.slices.specs.Inner.{OneOrTwo, ThenState};
+// The refusal of a budget that is too large, and that of a state, which comes after all others.
+ghost use Rattle.std.specs.Prelude.{[], ◌∷◌};
+ghost use Rattle.rules.specs.Refusals.{Decided, number_of, refusal_number};
+ghost use Rattle.state.specs.Row.{state_wrong};
+ghost use Rattle.slices.specs.Inner.{OneOrTwo};
 
+use rules::refusal::Refusal;
 use state::State;
 
 // 1 comes before 2.
-pub(crate) fn one_or_two(r: usize, m: usize) -> u8
-    ensures { OneOrTwo r m result }
+pub(crate) fn one_or_two(r: usize, m: usize) -> Refusal
+    ensures { OneOrTwo r m (refusal_number result) }
 {
     if session::data::outside(r, m) {
-        return 1;
+        return Refusal::Numbers;
     }
-    2
+    Refusal::Settings
 }
 
-// The number of what was refused before, else 14 where the state is.
+// 14 where the state is wrong.
 pub(crate) fn then_state(
-    refused: u8,
     m: usize,
     bound: usize,
     room: usize,
@@ -23,15 +26,11 @@ pub(crate) fn then_state(
     unary: usize,
     binary: usize,
     state: State,
-) -> u8
-    ensures { ThenState refused m bound room constants unary binary state result }
+) -> Result<(), Refusal>
+    ensures { Decided (state_wrong m bound room constants unary binary state ∷ []) (number_of result) }
 {
-    let wrong = state::wrong(m, bound, room, constants, unary, binary, state);
-    if refused != 0 {
-        return refused;
+    if state::wrong(m, bound, room, constants, unary, binary, state) {
+        return Err(Refusal::State);
     }
-    if wrong {
-        return 14;
-    }
-    0
+    Ok(())
 }

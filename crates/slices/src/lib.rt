@@ -12,15 +12,9 @@ ghost use Rattle.slices.specs.Resume.{Advanced, Called};
 use counting::Counts;
 use formula::kinds::Node;
 use rules::kinds::Place;
+use rules::refusal::Refusal;
 use split::Cursor;
-use state::State;
-
-// The state after a call, which tells the answer; or a refusal, and then the state is the one that was handed in.
-#[derive(Clone, Copy)]
-pub enum Resumed {
-    Goes(State),
-    Refused(u8),
-}
+use state::{End, State};
 
 // A state of which nothing is tried.
 pub fn fresh() -> State
@@ -40,7 +34,7 @@ pub fn fresh() -> State
             kept: 0,
             dropped: 0,
         },
-        end: 0,
+        end: End::More,
         root: Node {
             code: 0,
             left: Place(0),
@@ -70,35 +64,22 @@ pub fn advance(
     rights: &mut [u16],
     sizes: &mut [u8],
     matrices: &mut [u64],
-) -> Resumed
+) -> Result<State, Refusal>
     ensures { Advanced
         (input_of r m bound room constants marks.now lengths.now words.now unary.now binary.now)
         (cols codes.old lefts.old rights.old sizes.old matrices.old)
         budget state result
         (cols codes.new lefts.new rights.new sizes.new matrices.new) }
 {
-    let refused = checks::refusal(
+    checks::check(
         r, m, bound, room, constants, marks, lengths, words, unary, binary, codes, lefts, rights,
         sizes, matrices,
-    );
-    let number = good::then_state(
-        refused,
-        m,
-        bound,
-        room,
-        constants,
-        unary.len(),
-        binary.len(),
-        state,
-    );
-    if number != 0 {
-        return Resumed::Refused(number);
-    }
-    let after = turns::go_on(
+    )?;
+    good::then_state(m, bound, room, constants, unary.len(), binary.len(), state)?;
+    Ok(turns::go_on(
         r, m, bound, room, constants, marks, lengths, words, unary, binary, budget, state, codes,
         lefts, rights, sizes, matrices,
-    );
-    Resumed::Goes(after)
+    ))
 }
 
 // The search in slices: as `advance`, with a budget of at most 1,000,000 candidates; more is refused with 2.
@@ -120,7 +101,7 @@ pub fn resume(
     rights: &mut [u16],
     sizes: &mut [u8],
     matrices: &mut [u64],
-) -> Resumed
+) -> Result<State, Refusal>
     ensures { Called
         (input_of r m bound room constants marks.now lengths.now words.now unary.now binary.now)
         (cols codes.old lefts.old rights.old sizes.old matrices.old)
@@ -128,7 +109,7 @@ pub fn resume(
         (cols codes.new lefts.new rights.new sizes.new matrices.new) }
 {
     if rules::BUDGET < budget {
-        return Resumed::Refused(good::one_or_two(r, m));
+        return Err(good::one_or_two(r, m));
     }
     advance(
         r, m, bound, room, constants, marks, lengths, words, unary, binary, budget, state, codes,

@@ -1,13 +1,12 @@
 -- The cursors at which a split's candidates stand, in the order of document 01, from any cursor on; the candidate at each; and what a step says.
 -- Every loop that a cursor stands in is a `resume`: what is left of its first turn, and the other turns whole.
 -- Assumes nothing.
-use Rattle.std.specs.Prelude.{◌≡◌, Bool, true, false, cond, not, ◌&&◌, List, [], ◌∷◌, ◌++◌, ℕ, zero, suc, ◌+◌, ◌-◌, ◌<◌, length, get_or, eqb, ltb}
+use Rattle.std.specs.Prelude.{◌≡◌, Bool, true, false, cond, not, ◌&&◌, List, [], ◌∷◌, ◌++◌, ℕ, zero, suc, ◌+◌, ◌-◌, ◌<◌, length, get_or, eqb, ltb, Option, None, Some}
 use Rattle.rules.specs.Lists.{each, count}
 use Rattle.sequence.specs.Operators.{binary_code, commutes, binary_of}
 use Rattle.split.specs.declared.Cursor.{Cursor}
 use Rattle.split.specs.declared.Part.{Part}
-use Rattle.split.specs.declared.Step.{Step}
-use Rattle.split.specs.declared.Step.TheVariants.{Candidate, End}
+use Rattle.split.specs.declared.Candidate.{Candidate}
 
 -- a candidate's code and fields: "unused fields are 0, and a proposition's number is its left field"
 pub record Cand : Type 0 where
@@ -22,8 +21,11 @@ abbrev pub cursor : ℕ → ℕ → ℕ → ℕ → Bool → Cursor
 cursor i l q o second = record { split = i; left = l; right = q; operator = o; second = second }
 
 -- a step that tells a candidate and the cursor after it
-abbrev pub told : Cand → Cursor → Step
-told c next = Candidate c.code (record { 0 = c.left }) (record { 0 = c.right }) next
+abbrev pub candidate_of : Cand → Cursor → Candidate
+candidate_of c next = record { code = c.code; left = record { 0 = c.left }; right = record { 0 = c.right }; next = next }
+
+abbrev pub told : Cand → Cursor → Option Candidate
+told c next = Some (candidate_of c next)
 
 -- the numbers from a to before b
 unfoldable pub range : ℕ → ℕ → List ℕ
@@ -90,8 +92,8 @@ module _ (codes : List ℕ) where
 -- ---- a step
 
 -- of what F says is ahead of a cursor the step takes the first, of which P holds; or none is ahead
-pub data Takes (F : Cursor → List Cursor) (cand : Cursor → Cand) (after : Cursor → Cursor) (P : Cursor → Type 0) (at : Cursor) (step : Step) : Type 0 where
-  ends : F at ≡ [] → step ≡ End → Takes F cand after P at step
+pub data Takes (F : Cursor → List Cursor) (cand : Cursor → Cand) (after : Cursor → Cursor) (P : Cursor → Type 0) (at : Cursor) (step : Option Candidate) : Type 0 where
+  ends : F at ≡ [] → step ≡ None → Takes F cand after P at step
   takes : (here : Cursor) → F at ≡ here ∷ F (after here) → step ≡ told (cand here) (after here) → P here → Takes F cand after P at step
 
 -- where the next one stands
@@ -102,6 +104,6 @@ pub record CursorStands (i : ℕ) (codes : List ℕ) (end to : ℕ) (at : Cursor
   pub operator-in : at.operator < length codes
   pub once : twice i (code_at codes at.operator) ≡ false → at.second ≡ false
 
-abbrev pub InPart : List ℕ → Part → Cursor → Step → Type 0
+abbrev pub InPart : List ℕ → Part → Cursor → Option Candidate → Type 0
 InPart codes part at =
     Takes (part_from codes part.end part.from part.to) (cand_in codes) (after_in codes) (CursorStands at.split codes part.end part.to) at

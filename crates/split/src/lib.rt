@@ -1,8 +1,8 @@
 // One split of a size, one candidate at a time, by a cursor that knows no matrix (the inner loops of aux.rs and cache.rs).
 #![tactic(auto)]
 
-ghost use Rattle.std.specs.Prelude.{◌≡◌, [], ◌^◌, ◌<◌, length};
-ghost use Rattle.split.specs.Split.{told, twice, column_from, cand_in, after_in, InPart};
+ghost use Rattle.std.specs.Prelude.{◌≡◌, false, [], ◌^◌, ◌<◌, length};
+ghost use Rattle.split.specs.Split.{cursor, told, twice, column_from, cand_in, after_in, InPart};
 ghost use Rattle.split.specs.Inner.{stand};
 
 use operators::operator_of;
@@ -19,16 +19,38 @@ pub struct Cursor {
     pub second: bool,
 }
 
-// The candidate at a cursor and the cursor after it; or the size has none left.
+impl Cursor {
+    // Before the first operator over a pair of places.
+    pub fn at_pair(split: usize, left: usize, right: usize) -> Cursor
+        ensures { result ≡ cursor split left right 0 false }
+    {
+        Cursor {
+            split,
+            left,
+            right,
+            operator: 0,
+            second: false,
+        }
+    }
+
+    // Before a leaf, by its position in their list.
+    pub fn at_leaf(position: usize) -> Cursor
+        ensures { result ≡ cursor 0 0 0 position false }
+    {
+        Cursor {
+            operator: position,
+            ..Cursor::at_pair(0, 0, 0)
+        }
+    }
+}
+
+// The candidate at a cursor and the cursor after it. A step tells one, or none where the size has none left.
 #[derive(Clone, Copy)]
-pub enum Step {
-    Candidate {
-        code: u8,
-        left: Place,
-        right: Place,
-        next: Cursor,
-    },
-    End,
+pub struct Candidate {
+    pub code: u8,
+    pub left: Place,
+    pub right: Place,
+    pub next: Cursor,
 }
 
 // The places of a split: the left ones end before `end`, the right ones go from `from` to before `to`.
@@ -50,87 +72,69 @@ fn twice(split: usize, code: u8) -> bool
 }
 
 // The candidate at a cursor whose numbers are in range: op(l, q), and after it op(q, l) where there are two orders.
-fn over(at: Cursor, codes: &[u8]) -> Step
+fn over(at: Cursor, codes: &[u8]) -> Option<Candidate>
     requires { (at.operator < length codes.now) × (at.left < 2 ^ 16) × (at.right < 2 ^ 16) }
     ensures { result ≡ told (cand_in codes.now (stand codes.now at)) (after_in codes.now (stand codes.now at)) }
 {
-    let o = at.operator;
-    let code = codes[o];
+    let code = codes[at.operator];
     let l = Place(at.left as u16);
     let q = Place(at.right as u16);
-    let halfway = Cursor {
-        split: at.split,
-        left: at.left,
-        right: at.right,
-        operator: o,
-        second: true,
-    };
+    let halfway = Cursor { second: true, ..at };
     let after = Cursor {
-        split: at.split,
-        left: at.left,
-        right: at.right,
-        operator: o + 1,
+        operator: at.operator + 1,
         second: false,
+        ..at
     };
     if !twice(at.split, code) {
-        return Step::Candidate {
+        return Some(Candidate {
             code,
             left: l,
             right: q,
             next: after,
-        };
+        });
     }
     if at.second {
-        return Step::Candidate {
+        return Some(Candidate {
             code,
             left: q,
             right: l,
             next: after,
-        };
+        });
     }
-    Step::Candidate {
+    Some(Candidate {
         code,
         left: l,
         right: q,
         next: halfway,
-    }
+    })
 }
 
 // A split where the cursor's left place has none left: the next left place.
-fn next_left(at: Cursor, part: Part, codes: &[u8]) -> Step
+fn next_left(at: Cursor, part: Part, codes: &[u8]) -> Option<Candidate>
     requires { (at.left < part.end) × (0 < length codes.now) × (column_from codes.now part.to at at.left ≡ []) }
     ensures { InPart codes.now part at result }
 {
     let l = at.left + 1;
     if (part.end as usize) <= l {
-        return Step::End;
+        return None;
     }
     if part.to <= part.from {
-        return Step::End;
+        return None;
     }
-    over(
-        Cursor {
-            split: at.split,
-            left: l,
-            right: part.from as usize,
-            operator: 0,
-            second: false,
-        },
-        codes,
-    )
+    over(Cursor::at_pair(at.split, l, part.from as usize), codes)
 }
 
 // A split: its left places, under each its right ones, over each pair the operators.
-pub fn part_step(at: Cursor, part: Part, codes: &[u8]) -> Step
+pub fn part_step(at: Cursor, part: Part, codes: &[u8]) -> Option<Candidate>
     ensures { InPart codes.now part at result }
 {
     let q = at.right;
     let to = part.to as usize;
     if (part.end as usize) <= at.left {
-        return Step::End;
+        return None;
     }
-    if codes.len() == 0 {
-        return Step::End;
+    if codes.is_empty() {
+        return None;
     }
     if to <= q {
         return next_left(at, part, codes);
@@ -141,14 +145,5 @@ pub fn part_step(at: Cursor, part: Part, codes: &[u8]) -> Step
     if to <= q + 1 {
         return next_left(at, part, codes);
     }
-    over(
-        Cursor {
-            split: at.split,
-            left: at.left,
-            right: q + 1,
-            operator: 0,
-            second: false,
-        },
-        codes,
-    )
+    over(Cursor::at_pair(at.split, at.left, q + 1), codes)
 }

@@ -6,7 +6,7 @@ use mathlib.Core.List.{List, [], ◌∷◌, ◌++◌, map}
 use Prim.Native.Nat.{ℕ, zero, suc, ◌+◌, ◌-◌, ◌≤◌, ◌<◌, min}
 use native.Mathlib.Omega.{arith}
 use native.Mathlib.Numerals.{add-one}
-use native.Mathlib.Decide.{dec_le}
+use native.Mathlib.Decide.{dec_le, ℕ_discrete}
 use lib.ListN.{length, get_or, take, set, replicate, length-set, length-map, length-take, get_or-replicate, length-replicate}
 use lib.Seq.{take_all, take-suc, get_or-set_same, get_or-set_other, ext_get_or}
 use lib.Dec.{eqb, ltb}
@@ -61,109 +61,106 @@ below_next t (x ∷ xs) = elim (dec_le t x) [
   | no h ↦ rw (lt-ltb x (suc t) (omega arith), lt-ltb x t (omega arith), ne_eqb x t (λ e. omega arith)) (omega (arith, below_next t xs))
 ]
 
--- ---- the loops
+-- ---- the sizes are counted, one by one
 
-module _ (sizes : List ℕ) where
-  -- none is counted
-  pub counted_none : SizesCounted sizes 0 (replicate {A = ℕ} 33 0)
-  unfolding exactly
-  counted_none = record {
-    long = length-replicate {A = ℕ} 33 0;
-    none = get_or-replicate {A = ℕ} 33 0 0 0 (omega arith);
-    some = λ t h. get_or-replicate {A = ℕ} 33 (suc t) 0 0 (omega arith);
+-- none is counted
+pub counted_none : SizesCounted [] (replicate {A = ℕ} 33 0)
+unfolding exactly
+counted_none = record {
+  long = length-replicate {A = ℕ} 33 0;
+  none = get_or-replicate {A = ℕ} 33 0 0 0 (omega arith);
+  some = λ t h. get_or-replicate {A = ℕ} 33 (suc t) 0 0 (omega arith);
+}
+
+-- after the first p of them, where there is one more
+module _ (sizes : List ℕ) (p : ℕ) {counts : List ℕ} (w : SizesCounted (take p sizes) counts) (h : p < length sizes) where
+  more : (t : ℕ) → exactly t (take (p + 1) sizes) ≡ exactly t (take p sizes) + cond (eqb (get_or sizes p 0) t) 1 0
+  more t = rw (add-one p, take-suc sizes p 0 h) (exactly-more t (get_or sizes p 0) (take p sizes))
+
+  -- a count fits where it is made
+  pub counted-few : (t : ℕ) → t ≤ most_size → get_or counts (t + 1) 0 ≤ p
+  counted-few t l = omega (arith, ap (λ (u : ℕ). get_or counts u 0) (add-one t), w.some t l, exactly-few t (take p sizes), length-take p sizes)
+
+  -- one more is counted; or it is too large for any
+  pub counted-more : get_or sizes p 0 < most_size + 1
+      → SizesCounted (take (p + 1) sizes) (set counts (get_or sizes p 0 + 1) (get_or counts (get_or sizes p 0 + 1) 0 + 1))
+  counted-more k = record {
+    long = length-set counts _ _ ∙ w.long;
+    none = get_or-set_other counts _ 0 _ 0 (λ e. omega arith) ∙ w.none;
+    some = λ t l. elim (ℕ_discrete (get_or sizes p 0) t) [
+      | yes e ↦ (
+          let x = get_or sizes p 0 in
+          ap (λ (u : ℕ). get_or (set counts (x + 1) (get_or counts (x + 1) 0 + 1)) u 0) (let f : suc t ≡ x + 1 = omega arith in f)
+          ∙ get_or-set_same counts (x + 1) _ 0 (omega (arith, w.long))
+          ∙ ap (λ (u : ℕ). get_or counts u 0 + 1) (let f : x + 1 ≡ suc t = omega arith in f)
+          ∙ ap (λ (u : ℕ). u + 1) (w.some t l) ∙ sym (more t ∙ rw (eq-eqb x t e)))
+      | no e ↦
+          get_or-set_other counts _ (suc t) _ 0 (λ d. e (omega arith)) ∙ w.some t l
+          ∙ sym (more t ∙ rw (ne_eqb (get_or sizes p 0) t e) (omega arith))
+    ];
   }
 
-  module _ {p : ℕ} {counts : List ℕ} (w : SizesCounted sizes p counts) (h : p < length sizes) where
-    more : (t : ℕ) → exactly t (take (p + 1) sizes) ≡ exactly t (take p sizes) + cond (eqb (get_or sizes p 0) t) 1 0
-    more t = rw (add-one p, take-suc sizes p 0 h) (exactly-more t (get_or sizes p 0) (take p sizes))
+  pub counted-out : most_size + 1 ≤ get_or sizes p 0 → SizesCounted (take (p + 1) sizes) counts
+  counted-out k = record {
+    long = w.long;
+    none = w.none;
+    some = λ t l. w.some t l ∙ sym (more t ∙ rw (ne_eqb (get_or sizes p 0) t (λ e. omega arith)) (omega arith));
+  }
 
-    -- a count fits where it is made
-    pub counted-few : (t : ℕ) → t ≤ most_size → get_or counts (t + 1) 0 ≤ p
-    counted-few t l = omega (arith, ap (λ (u : ℕ). get_or counts u 0) (add-one t), w.some t l, exactly-few t (take p sizes), length-take p sizes)
+-- ---- what stands before is summed
 
-    -- one more is counted; or it is too large for any
-    pub counted-more : get_or sizes p 0 < most_size + 1
-        → SizesCounted sizes (p + 1) (set counts (get_or sizes p 0 + 1) (get_or counts (get_or sizes p 0 + 1) 0 + 1))
-    counted-more k = record {
-      long = length-set counts _ _ ∙ w.long;
-      none = get_or-set_other counts _ 0 _ 0 (λ e. omega arith) ∙ w.none;
-      some = λ t l. elim (dec_le t (get_or sizes p 0)) [
-        | yes a ↦ elim (dec_le (get_or sizes p 0) t) [
-          | yes b ↦ (
-              let x = get_or sizes p 0 in
-              let e : x ≡ t = omega arith in
-              ap (λ (u : ℕ). get_or (set counts (x + 1) (get_or counts (x + 1) 0 + 1)) u 0) (let f : suc t ≡ x + 1 = omega arith in f)
-              ∙ get_or-set_same counts (x + 1) _ 0 (omega (arith, w.long))
-              ∙ ap (λ (u : ℕ). get_or counts u 0 + 1) (let f : x + 1 ≡ suc t = omega arith in f)
-              ∙ ap (λ (u : ℕ). u + 1) (w.some t l) ∙ sym (more t ∙ rw (eq-eqb x t e)))
-          | no b ↦ other t l (λ e. omega arith)
-        ]
-        | no a ↦ other t l (λ e. omega arith)
-      ];
-    }
-      where
-        other : (t : ℕ) → t ≤ most_size → (get_or sizes p 0 ≡ t → ⊥)
-            → get_or (set counts (get_or sizes p 0 + 1) (get_or counts (get_or sizes p 0 + 1) 0 + 1)) (suc t) 0 ≡ exactly t (take (p + 1) sizes)
-        other t l e =
-            get_or-set_other counts _ (suc t) _ 0 (λ d. e (omega arith)) ∙ w.some t l
-            ∙ sym (more t ∙ rw (ne_eqb (get_or sizes p 0) t e) (omega arith))
-
-    pub counted-out : most_size + 1 ≤ get_or sizes p 0 → SizesCounted sizes (p + 1) counts
-    counted-out k = record {
-      long = w.long;
-      none = w.none;
-      some = λ t l. w.some t l ∙ sym (more t ∙ rw (ne_eqb (get_or sizes p 0) t (λ e. omega arith)) (omega arith));
-    }
-
--- of a list's sizes: those before t are summed, the others are still counts
-pub record Summed (xs : List ℕ) (t : ℕ) (starts : List ℕ) : Type 0 where
+-- of some sizes: what stands before t is summed, what stands from t on is still counts, and `sum` is the last of the sums
+pub record Summed (xs : List ℕ) (t sum : ℕ) (starts : List ℕ) : Type 0 where
   pub long : length starts ≡ most_size + 2
   pub before : (u : ℕ) → u < t → get_or starts u 0 ≡ below u xs
+  pub none : t ≡ 0 → get_or starts 0 0 ≡ 0
   pub ahead : (u : ℕ) → t ≤ suc u → u ≤ most_size → get_or starts (suc u) 0 ≡ exactly u xs
+  pub sum-is : sum ≡ below (t - 1) xs
 
-module _ (sizes : List ℕ) (n : ℕ) where
-  pub summed-none : {counts : List ℕ} → SizesCounted sizes n counts → Summed (take n sizes) 1 counts
-  summed-none {counts} w = record {
-    long = w.long;
-    before = λ u h. (let e : u ≡ 0 = omega arith in ap (λ (v : ℕ). get_or counts v 0) e ∙ w.none ∙ sym (ap (λ (v : ℕ). below v (take n sizes)) e ∙ below-zero (take n sizes)));
-    ahead = λ u h l. w.some u l;
-  }
+pub summed-none : {xs counts : List ℕ} → SizesCounted xs counts → Summed xs 0 0 counts
+summed-none {xs} w = record {
+  long = w.long;
+  before = λ u h. absurd (omega arith);
+  none = λ _. w.none;
+  ahead = λ u h l. w.some u l;
+  sum-is = sym (below-zero xs);
+}
 
-module _ {xs : List ℕ} {t : ℕ} {starts : List ℕ} (w : Summed xs t starts) (low : 1 ≤ t) (high : t < most_size + 2) where
-  sum : get_or starts t 0 + get_or starts (t - 1) 0 ≡ below t xs
-  sum =
-      let e : suc (t - 1) ≡ t = omega arith in
-      let a = w.ahead (t - 1) (omega arith) (omega arith) in
-      let b = w.before (t - 1) (omega arith) in
-      let c = below_next (t - 1) xs in
-      omega (arith, ap (λ (u : ℕ). get_or starts u 0) e, ap (λ (u : ℕ). below u xs) e)
+module _ {xs : List ℕ} {sum : ℕ} {starts : List ℕ} where
+  -- the sum that stands at t
+  pub summed-next : (t : ℕ) → Summed xs t sum starts → t < most_size + 2 → sum + get_or starts t 0 ≡ below t xs
+  summed-next zero w high = omega (arith, w.sum-is, w.none refl)
+  summed-next (suc t) w high =
+      let e : suc t - 1 ≡ t = omega arith in
+      omega (arith, w.sum-is, ap (λ (u : ℕ). below u xs) e, w.ahead t (omega arith) (omega arith), below_next t xs)
 
-  -- the sum fits
-  pub summed-few : get_or starts t 0 + get_or starts (t - 1) 0 ≤ length xs
-  summed-few = omega (arith, sum, below-few t xs)
+  module _ {t : ℕ} (w : Summed xs t sum starts) (high : t < most_size + 2) where
+    -- the sum fits
+    pub summed-few : sum + get_or starts t 0 ≤ length xs
+    summed-few = omega (arith, summed-next t w high, below-few t xs)
 
-  pub summed-more : Summed xs (t + 1) (set starts t (get_or starts t 0 + get_or starts (t - 1) 0))
-  summed-more = record {
-    long = length-set starts t _ ∙ w.long;
-    before = λ u h. elim (dec_le t u) [
-      | yes a ↦ (
-          let e : u ≡ t = omega arith in
-          ap (λ (v : ℕ). get_or (set starts t (get_or starts t 0 + get_or starts (t - 1) 0)) v 0) e
-          ∙ get_or-set_same starts t _ 0 (omega (arith, w.long)) ∙ sum ∙ ap (λ (v : ℕ). below v xs) (sym e))
-      | no a ↦ get_or-set_other starts t u _ 0 (λ e. omega arith) ∙ w.before u (omega arith)
-    ];
-    ahead = λ u h l. get_or-set_other starts t (suc u) _ 0 (λ e. omega arith) ∙ w.ahead u (omega arith) l;
-  }
+    pub summed-more : Summed xs (t + 1) (sum + get_or starts t 0) (set starts t (sum + get_or starts t 0))
+    summed-more = record {
+      long = length-set starts t _ ∙ w.long;
+      before = λ u h. elim (ℕ_discrete u t) [
+        | yes e ↦ ap (λ (v : ℕ). get_or (set starts t (sum + get_or starts t 0)) v 0) e
+            ∙ get_or-set_same starts t _ 0 (omega (arith, w.long)) ∙ summed-next t w high ∙ ap (λ (v : ℕ). below v xs) (sym e)
+        | no e ↦ get_or-set_other starts t u _ 0 e ∙ w.before u (omega arith)
+      ];
+      none = λ e. absurd (omega arith);
+      ahead = λ u h l. get_or-set_other starts t (suc u) _ 0 (λ e. omega arith) ∙ w.ahead u (omega arith) l;
+      sum-is = summed-next t w high ∙ ap (λ (v : ℕ). below v xs) (let e : t ≡ t + 1 - 1 = omega arith in e);
+    }
 
 -- no more than there are
-take-fewer : (sizes : List ℕ) (kept : ℕ) → take (min kept (length sizes)) sizes ≡ take kept sizes
+take-fewer : (sizes : List ℕ) (kept : ℕ) → take (min (length sizes) kept) sizes ≡ take kept sizes
 take-fewer sizes kept = elim (dec_le kept (length sizes)) [
-  | yes h ↦ ap (λ (n : ℕ). take n sizes) (let e : min kept (length sizes) ≡ kept = omega arith in e)
-  | no h ↦ take_all (min kept (length sizes)) sizes (omega arith) ∙ sym (take_all kept sizes (omega arith))
+  | yes h ↦ ap (λ (n : ℕ). take n sizes) (let e : min (length sizes) kept ≡ kept = omega arith in e)
+  | no h ↦ take_all (min (length sizes) kept) sizes (omega arith) ∙ sym (take_all kept sizes (omega arith))
 ]
 
 -- all are summed
-pub summed-all : (sizes : List ℕ) (kept : ℕ) {starts : List ℕ} {t : ℕ} → Summed (take (min kept (length sizes)) sizes) t starts → most_size + 2 ≤ t
+pub summed-all : (sizes : List ℕ) (kept : ℕ) {starts : List ℕ} {t sum : ℕ} → Summed (take (min (length sizes) kept) sizes) t sum starts → most_size + 2 ≤ t
     → starts ≡ starts_of sizes kept
 unfolding starts_of
 summed-all sizes kept {starts} w h =

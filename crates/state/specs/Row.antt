@@ -1,6 +1,6 @@
 -- Request E7: "Last, 14 refuses a state with kept above C or tried, a size outside 1 to B, a place above kept or an operator position above its list's length".
 -- Assumes nothing.
-use Rattle.std.specs.Prelude.{◌⊎◌, Bool, true, false, cond, ℕ, ◌+◌, ◌≤◌, ◌<◌, eqb}
+use Rattle.std.specs.Prelude.{◌⊎◌, cond, ℕ, ◌+◌, ◌≤◌, ◌<◌, eqb}
 use Rattle.rules.specs.Limits.{Outside}
 use Rattle.rules.specs.Refusals.{Row}
 use Rattle.state.specs.declared.State.{State}

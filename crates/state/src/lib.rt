@@ -8,14 +8,39 @@ use counting::Counts;
 use formula::kinds::Node;
 use split::Cursor;
 
-// The size, the cursor before its next candidate and the counts: with the table it is all that the next call needs to go on. `end` is 0 while the walk goes
-// on; at its end 1 FOUND, 2 NONE, 3 FULL, and `root` is FOUND's root node.
+// Whether the walk has more to try, or how it ended.
+#[derive(Clone, Copy, Debug, PartialEq, Eq)]
+pub enum End {
+    More,
+    Found,
+    None,
+    Full,
+}
+
+impl From<End> for u64 {
+    ghost use Rattle.std.specs.Prelude.{◌≡◌};
+    ghost use Rattle.state.specs.Ends.{end_number};
+
+    ghost from_gives = { λ end number. number ≡ end_number end };
+
+    fn from(end: End) -> u64 {
+        match end {
+            End::More => 0,
+            End::Found => 1,
+            End::None => 2,
+            End::Full => 3,
+        }
+    }
+}
+
+// The size, the cursor before its next candidate and the counts: with the table it is all that the next call needs to go on. `root` is FOUND's root node. It
+// stands beside the end, since a state that a caller hands in may have one at any end, and what it hands in comes back as it was.
 #[derive(Clone, Copy)]
 pub struct State {
     pub size: usize,
     pub at: Cursor,
     pub counts: Counts,
-    pub end: u64,
+    pub end: End,
     pub root: Node,
 }
 

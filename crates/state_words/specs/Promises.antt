@@ -5,6 +5,6 @@ use Rattle.state.specs.declared.State.{State}
 use Rattle.state_words.specs.Words.{state_words, state_read, Narrow}
 use Rattle.state_words.specs.Written.{state_over}
 
--- a state whose end is one of the four comes back from its words as it was
+-- a state comes back from its words as it was
 abbrev pub StateComesBack : Type 0
-StateComesBack = (s : State) (words : List ℕ) → state_words ≤ length words → s.end ≤ 3 → Narrow s.root → state_read (state_over s words) ≡ s
+StateComesBack = (s : State) (words : List ℕ) → state_words ≤ length words → Narrow s.root → state_read (state_over s words) ≡ s

@@ -1,11 +1,13 @@
 -- The words of a state (docs/DECISIONS.md, include/scarfpylon.h): 0 size, 1 kept, 2 tried, 3 left place, 4 right place, 5 operator position (at size 1 the
 -- position in the list of leaves; else in the list that is being gone through); words 6 to 15 are ours, and no value of them is refused.
 -- Assumes nothing.
-use Rattle.std.specs.Prelude.{Bool, true, false, cond, List, [], ◌∷◌, ◌++◌, ℕ, ◌%◌, ◌<◌, eqb, leb, get_or}
+use Rattle.std.specs.Prelude.{Bool, true, false, cond, List, [], ◌∷◌, ◌++◌, ℕ, ◌%◌, ◌<◌, eqb, get_or}
 use Rattle.formula.specs.declared.kinds.Node.{Node}
 use Rattle.split.specs.declared.Cursor.{Cursor}
 use Rattle.counting.specs.declared.Counts.{Counts}
 use Rattle.state.specs.declared.State.{State}
+use Rattle.state.specs.declared.End.{End}
+use Rattle.state.specs.Ends.{end_number}
 
 -- "a fresh state into its first 16 words"
 abbrev pub state_words : ℕ
@@ -22,8 +24,8 @@ abbrev pub first_words : ℕ → Counts → Cursor → List ℕ
 first_words size counts at = size ∷ counts.kept ∷ counts.tried ∷ at.left ∷ at.right ∷ at.operator ∷ at.split ∷ mark at.second ∷ []
 
 -- 8 the end (0 none, 1 FOUND, 2 NONE, 3 FULL), 9 to 12 FOUND's root (code, left, right, size), 13 dropped; 14 and 15 are 0
-abbrev pub last_words : ℕ → Node → ℕ → List ℕ
-last_words end root dropped = end ∷ root.code ∷ root.left.0 ∷ root.right.0 ∷ root.size ∷ dropped ∷ 0 ∷ 0 ∷ []
+abbrev pub last_words : End → Node → ℕ → List ℕ
+last_words end root dropped = end_number end ∷ root.code ∷ root.left.0 ∷ root.right.0 ∷ root.size ∷ dropped ∷ 0 ∷ 0 ∷ []
 
 abbrev pub words_of_state : State → List ℕ
 words_of_state s = first_words s.size s.counts s.at ++ last_words s.end s.root s.counts.dropped
@@ -41,8 +43,8 @@ pub record Narrow (n : Node) : Type 0 where
 abbrev pub marked : ℕ → Bool
 marked w = cond (eqb w 0) false true
 
-abbrev pub end_read : ℕ → ℕ
-end_read w = cond (leb w 3) w 0
+abbrev pub end_read : ℕ → End
+end_read w = cond (eqb w 1) End.Found (cond (eqb w 2) End.None (cond (eqb w 3) End.Full End.More))
 
 abbrev pub cursor_read : List ℕ → Cursor
 cursor_read words = record {

@@ -11,7 +11,7 @@ use counting::Counts;
 use formula::kinds::Node;
 use rules::kinds::Place;
 use split::Cursor;
-use state::State;
+use state::{End, State};
 
 // The words of a state.
 pub const STATE_WORDS: usize = 16;
@@ -29,10 +29,16 @@ fn mark_of(word: u64) -> bool
     if word == 0 { false } else { true }
 }
 
-fn end_of(word: u64) -> u64
+// A number that no end has is read as that of a walk that goes on.
+fn end_of(word: u64) -> End
     ensures { result ≡ end_read word }
 {
-    if word <= 3 { word } else { 0 }
+    match word {
+        1 => End::Found,
+        2 => End::None,
+        3 => End::Full,
+        _ => End::More,
+    }
 }
 
 fn cursor_of(words: &[u64]) -> Cursor
@@ -120,11 +126,11 @@ fn mark_word(second: bool) -> u64
 }
 
 // Words 8 to 15. The root's fields fit their kinds.
-fn put_rest(end: u64, root: Node, dropped: u64, words: &mut [u64])
+fn put_rest(end: End, root: Node, dropped: u64, words: &mut [u64])
     requires { state_words ≤ length words.old }
     ensures { Narrow root × (words.new ≡ written (in_order 8 (last_words end root dropped)) words.old) }
 {
-    words[8] = end;
+    words[8] = end.into();
     words[9] = root.code as u64;
     words[10] = root.left.0 as u64;
     words[11] = root.right.0 as u64;

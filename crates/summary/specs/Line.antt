@@ -1,9 +1,7 @@
 -- One line of the report, byte by byte. Every line ends in a newline.
 -- Assumes nothing.
-use Rattle.std.specs.Prelude.{List, [], ◌∷◌, ◌++◌, ℕ}
+use Rattle.std.specs.Prelude.{List, [], ◌∷◌, ◌++◌, ℕ, Option, Some, None}
 use Rattle.writing.specs.Writing.{decimal, newline}
-use Rattle.summary.specs.declared.values.First.{First}
-use Rattle.summary.specs.declared.values.First.TheVariants.{Never, Snapshot}
 use Rattle.summary.specs.declared.values.Summary.{Summary}
 
 -- a blank between (docs/DECISIONS.md)
@@ -15,9 +13,9 @@ abbrev pub root_word : List ℕ
 root_word = 32 ∷ 114 ∷ 111 ∷ 111 ∷ 116 ∷ []
 
 -- "the two firsts (`-` for never)"
-abbrev pub first_text : First → List ℕ
-first_text Never = 45 ∷ []
-first_text (Snapshot p) = decimal p
+abbrev pub first_text : Option ℕ → List ℕ
+first_text None = 45 ∷ []
+first_text (Some p) = decimal p
 
 -- "the two firsts .., count"
 abbrev pub summary_text : Summary → List ℕ

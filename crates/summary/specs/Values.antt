@@ -1,15 +1,13 @@
 -- What the report says of a formula on a session: the first snapshot where it holds, the first where it doesn't, and at how many it holds.
 -- Assumes nothing.
-use Rattle.std.specs.Prelude.{◌≡◌, ◌⊎◌, ℕ, zero, suc, ◌<◌}
+use Rattle.std.specs.Prelude.{◌≡◌, ◌⊎◌, ℕ, zero, suc, ◌<◌, Option, Some, None}
 use Rattle.words.specs.Ltlf.{Reading}
-use Rattle.summary.specs.declared.values.First.{First}
-use Rattle.summary.specs.declared.values.First.TheVariants.{Never, Snapshot}
 use Rattle.summary.specs.declared.values.Summary.{Summary}
 
 -- "the first snapshot where it holds": the least of n positions at which f holds; ""Never" is a case of its own"
-abbrev pub LeastIn : ℕ → Reading → First → Type 0
-LeastIn n f Never = (p : ℕ) → p < n → f p → ⊥
-LeastIn n f (Snapshot q) = (q < n) × f q × ((p : ℕ) → p < q → f p → ⊥)
+abbrev pub LeastIn : ℕ → Reading → Option ℕ → Type 0
+LeastIn n f None = (p : ℕ) → p < n → f p → ⊥
+LeastIn n f (Some q) = (q < n) × f q × ((p : ℕ) → p < q → f p → ⊥)
 
 -- "at how many it holds": of n positions, c have f
 abbrev pub CountIn : ℕ → Reading → ℕ → Type 0

@@ -3,21 +3,21 @@ ghost use Rattle.writing.specs.Writing.{Wrote};
 ghost use Rattle.std.specs.Prelude.{◌++◌};
 ghost use Rattle.summary.specs.Line.{blank, first_text, summary_text, place_line, root_line};
 
-use crate::values::{First, Summary};
+use crate::values::Summary;
 use rules::kinds::{Place, Session};
 use writing::{put, put_decimal};
 
-fn put_first(text: &mut [u8], at: usize, first: First) -> usize
+fn put_first(text: &mut [u8], at: usize, first: Option<u8>) -> usize
     ensures { Wrote text.old at (first_text first) text.new result }
 {
     match first {
-        First::Never => put(text, at, b"-"),
-        First::Snapshot(p) => put_decimal(text, at, p as u64),
+        None => put(text, at, b"-"),
+        Some(p) => put_decimal(text, at, p as u64),
     }
 }
 
 // A blank, and one of the two.
-fn put_blank_first(text: &mut [u8], at: usize, first: First) -> usize
+fn put_blank_first(text: &mut [u8], at: usize, first: Option<u8>) -> usize
     ensures { Wrote text.old at (blank ++ first_text first) text.new result }
 {
     let a = put(text, at, b" ");

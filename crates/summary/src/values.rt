@@ -5,29 +5,23 @@ ghost use Rattle.summary.specs.Values.{LeastIn, Summed};
 
 use sequence::CharSeq;
 
-// A snapshot's number, or none.
-#[derive(Clone, Copy)]
-pub enum First {
-    Never,
-    Snapshot(u8),
-}
-
+// The first snapshot where it holds and the first where it doesn't, where there is one, and at how many it holds.
 #[derive(Clone, Copy)]
 pub struct Summary {
-    pub holds: First,
-    pub fails: First,
+    pub holds: Option<u8>,
+    pub fails: Option<u8>,
     pub count: u8,
 }
 
 // The lowest place of a word that is set.
-fn lowest(x: u64) -> First
+fn lowest(x: u64) -> Option<u8>
     ensures { LeastIn width (At x) result }
 {
     if x == 0 {
-        return First::Never;
+        return None;
     }
     let p = u64::trailing_zeros(x) as u8;
-    First::Snapshot(p)
+    Some(p)
 }
 
 // Only the sequence's own snapshots are looked at: bits at or above its length, and the empty session's bit, count for nothing.

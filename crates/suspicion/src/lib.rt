@@ -10,8 +10,8 @@ ghost use Rattle.writing.specs.Writing.{Wrote};
 ghost use Rattle.suspicion.specs.Suspicion.{TypedLinesOf};
 ghost use Rattle.suspicion.specs.Inner.{Checked, Unread, unread_lines, JudgedBy};
 
-use file::ReadAnswer;
-use reader::Parsed;
+use file::ReadError;
+use reader::ParseError;
 use verdict::Verdict;
 
 // So many bytes hold every answer.
@@ -39,24 +39,22 @@ fn checked(
         r, m, marks, lengths, words, codes, lefts, rights, sizes, root,
     );
     match verdict {
-        Verdict::Accepted => line::separates(text),
-        Verdict::Disagrees(session) => line::disagrees(text, session.0),
-        Verdict::Refused(number) => line::refused(text, number),
+        Ok(Verdict::Accepted) => line::separates(text),
+        Ok(Verdict::Disagrees(session)) => line::disagrees(text, session.0),
+        Err(refusal) => line::refused(text, u8::from(refusal)),
     }
 }
 
 // The lines for what is typed and is not read.
-fn unread(typed: &[u8], parsed: Parsed, text: &mut [u8]) -> usize
-    requires { Unread parsed }
-    ensures { Wrote text.old 0 (unread_lines typed.now parsed) text.new result }
+fn unread(typed: &[u8], error: ParseError, text: &mut [u8]) -> usize
+    requires { Unread error }
+    ensures { Wrote text.old 0 (unread_lines typed.now error) text.new result }
 {
-    match parsed {
-        // Can't come up: it is read.
-        Parsed::Nodes(_) => 0,
-        Parsed::Broken(at) => line::refused_at(text, 0, 8, at),
-        Parsed::Stops(at) => caret::pointed(text, typed, at, 11),
-        Parsed::Unknown(at) => caret::pointed(text, typed, at, 13),
-        Parsed::Refused(number) => line::refused(text, number),
+    match error {
+        ParseError::Broken(at) => line::refused_at(text, 0, 8, at),
+        ParseError::Stops(at) => caret::pointed(text, typed, at, 11),
+        ParseError::Unknown(at) => caret::pointed(text, typed, at, 13),
+        ParseError::Refused(refusal) => line::refused(text, u8::from(refusal)),
     }
 }
 
@@ -87,7 +85,7 @@ fn judged(
         &mut sizes,
     );
     match parsed {
-        Parsed::Nodes(n) => checked(
+        Ok(n) => checked(
             r,
             m,
             marks,
@@ -100,7 +98,7 @@ fn judged(
             n - 1,
             text,
         ),
-        _ => unread(typed, parsed, text),
+        Err(error) => unread(typed, error, text),
     }
 }
 
@@ -122,25 +120,17 @@ pub fn of_typed(typed: &[u8], file: &[u8], text: &mut [u8]) -> usize
         &mut binary,
     );
     match read {
-        ReadAnswer::Parts {
-            sessions,
-            propositions,
-            names,
-            unary: _,
-            binary: _,
-            constants: _,
-            bound: _,
-        } => judged(
+        Ok(parts) => judged(
             typed,
-            &file[..names],
-            sessions,
-            propositions,
-            &marks[..sessions],
-            &lengths[..sessions],
-            &words[..propositions * sessions],
+            &file[..parts.names],
+            parts.sessions,
+            parts.propositions,
+            &marks[..parts.sessions],
+            &lengths[..parts.sessions],
+            &words[..parts.propositions * parts.sessions],
             text,
         ),
-        ReadAnswer::Broken(at) => line::refused_at(text, 0, 8, at),
-        ReadAnswer::Room => line::refused(text, 3),
+        Err(ReadError::Broken(at)) => line::refused_at(text, 0, 8, at),
+        Err(ReadError::Room) => line::refused(text, 3),
     }
 }

@@ -1,22 +1,22 @@
 -- Printing: what it answers and leaves in the lent room, for every input.
 -- Assumes nothing.
-use Rattle.std.specs.Prelude.{◌≡◌, List, [], ◌∷◌, ℕ, ◌<◌, length}
-use Rattle.rules.specs.Refusals.{Row, Decided}
+use Rattle.std.specs.Prelude.{◌≡◌, List, [], ◌∷◌, ℕ, ◌<◌, length, Result, Ok, Err}
+use Rattle.rules.specs.Refusals.{Row, Decided, refusal_number}
 use Rattle.reading.specs.Reading.{Got, got, bad, broken}
 use Rattle.names.specs.Names.{whole_names}
 use Rattle.rules.specs.Answers.{Said, over}
 use Rattle.formula.specs.Formula.{Formula}
 use Rattle.formula.specs.Nodes.{Node, Spells, codes}
-use Rattle.text.specs.declared.Printed.{Printed}
-use Rattle.text.specs.declared.Printed.TheVariants.{Text, Broken, Refused}
+use Rattle.text.specs.declared.PrintError.{PrintError}
+use Rattle.text.specs.declared.PrintError.TheVariants.{Broken, Refused}
 use Rattle.formula.specs.Rule.{broken_list}
 use Rattle.text.specs.Text.{text}
 
 -- the answer in document 01's terms: 0 with the text's length; 8 with the offset; or a refusal's number alone
-abbrev pub said_printed : Printed → Said
-said_printed (Text n) = record { number = 0; values = n ∷ [] }
-said_printed (Broken o) = broken o
-said_printed (Refused k) = record { number = k; values = [] }
+abbrev pub said_printed : Result ℕ PrintError → Said
+said_printed (Ok n) = record { number = 0; values = n ∷ [] }
+said_printed (Err (Broken o)) = broken o
+said_printed (Err (Refused refusal)) = record { number = refusal_number refusal; values = [] }
 
 module _ (names : List (List ℕ)) (k : List Node) (root : Node) (old : List ℕ) where
   -- "3: .. text room shorter than the text"

@@ -3,23 +3,40 @@
 
 mod text;
 
+ghost use Rattle.std.specs.Prelude.{◌≡◌};
 ghost use Rattle.formula.specs.Kinds.{node_of, nodes};
 ghost use Rattle.text.specs.Print.{said_printed, Prints};
 ghost use Rattle.text.specs.Inner.{Passed};
 
 use formula::kinds::Node;
-use names::NamesAnswer;
+use reading::Broken;
+use rules::refusal::Refusal;
 use text::write;
 
 // "391 bytes suffice for any formula."
 pub const LONGEST: usize = 391;
 
-// What printing answers: the text's length, the offset at which the names section is broken, or a refusal.
-#[derive(Clone, Copy)]
-pub enum Printed {
-    Text(usize),
+// Why nothing is printed: the names section is broken, at an offset, or a refusal.
+#[derive(Clone, Copy, Debug, PartialEq, Eq)]
+pub enum PrintError {
     Broken(usize),
-    Refused(u8),
+    Refused(Refusal),
+}
+
+impl From<Broken> for PrintError {
+    ghost from_gives = { λ broken error. error ≡ PrintError.Broken broken.0 };
+
+    fn from(broken: Broken) -> PrintError {
+        PrintError::Broken(broken.0)
+    }
+}
+
+impl From<Refusal> for PrintError {
+    ghost from_gives = { λ refusal error. error ≡ PrintError.Refused refusal };
+
+    fn from(refusal: Refusal) -> PrintError {
+        PrintError::Refused(refusal)
+    }
 }
 
 // The text of what has passed: in a room of its own, which is long enough for any, and then in the lent one.
@@ -31,7 +48,7 @@ fn print_passed(
     sizes: &[u8],
     root: Node,
     room: &mut [u8],
-) -> Printed
+) -> Result<usize, PrintError>
     requires { Passed names.now (nodes codes.now lefts.now rights.now sizes.now) (node_of root) }
     ensures { Prints names.now (nodes codes.now lefts.now rights.now sizes.now)
         (node_of root) room.old (said_printed result) room.new }
@@ -39,10 +56,9 @@ fn print_passed(
     let mut whole = [0u8; LONGEST];
     let n = write(names, codes, lefts, rights, sizes, root, &mut whole, 0);
     if room.len() < n {
-        return Printed::Refused(3);
+        return Err(Refusal::Room.into());
     }
-    let length = writing::put(room, 0, &whole[..n]);
-    Printed::Text(length)
+    Ok(writing::put(room, 0, &whole[..n]))
 }
 
 // The text of the root's formula, at the start of the lent room.
@@ -54,19 +70,11 @@ pub fn print(
     sizes: &[u8],
     root: Node,
     room: &mut [u8],
-) -> Printed
+) -> Result<usize, PrintError>
     ensures { Prints names.now (nodes codes.now lefts.now rights.now sizes.now)
         (node_of root) room.old (said_printed result) room.new }
 {
-    let judged = names::judge(names);
-    match judged {
-        NamesAnswer::Names(count) => {
-            let broken = formula::nodes::refusal(count, codes, lefts, rights, sizes, root);
-            if broken != 0 {
-                return Printed::Refused(broken);
-            }
-            print_passed(names, codes, lefts, rights, sizes, root, room)
-        }
-        NamesAnswer::Broken(o) => Printed::Broken(o),
-    }
+    let count = names::judge(names)?;
+    formula::nodes::check(count, codes, lefts, rights, sizes, root)?;
+    print_passed(names, codes, lefts, rights, sizes, root, room)
 }

@@ -16,20 +16,31 @@ use Rattle.grammar.specs.Grammar.{level, right_level}
 use Rattle.grammar.specs.Scan.{blank, bang, opener, closer, amp, bar, dash, less, other, Kind, wordy, square, sign, kind}
 use Rattle.grammar.specs.Passing.{Peek, op, nothing, cut, further, expect, alone, peek, peek_kind}
 use Rattle.grammar.proofs.Words.{KindIs, kind-is}
-use Rattle.tokens.specs.declared.operator.Op.{Op}
-use Rattle.tokens.specs.declared.operator.Op.TheVariants.{Is, Nothing, Cut}
+use Rattle.std.proofs.Common.{Result, Ok, Err}
+use Rattle.tokens.specs.declared.Stop.{Stop}
+use Rattle.tokens.specs.declared.operator.Next.{Next}
+use Rattle.tokens.specs.declared.operator.Next.TheVariants.{Infix, Nothing}
 use Rattle.tokens.specs.Next.{PeekSaid, Operator, Arrow, Word}
 
-pub said-further : (at : ℕ) (k : Peek) (r : Op) → PeekSaid (at + 1) k r → PeekSaid at (further k) r
-said-further at (op o n) (Is l r next c) s = (s.0, s.1, omega (arith, s.2), s.3)
-said-further at (op o n) (Nothing i) s = s
-said-further at (op o n) (Cut i) s = s
-said-further at (nothing n) (Is l r next c) s = s
-said-further at (nothing n) (Nothing i) s = omega arith
-said-further at (nothing n) (Cut i) s = s
-said-further at (cut n) (Is l r next c) s = s
-said-further at (cut n) (Nothing i) s = s
-said-further at (cut n) (Cut i) s = omega arith
+abbrev pub found : ℕ → ℕ → ℕ → ℕ → Result Next Stop
+found l r next c = Ok (Infix (record { level = l; right = r; next = next; code = c }))
+
+abbrev pub none : ℕ → Result Next Stop
+none i = Ok (Nothing i)
+
+abbrev pub stop : ℕ → Result Next Stop
+stop i = Err (record { 0 = i })
+
+pub said-further : (at : ℕ) (k : Peek) (r : Result Next Stop) → PeekSaid (at + 1) k r → PeekSaid at (further k) r
+said-further at (op o n) (Ok (Infix i)) s = (s.0, s.1, omega (arith, s.2), s.3)
+said-further at (op o n) (Ok (Nothing i)) s = s
+said-further at (op o n) (Err e) s = s
+said-further at (nothing n) (Ok (Infix i)) s = s
+said-further at (nothing n) (Ok (Nothing i)) s = omega arith
+said-further at (nothing n) (Err e) s = s
+said-further at (cut n) (Ok (Infix i)) s = s
+said-further at (cut n) (Ok (Nothing i)) s = s
+said-further at (cut n) (Err e) s = omega (arith, s)
 
 module _ (text : List ℕ) where
   -- no byte of a token is 0
@@ -41,46 +52,37 @@ module _ (text : List ℕ) where
 
   -- ---- arrow
 
-  pub arrow-is : (at code right : ℕ) → get_or text at 0 ≡ 62 → Arrow text at code right (Is 0 right (at + 1) code)
+  pub arrow-is : (at code right : ℕ) → get_or text at 0 ≡ 62 → Arrow text at code right (found 0 right (at + 1) code)
   unfolding expect
   arrow-is at code right e o l r k = rw (head (inside at 61 e) e) (sym l, sym r, refl, sym k)
 
-  pub arrow-not : (at code right : ℕ) → (get_or text at 0 ≡ 62 → ⊥) → Arrow text at code right (Cut at)
+  pub arrow-not : (at code right : ℕ) → (get_or text at 0 ≡ 62 → ⊥) → Arrow text at code right (stop at)
   unfolding expect
   arrow-not at code right n o l r k = elim (dec_lt at (length text)) [
     | yes g ↦ rw (head g refl, ne_eqb (get_or text at 0) 62 n) (omega arith)
     | no g ↦ rw (drop_of_length-le text {i = at} (omega arith)) (omega arith)
   ]
 
-  -- ---- word_op
-
-  module _ (at code right : ℕ) {b : ℕ} {t : Bool} (w : t ≡ is_name_byte b) where
-    pub word_cut : t ≡ true → b ≡ get_or text at 0 → Word text at code right (Cut at)
-    word_cut e g o l r k = rw (← g, ← w, e) (omega arith)
-
-    pub word-is : t ≡ false → b ≡ get_or text at 0 → Word text at code right (Is 3 right at code)
-    word-is e g o l r k = rw (← g, ← w, e) (sym l, sym r, omega arith, sym k)
-
   -- ---- operator
 
   module _ {at : ℕ} (h : at < length text) where
-    pub op-blank : (r : Op) → get_or text at 0 ≡ 32 → Operator text (at + 1) r → Operator text at r
+    pub op-blank : (r : Result Next Stop) → get_or text at 0 ≡ 32 → Operator text (at + 1) r → Operator text at r
     unfolding peek kind
     op-blank r e s = rw (head h e) (said-further at (peek (drop (at + 1) text)) r s)
 
-    pub op-and : get_or text at 0 ≡ 38 → Operator text at (Is 2 3 (at + 1) 6)
+    pub op-and : get_or text at 0 ≡ 38 → Operator text at (found 2 3 (at + 1) 6)
     unfolding peek kind
     op-and e = rw (head h e) (refl, refl, refl, refl)
 
-    pub op-or : get_or text at 0 ≡ 124 → Operator text at (Is 1 2 (at + 1) 5)
+    pub op-or : get_or text at 0 ≡ 124 → Operator text at (found 1 2 (at + 1) 5)
     unfolding peek kind
     op-or e = rw (head h e) (refl, refl, refl, refl)
 
-    pub op-implies : (r : Op) → get_or text at 0 ≡ 45 → Arrow text (at + 1) 9 0 r → Operator text at r
+    pub op-implies : (r : Result Next Stop) → get_or text at 0 ≡ 45 → Arrow text (at + 1) 9 0 r → Operator text at r
     unfolding peek kind
     op-implies r e s = rw (head h e) (said-further at (expect (62 ∷ []) implies (drop (at + 1) text)) r (s implies refl refl refl))
 
-    pub op-equiv : (r : Op) → get_or text at 0 ≡ 60 → get_or text (at + 1) 0 ≡ 45 → Arrow text (at + 2) 10 0 r → Operator text at r
+    pub op-equiv : (r : Result Next Stop) → get_or text at 0 ≡ 60 → get_or text (at + 1) 0 ≡ 45 → Arrow text (at + 2) 10 0 r → Operator text at r
     unfolding peek kind expect
     op-equiv r e f s =
         let n : (at + 1) + 1 ≡ at + 2 = omega arith in
@@ -88,14 +90,14 @@ module _ (text : List ℕ) where
         rw (head h e, head (inside (at + 1) 44 f) f) (said-further at (further (expect (62 ∷ []) equiv (drop ((at + 1) + 1) text))) r
         (said-further (at + 1) (expect (62 ∷ []) equiv (drop ((at + 1) + 1) text)) r t))
 
-    pub op-less-cut : get_or text at 0 ≡ 60 → (get_or text (at + 1) 0 ≡ 45 → ⊥) → Operator text at (Cut (at + 1))
+    pub op-less-cut : get_or text at 0 ≡ 60 → (get_or text (at + 1) 0 ≡ 45 → ⊥) → Operator text at (stop (at + 1))
     unfolding peek kind expect
     op-less-cut e n = elim (dec_lt (at + 1) (length text)) [
       | yes g ↦ rw (head h e, head g refl, ne_eqb (get_or text (at + 1) 0) 45 n) (omega arith)
       | no g ↦ rw (head h e, drop_of_length-le text {i = at + 1} (omega arith)) (omega arith)
     ]
 
-    said-word : (o : Binary) (r : Op) → level o ≡ 3 → right_level o ≡ 3 → Word text (at + 1) (binary_code o) 3 r → PeekSaid at (alone o (drop (at + 1) text)) r
+    said-word : (o : Binary) (r : Result Next Stop) → level o ≡ 3 → right_level o ≡ 3 → Word text (at + 1) (binary_code o) 3 r → PeekSaid at (alone o (drop (at + 1) text)) r
     said-word o r p q w = elim (dec_lt (at + 1) (length text)) [
       | yes g ↦ rw (head g refl) (by-test (is_name_byte (get_or text (at + 1) 0)) (w o p q refl))
       | no g ↦
@@ -108,16 +110,16 @@ module _ (text : List ℕ) where
         by-test true s = said-further at (cut 0) r s
         by-test false s = said-further at (op o 0) r s
 
-    pub op-until : (r : Op) → get_or text at 0 ≡ 85 → Word text (at + 1) 7 3 r → Operator text at r
+    pub op-until : (r : Result Next Stop) → get_or text at 0 ≡ 85 → Word text (at + 1) 7 3 r → Operator text at r
     unfolding peek kind
     op-until r e w = rw (head h e) (said-word until r refl refl w)
 
-    pub op-release : (r : Op) → get_or text at 0 ≡ 82 → Word text (at + 1) 8 3 r → Operator text at r
+    pub op-release : (r : Result Next Stop) → get_or text at 0 ≡ 82 → Word text (at + 1) 8 3 r → Operator text at r
     unfolding peek kind
     op-release r e w = rw (head h e) (said-word release r refl refl w)
 
     pub op-none : (get_or text at 0 ≡ 32 → ⊥) → (get_or text at 0 ≡ 38 → ⊥) → (get_or text at 0 ≡ 124 → ⊥) → (get_or text at 0 ≡ 45 → ⊥) → (get_or text at 0 ≡ 60 → ⊥) → (get_or text at 0 ≡ 85 → ⊥)
-        → (get_or text at 0 ≡ 82 → ⊥) → Operator text at (Nothing at)
+        → (get_or text at 0 ≡ 82 → ⊥) → Operator text at (none at)
     unfolding peek
     op-none n1 n2 n3 n4 n5 n6 n7 = rw (head h refl) (by_kind (kind b) (kind-is b))
       where
@@ -127,7 +129,7 @@ module _ (text : List ℕ) where
         z : at ≡ at + 0
         z = omega arith
 
-        by_kind : (k : Kind) → KindIs b k → PeekSaid at (peek_kind b k (drop (at + 1) text) (peek (drop (at + 1) text))) (Nothing at)
+        by_kind : (k : Kind) → KindIs b k → PeekSaid at (peek_kind b k (drop (at + 1) text) (peek (drop (at + 1) text))) (none at)
         by_kind (wordy l) q = rw (ne_eqb b 85 n6, ne_eqb b 82 n7) z
         by_kind square q = z
         by_kind (sign blank) q = absurd (n1 q.1)
@@ -140,6 +142,6 @@ module _ (text : List ℕ) where
         by_kind (sign less) q = absurd (n5 q.1)
         by_kind (sign other) q = z
 
-  pub op-end : (at : ℕ) → length text ≤ at → Operator text at (Nothing at)
+  pub op-end : (at : ℕ) → length text ≤ at → Operator text at (none at)
   unfolding peek
   op-end at g = rw (drop_of_length-le text g) (omega arith)

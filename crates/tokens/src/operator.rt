@@ -1,96 +1,85 @@
 // The infix operator that comes next.
 ghost use Rattle.tokens.specs.Next.{Operator, Arrow, Word};
 
-use crate::bytes;
+use crate::{Stop, bytes};
 use spelling::letter::is_name_byte;
 
-// An operator has its level, the lowest level at its right, and its end.
+// An infix operator: its level, the lowest level at its right, its end and its code.
 #[derive(Clone, Copy)]
-pub enum Op {
-    Is {
-        level: u8,
-        right: u8,
-        next: usize,
-        code: u8,
-    },
+pub struct Infix {
+    pub level: u8,
+    pub right: u8,
+    pub next: usize,
+    pub code: u8,
+}
+
+// What comes next: an infix operator; or none, and then the offset behind the spaces.
+#[derive(Clone, Copy)]
+pub enum Next {
+    Infix(Infix),
     Nothing(usize),
-    Cut(usize),
 }
 
 // `>`, the last byte of an operator; which levels may stand at its right.
-fn arrow(text: &[u8], at: usize, code: u8, right: u8) -> Op
+fn arrow(text: &[u8], at: usize, code: u8, right: u8) -> Result<Next, Stop>
     ensures { Arrow text.now at code right result }
 {
-    let b = bytes::byte(text, at);
-    if b == b'>' {
-        return Op::Is {
-            level: 0,
-            right,
-            next: at + 1,
-            code,
-        };
+    if bytes::byte(text, at) != b'>' {
+        return Err(Stop(at));
     }
-    Op::Cut(at)
+    Ok(Next::Infix(Infix {
+        level: 0,
+        right,
+        next: at + 1,
+        code,
+    }))
 }
 
 // Behind `U` and `R`, after which no word's byte may come; which levels may stand at their right.
-fn word_op(text: &[u8], at: usize, code: u8, right: u8) -> Op
+fn word_op(text: &[u8], at: usize, code: u8, right: u8) -> Result<Next, Stop>
     ensures { Word text.now at code right result }
 {
-    let b = bytes::byte(text, at);
-    if is_name_byte(b) {
-        return Op::Cut(at);
+    if is_name_byte(bytes::byte(text, at)) {
+        return Err(Stop(at));
     }
-    Op::Is {
+    Ok(Next::Infix(Infix {
         level: 3,
         right,
         next: at,
         code,
-    }
+    }))
 }
 
 // Where no operator begins, or past the end of the text, the offset behind the spaces.
-pub fn operator(text: &[u8], at: usize) -> Op
+pub fn operator(text: &[u8], at: usize) -> Result<Next, Stop>
     ensures { Operator text.now at result }
 {
     if text.len() <= at {
-        return Op::Nothing(at);
+        return Ok(Next::Nothing(at));
     }
-    let b = bytes::byte(text, at);
-    if b == b' ' {
-        return operator(text, at + 1);
-    }
-    if b == b'&' {
-        return Op::Is {
+    match text[at] {
+        b' ' => operator(text, at + 1),
+        b'&' => Ok(Next::Infix(Infix {
             level: 2,
             right: 3,
             next: at + 1,
             code: 6,
-        };
-    }
-    if b == b'|' {
-        return Op::Is {
+        })),
+        b'|' => Ok(Next::Infix(Infix {
             level: 1,
             right: 2,
             next: at + 1,
             code: 5,
-        };
-    }
-    if b == b'-' {
-        return arrow(text, at + 1, 9, 0);
-    }
-    if b == b'<' {
-        let c = bytes::byte(text, at + 1);
-        if c == b'-' {
-            return arrow(text, at + 2, 10, 0);
+        })),
+        b'-' => arrow(text, at + 1, 9, 0),
+        b'<' => {
+            if bytes::byte(text, at + 1) != b'-' {
+                return Err(Stop(at + 1));
+            }
+            arrow(text, at + 2, 10, 0)
         }
-        return Op::Cut(at + 1);
+        b'U' => word_op(text, at + 1, 7, 3),
+        b'R' => word_op(text, at + 1, 8, 3),
+        _ => Ok(Next::Nothing(at)),
     }
-    if b == b'U' {
-        return word_op(text, at + 1, 7, 3);
-    }
-    if b == b'R' {
-        return word_op(text, at + 1, 8, 3);
-    }
-    Op::Nothing(at)
 }

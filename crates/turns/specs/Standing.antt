@@ -15,6 +15,7 @@ use Rattle.rows.specs.Formulas.{no_candidate, matrix_at, Fine}
 use Rattle.table.specs.Slices.{Cols, table_over}
 use Rattle.counting.specs.declared.Counts.{Counts}
 use Rattle.state.specs.declared.State.{State}
+use Rattle.state.specs.declared.End.{End}
 use Rattle.turns.specs.Costs.{per_size, in_all}
 use Rattle.formula.specs.Kinds.{no_node}
 
@@ -36,10 +37,10 @@ layer_at i s starts = layer_of s starts i.recording.propositions i.constants i.u
 
 -- more to try: the size, the cursor after so many of its candidates, and the counts; or the end
 abbrev pub state_at : Input → Cut (List ℕ) → State
-state_at i (more s j k n) = record { size = s; at = cursor_after (layer_at i s (starts_in k)) j; counts = counts k n; end = 0; root = no_node }
-state_at i (over (found root) k n) = record { size = root.size; at = leaf_cursor 0; counts = counts k n; end = 1; root = kind_node root }
-state_at i (over none k n) = record { size = i.bound; at = leaf_cursor 0; counts = counts k n; end = 2; root = no_node }
-state_at i (over (full s) k n) = record { size = s; at = leaf_cursor 0; counts = counts k n; end = 3; root = no_node }
+state_at i (more s j k n) = record { size = s; at = cursor_after (layer_at i s (starts_in k)) j; counts = counts k n; end = End.More; root = no_node }
+state_at i (over (found root) k n) = record { size = root.size; at = leaf_cursor 0; counts = counts k n; end = End.Found; root = kind_node root }
+state_at i (over none k n) = record { size = i.bound; at = leaf_cursor 0; counts = counts k n; end = End.None; root = no_node }
+state_at i (over (full s) k n) = record { size = s; at = leaf_cursor 0; counts = counts k n; end = End.Full; root = no_node }
 
 -- ---- state and room stand at a cut of the walk
 

@@ -8,6 +8,7 @@ use Rattle.walk.specs.Kept.{go_on}
 use Rattle.table.specs.Slices.{Cols}
 use Rattle.checks.specs.Promises.{RoomThere}
 use Rattle.state.specs.declared.State.{State}
+use Rattle.state.specs.declared.End.{End}
 use Rattle.state.specs.Row as row
 use Rattle.turns.specs.Costs.{operators}
 use Rattle.turns.specs.Standing.{StandsIn}
@@ -34,8 +35,8 @@ pub record GoDoes (i : Input) (budget : ℕ) (from : State) (t t' : Cols) (state
   pub state-in : StateIn i state
   pub spends : state.counts.tried ≤ from.counts.tried + budget
   pub keeps : state.counts.kept ≤ from.counts.kept + budget
-  pub ended : (from.end ≡ 0 → ⊥) → (state ≡ from) × (t' ≡ t)
-  pub runs : (t₀ : Cols) (c : Cut (List ℕ)) → Passes i → RoomThere i t₀ → from.end ≡ 0 → StandsIn i t₀ c from t → StandsIn i t₀ (go_on i budget c) state t'
+  pub ended : (from.end ≡ End.More → ⊥) → (state ≡ from) × (t' ≡ t)
+  pub runs : (t₀ : Cols) (c : Cut (List ℕ)) → Passes i → RoomThere i t₀ → from.end ≡ End.More → StandsIn i t₀ c from t → StandsIn i t₀ (go_on i budget c) state t'
 
 -- where it isn't given what it asks, the state comes back and nothing is written
 pub record Gone (i : Input) (budget : ℕ) (from : State) (t t' : Cols) (state : State) : Type 0 where

@@ -8,6 +8,7 @@ ghost use Rattle.rules.specs.Answers.{Tested};
 ghost use Rattle.turns.specs.Turns.{LoopFits, Gone};
 ghost use Rattle.turns.specs.Inner.{Masked};
 
+use onward::Turn;
 use state::State;
 
 // At most so many operators of a group are offered, none twice.
@@ -98,10 +99,10 @@ pub fn go_on(
             state,
             &mut starts,
         );
-        let turn = onward::turn_of(seen, left);
-        if turn.rests {
-            return turn.state;
-        }
+        let (before, node, next) = match onward::turn_of(seen, left) {
+            Turn::Rests(state) => return state,
+            Turn::Tries { state, node, next } => (state, node, next),
+        };
         left -= 1;
         let fate = candidate::judge(
             r,
@@ -110,8 +111,8 @@ pub fn go_on(
             marks,
             words,
             &masks,
-            turn.node,
-            turn.state.counts.kept,
+            node,
+            before.counts.kept,
             &mut rows,
             codes,
             lefts,
@@ -119,12 +120,6 @@ pub fn go_on(
             sizes,
             matrices,
         );
-        state = onward::ends::after(
-            turn.state.size,
-            turn.state.counts,
-            turn.next,
-            fate,
-            turn.node,
-        );
+        state = onward::ends::after(before.size, before.counts, next, fate, node);
     }
 }

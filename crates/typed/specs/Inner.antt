@@ -1,11 +1,9 @@
 -- How private functions speak of the words and brackets that a pass over the text meets. No public contract cites this file, so nothing here has to be believed.
 -- Assumes nothing.
-use Rattle.std.specs.Prelude.{◌≡◌, Bool, true, false, cond, ◌⊎◌, ℕ, suc, ◌≤◌, ◌<◌, eqb, length, get_or}
+use Rattle.std.specs.Prelude.{◌≡◌, Bool, true, false, cond, ◌⊎◌, ℕ, suc, ◌≤◌, ◌<◌, eqb, length, get_or, Option, Some, None}
 use mathlib.Core.List.{List, Memᴰ}
 use Rattle.names.specs.Names.{is_name_byte}
 use Rattle.names.specs.Reserved.{reserved}
-use Rattle.typed.specs.declared.unknown.Passed.{Passed}
-use Rattle.typed.specs.declared.unknown.Passed.TheVariants.{Unknown, To}
 use Rattle.typed.specs.Words.{UnknownAt}
 
 -- a run of a word's bytes goes from one offset to another
@@ -23,9 +21,10 @@ KnownIs names w false = (Memᴰ w reserved → ⊥) × (Memᴰ w names → ⊥)
 abbrev pub Boundary : List ℕ → ℕ → Type 0
 Boundary text i = (j : ℕ) → suc j ≡ i → is_name_byte (get_or text i 0) ≡ true → is_name_byte (get_or text j 0) ≡ false
 
-abbrev pub PassedIs : List (List ℕ) → List ℕ → ℕ → Passed → Type 0
-PassedIs names text i Unknown = Boundary text i → UnknownAt names text i
-PassedIs names text i (To next) = (i < next) × (next ≤ length text) × Boundary text next × ((k : ℕ) → i ≤ k → k < next → UnknownAt names text k → ⊥)
+-- what is passed at an offset, or an unknown name stands there
+abbrev pub PassedIs : List (List ℕ) → List ℕ → ℕ → Option ℕ → Type 0
+PassedIs names text i None = Boundary text i → UnknownAt names text i
+PassedIs names text i (Some next) = (i < next) × (next ≤ length text) × Boundary text next × ((k : ℕ) → i ≤ k → k < next → UnknownAt names text k → ⊥)
 
 -- 1 for a byte that is this one, else 0
 pub record One (b this r : ℕ) : Type 0 where

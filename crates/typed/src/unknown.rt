@@ -1,92 +1,59 @@
 // The first unknown name of a text.
-ghost use Rattle.std.specs.Prelude.{◌≡◌, not, ◌≤◌, ◌<◌, length};
-ghost use Rattle.names.specs.Names.{is_name_byte};
+ghost use Rattle.std.specs.Prelude.{◌≤◌, ◌<◌, length};
 ghost use Rattle.names.specs.Lookup.{names_by};
 ghost use Rattle.typed.specs.Answers.{MissingIs};
 ghost use Rattle.typed.specs.Inner.{RunTo, KnownIs, PassedIs};
 
-use names::lookup::{FoundName, find};
+use names::lookup::find;
 use spelling::letter::is_name_byte;
 use spelling::reserved::is_reserved;
-
-// Whether every name is known, or the offset of the first that is not.
-#[derive(Clone, Copy)]
-pub enum Missing {
-    Nothing,
-    At(usize),
-}
-
-// What stands at an offset: an unknown name, or what is passed up to another offset.
-#[derive(Clone, Copy)]
-enum Passed {
-    Unknown,
-    To(usize),
-}
-
-// No word goes on with this byte.
-fn is_end(b: u8) -> bool
-    ensures { result ≡ not (is_name_byte b) }
-{
-    if is_name_byte(b) {
-        return false;
-    }
-    true
-}
 
 // Where a run of a word's bytes ends.
 fn run_end(text: &[u8], start: usize) -> usize
     requires { start ≤ length text.now }
     ensures { RunTo text.now start result }
 {
-    let mut i = start;
-    while i < text.len() {
-        if is_end(text[i]) {
+    for i in start..text.len() {
+        if !is_name_byte(text[i]) {
             return i;
         }
-        i += 1;
     }
-    i
+    text.len()
 }
 
 // Whether a word is reserved, or one of the names.
 fn known(names: &[u8], word: &[u8]) -> bool
     ensures { KnownIs (names_by names.now) word.now result }
 {
-    if is_reserved(word) {
-        return true;
-    }
-    let f = find(names, word);
-    match f {
-        FoundName::At(_) => true,
-        FoundName::Nothing => false,
-    }
+    is_reserved(word) || find(names, word).is_some()
 }
 
-fn pass(names: &[u8], text: &[u8], i: usize) -> Passed
+// The offset after what is passed at this one; none where an unknown name stands there.
+fn pass(names: &[u8], text: &[u8], i: usize) -> Option<usize>
     requires { i < length text.now }
     ensures { PassedIs (names_by names.now) text.now i result }
 {
     let end = run_end(text, i);
     if end == i {
-        return Passed::To(i + 1);
+        return Some(i + 1);
     }
     if known(names, &text[i..end]) {
-        return Passed::To(end);
+        return Some(end);
     }
-    Passed::Unknown
+    None
 }
 
-// The names are those of the section's bytes, by its count and length bytes: of a good section these are its names.
-pub fn unknown(names: &[u8], text: &[u8]) -> Missing
+// The offset of the first unknown name; none where every name is known. The names are those of the section's bytes, by its count and length bytes: of a
+// good section these are its names.
+pub fn unknown(names: &[u8], text: &[u8]) -> Option<usize>
     ensures { MissingIs (names_by names.now) text.now result }
 {
     let mut i: usize = 0;
     while i < text.len() {
-        let p = pass(names, text, i);
-        let Passed::To(next) = p else {
-            return Missing::At(i);
+        let Some(next) = pass(names, text, i) else {
+            return Some(i);
         };
         i = next;
     }
-    Missing::Nothing
+    None
 }

@@ -1,7 +1,8 @@
 -- The analyst's check: what it answers for every input.
 -- Assumes nothing.
-use Rattle.std.specs.Prelude.{◌≡◌, ◌↔◌, ◌⊎◌, List, [], ◌∷◌, ◌++◌, ℕ, ◌<◌}
-use Rattle.rules.specs.Refusals.{Row, Decided}
+use Rattle.std.specs.Prelude.{◌≡◌, ◌↔◌, ◌⊎◌, List, [], ◌∷◌, ◌++◌, ℕ, ◌<◌, Result, Ok, Err}
+use Rattle.rules.specs.declared.refusal.Refusal.{Refusal}
+use Rattle.rules.specs.Refusals.{Row, Decided, refusal_number}
 use Rattle.session.specs.Data.{outside_numbers, too_short, too_long, bit_above, mark_wrong}
 use Rattle.rules.specs.Answers.{Said}
 use Rattle.session.specs.Recording.{Recording}
@@ -9,14 +10,14 @@ use Rattle.formula.specs.Formula.{Formula, Accepts, Separates, MarkedTrace}
 use Rattle.formula.specs.Recorded.{marked_trace, marked_traces}
 use Rattle.formula.specs.Nodes.{Node, Spells, codes}
 use Rattle.verdict.specs.declared.Verdict.{Verdict}
-use Rattle.verdict.specs.declared.Verdict.TheVariants.{Accepted, Disagrees, Refused}
+use Rattle.verdict.specs.declared.Verdict.TheVariants.{Accepted, Disagrees}
 use Rattle.formula.specs.Rule.{broken_list}
 
 -- the answer in document 01's terms: 0 with 1, or with 0 and the session's number; or a refusal's number alone
-abbrev pub said_verdict : Verdict → Said
-said_verdict Accepted = record { number = 0; values = 1 ∷ [] }
-said_verdict (Disagrees j) = record { number = 0; values = 0 ∷ j.0 ∷ [] }
-said_verdict (Refused k) = record { number = k; values = [] }
+abbrev pub said_verdict : Result Verdict Refusal → Said
+said_verdict (Ok Accepted) = record { number = 0; values = 1 ∷ [] }
+said_verdict (Ok (Disagrees j)) = record { number = 0; values = 0 ∷ j.0 ∷ [] }
+said_verdict (Err refusal) = record { number = refusal_number refusal; values = [] }
 
 -- "Order of checks: 1, 2, 3, 4, 5, 6, 7, 10, 9": of these the check gives 1, 3, 4, 5, 6 and 9. A caller that is lent a slice more has a row of
 -- number 3 of its own, which stands with the other of that number; which of them is given first can't be seen

@@ -1,6 +1,6 @@
 -- How private functions speak of evaluation and of the check. No public contract cites this file, so nothing here has to be believed.
 -- Assumes nothing.
-use Rattle.std.specs.Prelude.{◌≡◌, Bool, true, ◌↔◌, ◌⊎◌, List, [], ◌∷◌, ℕ, ◌+◌, ◌*◌, ◌≤◌, ◌<◌, length, get_or}
+use Rattle.std.specs.Prelude.{◌≡◌, Bool, true, ◌↔◌, ◌⊎◌, List, [], ◌∷◌, ℕ, ◌+◌, ◌*◌, ◌≤◌, ◌<◌, length, get_or, Ok}
 use Rattle.words.specs.Word.{width, At, Wf}
 use Rattle.sequence.specs.declared.CharSeq.{CharSeq}
 use Rattle.sequence.specs.Sequence.{SeqAccepts, Denotes}
@@ -74,5 +74,5 @@ pub record FirstApart (i : Recording) (k : List Node) (root : Node) (j : ℕ) : 
 -- the verdict, where j is the first of so many sessions that disagrees, or their number
 abbrev pub VerdictOn : ℕ → ℕ → Verdict → Type 0
 VerdictOn sessions j v =
-    ((j < sessions) × (said_verdict v ≡ record { number = 0; values = 0 ∷ j ∷ [] }))
-    ⊎ ((sessions ≤ j) × (said_verdict v ≡ record { number = 0; values = 1 ∷ [] }))
+    ((j < sessions) × (said_verdict (Ok v) ≡ record { number = 0; values = 0 ∷ j ∷ [] }))
+    ⊎ ((sessions ≤ j) × (said_verdict (Ok v) ≡ record { number = 0; values = 1 ∷ [] }))

@@ -15,14 +15,14 @@ ghost use Rattle.session.specs.Recording.{recording};
 use formula::kinds::Node;
 use formula::nodes;
 use rules::kinds::Session;
+use rules::refusal::Refusal;
 use sequence::CharSeq;
 
-// What the analyst's check answers.
+// What the analyst's check says of a formula.
 #[derive(Clone, Copy)]
 pub enum Verdict {
     Accepted,
     Disagrees(Session),
-    Refused(u8),
 }
 
 // The verdict, where `first` is the first of r sessions that disagrees, or r.
@@ -49,33 +49,19 @@ pub fn check(
     rights: &[u16],
     sizes: &[u8],
     root: Node,
-) -> Verdict
+) -> Result<Verdict, Refusal>
     ensures { CheckAnswer (recording r m marks.now lengths.now words.now)
         (nodes codes.now lefts.now rights.now sizes.now) (node_of root) (said_verdict result) }
 {
-    let data = session::data::test(r, m, marks, lengths, words);
-    if data != 0 {
-        return Verdict::Refused(data);
-    }
-    let broken = nodes::refusal(m, codes, lefts, rights, sizes, root);
-    if broken != 0 {
-        return Verdict::Refused(broken);
-    }
+    session::data::test(r, m, marks, lengths, words)?;
+    nodes::check(m, codes, lefts, rights, sizes, root)?;
     let first = agree::first_disagreeing(
         r, m, marks, lengths, words, codes, lefts, rights, sizes, root,
     );
-    verdict_on(r, first)
+    Ok(verdict_on(r, first))
 }
 
-// What is answered for a formula's sequence on one session.
-#[derive(Clone, Copy)]
-pub enum Sequenced {
-    Sequence(CharSeq),
-    NoSession,
-    Refused(u8),
-}
-
-// The sequence of the root's formula on the session with that number; refused as the check refuses.
+// The sequence of the root's formula on the session with that number, if there is such a session; refused as the check refuses.
 pub fn sequence_of(
     r: usize,
     m: usize,
@@ -88,23 +74,17 @@ pub fn sequence_of(
     sizes: &[u8],
     root: Node,
     on: Session,
-) -> Sequenced
+) -> Result<Option<CharSeq>, Refusal>
     ensures { SequenceAnswer (recording r m marks.now lengths.now words.now)
         (nodes codes.now lefts.now rights.now sizes.now) (node_of root) on.0 result }
 {
-    let data = session::data::test(r, m, marks, lengths, words);
-    if data != 0 {
-        return Sequenced::Refused(data);
-    }
-    let broken = nodes::refusal(m, codes, lefts, rights, sizes, root);
-    if broken != 0 {
-        return Sequenced::Refused(broken);
-    }
+    session::data::test(r, m, marks, lengths, words)?;
+    nodes::check(m, codes, lefts, rights, sizes, root)?;
     let j = on.0 as usize;
     if r <= j {
-        return Sequenced::NoSession;
+        return Ok(None);
     }
     let length = lengths[j] as usize;
     let seq = evaluate::eval(length, words, j * m, codes, lefts, rights, sizes, root);
-    Sequenced::Sequence(seq)
+    Ok(Some(seq))
 }

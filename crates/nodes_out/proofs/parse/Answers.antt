@@ -2,7 +2,7 @@
 use mathlib.Core.Path.{sym}
 use lib.Seq.{length-take-le}
 use borrow.Author.Rules.{rules}
-use Rattle.nodes_out.proofs.Placed.{read-in, count-in-room, cut-within, cut_most}
+use Rattle.nodes_out.proofs.Placed.{read-in, count-of, count-in-room, cut-within, cut_most}
 use Rattle.nodes_out.proofs.parse.Goals as goal
 
 pub slice_bounds-parse-end : goal.slice_bounds-parse-end
@@ -20,7 +20,7 @@ slice_bounds-parse-end-4 c = sym (length-take-le _ _ (search rules))
 pub pack-nodes-requires : goal.pack-nodes-requires
 pack-nodes-requires c =
     count-in-room _ _ _ _ c.parse-answer.result _ c.parse-answer.ensures c.parse-answer.auto.codes
-    (cut-within c.room_of-room.result c.bytes-codes.result c.bytes-codes.ensures) c.count_in-count.ensures
+    (cut-within c.room_of-room.result c.bytes-codes.result c.bytes-codes.ensures) (count-of _ _ c.unwrap_or-count.ensures)
 
 pub returns : goal.returns
 returns c =
@@ -36,7 +36,7 @@ returns c =
       rights-given = cut_most _ _ _ c.room_of-room.ensures c.places-rights.ensures;
       sizes-given = cut_most _ _ _ c.room_of-room.ensures c.bytes-sizes.ensures;
       codes-left = c.parse-answer.auto.codes;
-      count-is = c.count_in-count.ensures;
+      count-is = (count-of _ _ c.unwrap_or-count.ensures);
       room-is = search rules;
       parsed = c.parse-answer.ensures;
       filled = c.pack-nodes.ensures;

@@ -15,4 +15,4 @@ returns-then-part c = Takes.ends (carry-right _ _ _ _ _ c.requires.2 ∙ no-righ
 pub returns : goal.returns
 returns c =
     carried (carry-right _ _ _ _ _ c.requires.2)
-    (part-takes _ _ _ (omega arith) (omega arith) (omega arith) c.over.ensures)
+    (part-takes _ _ _ (omega arith) (omega arith) (omega arith) (rw c.at_pair.ensures at c.over.ensures))

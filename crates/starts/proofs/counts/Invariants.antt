@@ -1,10 +1,7 @@
--- `counts` meets its contract: the first p are counted.
-use Prim.Native.Nat.{◌-◌, ◌≤◌}
+-- `counts` meets its contract: those passed are counted.
+use lib.ListN.{take}
 use Rattle.starts.specs.Inner.{SizesCounted}
 use Rattle.starts.proofs.counts.Given as goal
 
-abbrev pub invariant-loop-p : goal.invariant-loop-p
-invariant-loop-p l = (l.p ≤ l.n) × SizesCounted l.sizes l.p l.counts
-
-abbrev pub decreases-loop-p : goal.decreases-loop-p
-decreases-loop-p l = l.n - l.p
+abbrev pub invariant-loop-size : goal.invariant-loop-size
+invariant-loop-size l = SizesCounted (take l.size-index l.sizes) l.counts

@@ -1,28 +1,22 @@
 -- The goals of `of_table` that the search leaves.
-use Prim.Native.Nat.{min}
 use native.Mathlib.Omega.{arith}
-use lib.ListN.{length, length-take}
+use lib.ListN.{length-take}
 use Rattle.starts.proofs.Counting.{summed-none, summed-few, summed-more, summed-all}
 use Rattle.starts.proofs.of_table.Goals as goal
 
-pub counts-starts-requires : goal.counts-starts-requires
-counts-starts-requires c = omega (arith, c.fewer.ensures)
+pub loop-start-init : goal.loop-start-init
+loop-start-init c = summed-none c.counts-starts.ensures
 
-pub loop-t-init : goal.loop-t-init
-loop-t-init c = (omega arith, omega arith, rw c.fewer.ensures at (summed-none _ _ c.counts-starts.ensures))
-
-pub overflow_add-starts : goal.overflow_add-starts
-overflow_add-starts c =
+pub overflow_add-below : goal.overflow_add-below
+overflow_add-below c =
     omega (
       arith,
-      summed-few c.loop-t.invariant.2 (omega arith) (omega arith),
-      length-take
-          (min c.args.kept (length c.args.sizes.now))
-          c.args.sizes.now,
+      summed-few c.loop-start.invariant (omega arith),
+      length-take c.min-there.result c.args.sizes.now,
     )
 
-pub loop-t-preserved : goal.loop-t-preserved
-loop-t-preserved c = (omega arith, omega arith, summed-more c.loop-t.invariant.2 (omega arith) (omega arith))
+pub loop-start-preserved : goal.loop-start-preserved
+loop-start-preserved c = summed-more c.loop-start.invariant (omega arith)
 
 pub returns : goal.returns
-returns c = summed-all _ _ c.loop-t.invariant.2 (omega arith)
+returns c = summed-all _ _ (rw c.min-there.ensures at c.loop-start.invariant) (omega arith)

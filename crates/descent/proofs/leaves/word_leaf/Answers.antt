@@ -1,6 +1,7 @@
 -- `word_leaf` meets its contract: `true`, `false`, or a name.
-use mathlib.Core.Path.{sym, ◌∙◌}
+use mathlib.Core.Path.{sym, ap, ◌∙◌}
 use mathlib.Core.Bool.{true, false}
+use Rattle.descent.specs.Packed.{name_number}
 use Rattle.descent.proofs.Lookup.{leaf-constant, leaf-name}
 use Rattle.descent.proofs.leaves.word_leaf.Goals as goal
 
@@ -14,12 +15,7 @@ returns-then-same-2 c =
     let a = c.args in
     leaf-constant a.names.now a.word.now false (sym c.same-2.ensures ∙ c.if-same-2.true)
 
-pub returns-in-At : goal.returns-in-At
-returns-in-At c =
-    leaf-name c.args.names.now c.args.word.now c.requires (sym c.same.ensures ∙ c.if-same.false)
-    (sym c.same-2.ensures ∙ c.if-same-2.false) c.find-f.ensures c.in-At.is
-
-pub returns-in-Nothing : goal.returns-in-Nothing
-returns-in-Nothing c =
-    leaf-name c.args.names.now c.args.word.now c.requires (sym c.same.ensures ∙ c.if-same.false)
-    (sym c.same-2.ensures ∙ c.if-same-2.false) c.find-f.ensures c.in-Nothing.is
+pub returns : goal.returns
+returns c =
+    rw c.unwrap_or.ensures (leaf-name c.args.names.now c.args.word.now c.requires (sym c.same.ensures ∙ c.if-same.false)
+    (sym c.same-2.ensures ∙ c.if-same-2.false) c.find.ensures)

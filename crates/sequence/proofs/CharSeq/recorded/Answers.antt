@@ -16,9 +16,9 @@ returns-then-length-gt-MAX_LENGTH c = (inl (omega arith, refl), lit< tt)
 pub returns-then-is_clear : goal.returns-then-is_clear
 returns-then-is_clear c = (recorded-passes (c.is_clear.ensures.0 c.if-is_clear.true), (refl, refl))
 
-pub returns : goal.returns
+pub returns-else-is_clear : goal.returns-else-is_clear
 unfolding Decided
-returns c =
+returns-else-is_clear c =
     let s = c.args in (
       inr (
         λ h. omega arith,

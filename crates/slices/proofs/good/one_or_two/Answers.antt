@@ -6,8 +6,8 @@ use Rattle.slices.proofs.good.one_or_two.Goals as goal
 
 pub returns-then-outside : goal.returns-then-outside
 unfolding Decided
-returns-then-outside c = inl (rw c.if-outside.true at c.outside.ensures, refl)
+returns-then-outside c = inl (c.if-outside.ensures, refl)
 
 pub returns : goal.returns
 unfolding Decided
-returns c = inr (rw c.if-outside.false at c.outside.ensures, inl (tt, refl))
+returns c = inr (c.if-outside.ensures, inl (tt, refl))
