@@ -31,30 +31,28 @@ fn say_settings(
     Ok(())
 }
 
+fn say_parts(to: &mut impl Write, parts: Parts) -> io::Result<()> {
+    say_counts(
+        to,
+        parts.sessions as u64,
+        parts.propositions as u64,
+        parts.names as u64,
+    )?;
+    say_settings(
+        to,
+        parts.unary as u64,
+        parts.binary as u64,
+        parts.constants as u64,
+        parts.bound as u64,
+    )
+}
+
 fn say_answer(to: &mut impl Write, answer: Result<Parts, ReadError>) -> io::Result<()> {
     match answer {
-        Ok(parts) => {
-            say_counts(
-                to,
-                parts.sessions as u64,
-                parts.propositions as u64,
-                parts.names as u64,
-            )?;
-            say_settings(
-                to,
-                parts.unary as u64,
-                parts.binary as u64,
-                parts.constants as u64,
-                parts.bound as u64,
-            )?;
-        }
-        Err(ReadError::Broken(at)) => {
-            say_number(to, b"refused 8 at ", at as u64)?;
-        }
-        Err(ReadError::Room) => {
-            say(to, b"refused 3")?;
-        }
-    }
+        Ok(parts) => return say_parts(to, parts),
+        Err(ReadError::Broken(o)) => say_number(to, b"refused 8 at ", o as u64)?,
+        Err(ReadError::Room) => say(to, b"refused 3")?,
+    };
     Ok(())
 }
 

@@ -13,17 +13,34 @@ fn say_refused(to: &mut impl Write, error: ParseError) -> io::Result<()> {
         ParseError::Broken(o) => say_number(to, b"refused 8 at ", o as u64)?,
         ParseError::Stops(o) => say_number(to, b"refused 11 at ", o as u64)?,
         ParseError::Unknown(o) => say_number(to, b"refused 13 at ", o as u64)?,
-        ParseError::Refused(refusal) => say_number(to, b"refused ", u64::from(u8::from(refusal)))?,
+        ParseError::Refused(refusal) => say_number(to, b"refused ", u8::from(refusal) as u64)?,
     };
     Ok(())
 }
 
 // A node: code, left place, right place, size.
 fn say_node(to: &mut impl Write, code: u8, left: u16, right: u16, size: u8) -> io::Result<()> {
-    say_number(to, b" / ", u64::from(code))?;
-    say_number(to, b" ", u64::from(left))?;
-    say_number(to, b" ", u64::from(right))?;
-    say_number(to, b" ", u64::from(size))?;
+    say_number(to, b" / ", code as u64)?;
+    say_number(to, b" ", left as u64)?;
+    say_number(to, b" ", right as u64)?;
+    say_number(to, b" ", size as u64)?;
+    Ok(())
+}
+
+// The first nodes of the four lists.
+fn say_nodes(
+    to: &mut impl Write,
+    codes: &[u8; 31],
+    lefts: &[u16; 31],
+    rights: &[u16; 31],
+    sizes: &[u8; 31],
+    n: usize,
+) -> io::Result<()> {
+    say_number(to, b"nodes ", n as u64)?;
+    let places = lefts.iter().zip(rights);
+    for ((code, (left, right)), size) in codes.iter().zip(places).zip(sizes).take(n) {
+        say_node(to, *code, *left, *right, *size)?;
+    }
     Ok(())
 }
 
@@ -41,13 +58,7 @@ fn parse(to: &mut impl Write, text: &[u8]) -> io::Result<()> {
         &mut sizes,
     );
     match parsed {
-        Ok(n) => {
-            say_number(to, b"nodes ", n as u64)?;
-            for i in 0..n.min(31) {
-                say_node(to, codes[i], lefts[i], rights[i], sizes[i])?;
-            }
-            Ok(())
-        }
+        Ok(n) => say_nodes(to, &codes, &lefts, &rights, &sizes, n),
         Err(error) => say_refused(to, error),
     }
 }
