@@ -2,7 +2,6 @@
 #![tactic(auto)]
 
 use std::io::Write;
-use whole_input::Taken;
 
 // The answer goes out whole, or a line on standard error says that it didn't.
 fn answer(rt: &HostRuntime, file: &[u8]) {
@@ -16,9 +15,9 @@ fn answer(rt: &HostRuntime, file: &[u8]) {
 fn main(rt: HostRuntime) {
     // One byte more than the largest good file has: of a longer one these bytes decide (`first-bytes-decide`, in proofs/Prefix of `file`).
     let mut file = [0u8; file::LARGEST + 1];
-    match whole_input::read(&mut rt.stdin(), &mut file) {
-        Taken::Bytes(size) => answer(&rt, &file[..size]),
-        Taken::Failed => {
+    match whole_input::fill(&mut rt.stdin(), &mut file) {
+        Ok(size) => answer(&rt, &file[..size]),
+        Err(_) => {
             let _ = eprintln!(rt; "bench: standard input can't be read");
         }
     }

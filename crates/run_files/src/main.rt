@@ -71,11 +71,11 @@ fn say_lent(
     if after.len() == 0 {
         return Ok(());
     }
-    stored::say_bytes(to, marks)?;
-    stored::say_bytes(to, lengths)?;
-    stored::say_words(to, words)?;
-    stored::say_bytes(to, unary)?;
-    stored::say_bytes(to, binary)?;
+    stored::say_list(to, marks)?;
+    stored::say_list(to, lengths)?;
+    stored::say_list(to, words)?;
+    stored::say_list(to, unary)?;
+    stored::say_list(to, binary)?;
     Ok(())
 }
 
@@ -101,11 +101,11 @@ fn lend(to: &mut impl Write, line: &[u8], file: &[u8]) -> io::Result<()> {
     let mut words = [0u64; 512];
     let mut unary = [0u8; 8];
     let mut binary = [0u8; 8];
-    let marks = stored::bytes(line, 1, &mut marks);
-    let lengths = stored::bytes(line, 2, &mut lengths);
-    let words = stored::words(line, 3, &mut words);
-    let unary = stored::bytes(line, 4, &mut unary);
-    let binary = stored::bytes(line, 5, &mut binary);
+    let marks = stored::list(line, 1, &mut marks);
+    let lengths = stored::list(line, 2, &mut lengths);
+    let words = stored::list(line, 3, &mut words);
+    let unary = stored::list(line, 4, &mut unary);
+    let binary = stored::list(line, 5, &mut binary);
     read(to, line, file, marks, lengths, words, unary, binary)
 }
 

@@ -20,8 +20,8 @@ use verdict::Verdict;
 fn node(line: &[u8], number: usize) -> Node {
     let mut bytes = [0u8; 4];
     let mut places = [0u16; 4];
-    stored::bytes(line, number, &mut bytes);
-    stored::places(line, number, &mut places);
+    stored::list(line, number, &mut bytes);
+    stored::list(line, number, &mut places);
     Node {
         code: bytes[0],
         left: Place(places[1]),
@@ -53,13 +53,16 @@ fn check(
     lefts: &[u16],
     rights: &[u16],
     sizes: &[u8],
-    marks: &[u8],
-    lengths: &[u8],
-    words: &[u64],
+    root: Node,
 ) -> io::Result<()> {
     let mut head = [0u64; 2];
-    stored::words(line, 0, &mut head);
-    let root = node(line, 8);
+    let mut marks = [0u8; 64];
+    let mut lengths = [0u8; 64];
+    let mut words = [0u64; 1024];
+    stored::list(line, 0, &mut head);
+    let marks = stored::list(line, 1, &mut marks);
+    let lengths = stored::list(line, 2, &mut lengths);
+    let words = stored::list(line, 3, &mut words);
     say_verdict(
         to,
         verdict::check(
@@ -75,23 +78,6 @@ fn check(
             root,
         ),
     )
-}
-
-fn check_nodes(
-    to: &mut impl Write,
-    line: &[u8],
-    codes: &[u8],
-    lefts: &[u16],
-    rights: &[u16],
-    sizes: &[u8],
-) -> io::Result<()> {
-    let mut marks = [0u8; 64];
-    let mut lengths = [0u8; 64];
-    let mut words = [0u64; 1024];
-    let marks = stored::bytes(line, 1, &mut marks);
-    let lengths = stored::bytes(line, 2, &mut lengths);
-    let words = stored::words(line, 3, &mut words);
-    check(to, line, codes, lefts, rights, sizes, marks, lengths, words)
 }
 
 fn say_printed(to: &mut impl Write, p: Printed) -> io::Result<()> {
@@ -110,19 +96,19 @@ fn say_printed(to: &mut impl Write, p: Printed) -> io::Result<()> {
 }
 
 // The room is written out after.
-fn print_nodes(
+fn print(
     to: &mut impl Write,
     line: &[u8],
     codes: &[u8],
     lefts: &[u16],
     rights: &[u16],
     sizes: &[u8],
+    root: Node,
 ) -> io::Result<()> {
     let mut names = [0u8; 400];
     let mut dots = [b'.'; 500];
-    let names = stored::bytes(line, 0, &mut names);
+    let names = stored::list(line, 0, &mut names);
     let room = stored::room(line, 6, &mut dots);
-    let root = node(line, 5);
     say_printed(
         to,
         text::print(names, codes, lefts, rights, sizes, root, room),
@@ -133,28 +119,23 @@ fn print_nodes(
     Ok(())
 }
 
-fn check_line(to: &mut impl Write, line: &[u8]) -> io::Result<()> {
+// The node list's four fields and the root's stand one behind another, from the field `first` on.
+fn question(to: &mut impl Write, line: &[u8], checks: bool) -> io::Result<()> {
+    let first: usize = if checks { 4 } else { 1 };
     let mut codes = [0u8; 4200];
     let mut lefts = [0u16; 4200];
     let mut rights = [0u16; 4200];
     let mut sizes = [0u8; 4200];
-    let codes = stored::bytes(line, 4, &mut codes);
-    let lefts = stored::places(line, 5, &mut lefts);
-    let rights = stored::places(line, 6, &mut rights);
-    let sizes = stored::bytes(line, 7, &mut sizes);
-    check_nodes(to, line, codes, lefts, rights, sizes)
-}
-
-fn print_line(to: &mut impl Write, line: &[u8]) -> io::Result<()> {
-    let mut codes = [0u8; 4200];
-    let mut lefts = [0u16; 4200];
-    let mut rights = [0u16; 4200];
-    let mut sizes = [0u8; 4200];
-    let codes = stored::bytes(line, 1, &mut codes);
-    let lefts = stored::places(line, 2, &mut lefts);
-    let rights = stored::places(line, 3, &mut rights);
-    let sizes = stored::bytes(line, 4, &mut sizes);
-    print_nodes(to, line, codes, lefts, rights, sizes)
+    let codes = stored::list(line, first, &mut codes);
+    let lefts = stored::list(line, first + 1, &mut lefts);
+    let rights = stored::list(line, first + 2, &mut rights);
+    let sizes = stored::list(line, first + 3, &mut sizes);
+    let root = node(line, first + 4);
+    if checks {
+        check(to, line, codes, lefts, rights, sizes, root)
+    } else {
+        print(to, line, codes, lefts, rights, sizes, root)
+    }
 }
 
 fn example(to: &mut impl Write, line: &[u8]) -> io::Result<()> {
@@ -166,8 +147,8 @@ fn example(to: &mut impl Write, line: &[u8]) -> io::Result<()> {
             say(to, line)?;
             say(to, b"\n")?;
         }
-        b'c' => check_line(to, line)?,
-        b'p' => print_line(to, line)?,
+        b'c' => question(to, line, true)?,
+        b'p' => question(to, line, false)?,
         _ => {
             say(to, b"?\n")?;
         }

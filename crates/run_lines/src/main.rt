@@ -23,7 +23,7 @@ fn example(to: &mut impl Write, line: &[u8]) -> io::Result<()> {
     say(to, b":\n")?;
     let mut file = [0u8; 64];
     let mut room = [0u64; 1];
-    stored::words(line, 2, &mut room);
+    stored::list(line, 2, &mut room);
     let file = stored::hex(line, 1, &mut file);
     say_lines(to, file, room[0] as usize)
 }

@@ -29,19 +29,11 @@ fn say_parsed(to: &mut impl Write, p: Parsed) -> io::Result<()> {
     Ok(())
 }
 
-fn wide(x: u8) -> u64 {
-    x as u64
-}
-
-fn wide16(x: u16) -> u64 {
-    x as u64
-}
-
-fn say_node(to: &mut impl Write, code: u64, left: u64, right: u64, size: u64) -> io::Result<()> {
-    say_number(to, b" / ", code)?;
-    say_number(to, b" ", left)?;
-    say_number(to, b" ", right)?;
-    say_number(to, b" ", size)?;
+fn say_node(to: &mut impl Write, code: u8, left: u16, right: u16, size: u8) -> io::Result<()> {
+    say_number(to, b" / ", code as u64)?;
+    say_number(to, b" ", left as u64)?;
+    say_number(to, b" ", right as u64)?;
+    say_number(to, b" ", size as u64)?;
     Ok(())
 }
 
@@ -54,19 +46,9 @@ fn say_nodes(
     sizes: &[u8; 31],
     n: usize,
 ) -> io::Result<()> {
-    let mut i: usize = 0;
-    while i < 31 {
-        if n <= i {
-            return Ok(());
-        }
-        say_node(
-            to,
-            wide(codes[i]),
-            wide16(lefts[i]),
-            wide16(rights[i]),
-            wide(sizes[i]),
-        )?;
-        i += 1;
+    let places = lefts.iter().zip(rights);
+    for ((code, (left, right)), size) in codes.iter().zip(places).zip(sizes).take(n) {
+        say_node(to, *code, *left, *right, *size)?;
     }
     Ok(())
 }
@@ -74,10 +56,7 @@ fn say_nodes(
 fn count(p: Parsed) -> usize {
     match p {
         Parsed::Nodes(n) => n,
-        Parsed::Broken(_) => 0,
-        Parsed::Stops(_) => 0,
-        Parsed::Unknown(_) => 0,
-        Parsed::Refused(_) => 0,
+        _ => 0,
     }
 }
 

@@ -43,11 +43,12 @@ fn say_example(
     Ok(())
 }
 
+// As `node` of run_formulas: `stored` stands below the crates that have nodes, and a public function there of four numbers alone would promise nothing.
 fn root(line: &[u8]) -> Node {
     let mut bytes = [0u8; 4];
     let mut places = [0u16; 4];
-    stored::bytes(line, 9, &mut bytes);
-    stored::places(line, 9, &mut places);
+    stored::list(line, 9, &mut bytes);
+    stored::list(line, 9, &mut places);
     Node {
         code: bytes[0],
         left: Place(places[1]),
@@ -69,14 +70,13 @@ fn report(
     sizes: &[u8],
 ) -> io::Result<()> {
     let mut head = [0u64; 2];
-    stored::words(line, 1, &mut head);
-    let r = head[0] as usize;
-    let m = head[1] as usize;
+    stored::list(line, 1, &mut head);
+    let [r, m] = head;
     let node = root(line);
     let mut dots = [b'.'; report::LONGEST];
     let text = stored::room(line, 10, &mut dots);
     let reported = report::report(
-        r, m, marks, lengths, words, codes, lefts, rights, sizes, node, text,
+        r as usize, m as usize, marks, lengths, words, codes, lefts, rights, sizes, node, text,
     );
     say_example(to, stored::field(line, 0), reported, text)
 }
@@ -92,10 +92,10 @@ fn of_nodes(
     let mut lefts = [0u16; 1030];
     let mut rights = [0u16; 1030];
     let mut sizes = [0u8; 1030];
-    let codes = stored::bytes(line, 5, &mut codes);
-    let lefts = stored::places(line, 6, &mut lefts);
-    let rights = stored::places(line, 7, &mut rights);
-    let sizes = stored::bytes(line, 8, &mut sizes);
+    let codes = stored::list(line, 5, &mut codes);
+    let lefts = stored::list(line, 6, &mut lefts);
+    let rights = stored::list(line, 7, &mut rights);
+    let sizes = stored::list(line, 8, &mut sizes);
     report(to, line, marks, lengths, words, codes, lefts, rights, sizes)
 }
 
@@ -103,9 +103,9 @@ fn example(to: &mut impl Write, line: &[u8]) -> io::Result<()> {
     let mut marks = [0u8; 33];
     let mut lengths = [0u8; 33];
     let mut words = [0u64; 33];
-    let marks = stored::bytes(line, 2, &mut marks);
-    let lengths = stored::bytes(line, 3, &mut lengths);
-    let words = stored::words(line, 4, &mut words);
+    let marks = stored::list(line, 2, &mut marks);
+    let lengths = stored::list(line, 3, &mut lengths);
+    let words = stored::list(line, 4, &mut words);
     of_nodes(to, line, marks, lengths, words)
 }
 

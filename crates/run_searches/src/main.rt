@@ -67,11 +67,11 @@ fn say_lent(
     if after.len() == 0 {
         return Ok(());
     }
-    stored::say_bytes(to, codes)?;
-    stored::say_places(to, lefts)?;
-    stored::say_places(to, rights)?;
-    stored::say_bytes(to, sizes)?;
-    stored::say_words(to, matrices)?;
+    stored::say_list(to, codes)?;
+    stored::say_list(to, lefts)?;
+    stored::say_list(to, rights)?;
+    stored::say_list(to, sizes)?;
+    stored::say_list(to, matrices)?;
     Ok(())
 }
 
@@ -87,13 +87,14 @@ struct Head {
 
 fn read_head(line: &[u8]) -> Head {
     let mut head = [0u64; 5];
-    stored::words(line, 1, &mut head);
+    stored::list(line, 1, &mut head);
+    let [r, m, bound, room, constants] = head;
     Head {
-        r: head[0] as usize,
-        m: head[1] as usize,
-        bound: head[2] as usize,
-        room: head[3] as usize,
-        constants: (head[4] % 256) as u8,
+        r: r as usize,
+        m: m as usize,
+        bound: bound as usize,
+        room: room as usize,
+        constants: (constants % 256) as u8,
     }
 }
 
@@ -147,11 +148,11 @@ fn lend(
     let mut rights = [0u16; 4097];
     let mut sizes = [0u8; 4097];
     let mut matrices = [0u64; 131104];
-    let codes = stored::bytes(line, 7, &mut codes);
-    let lefts = stored::places(line, 8, &mut lefts);
-    let rights = stored::places(line, 9, &mut rights);
-    let sizes = stored::bytes(line, 10, &mut sizes);
-    let matrices = stored::words(line, 11, &mut matrices);
+    let codes = stored::list(line, 7, &mut codes);
+    let lefts = stored::list(line, 8, &mut lefts);
+    let rights = stored::list(line, 9, &mut rights);
+    let sizes = stored::list(line, 10, &mut sizes);
+    let matrices = stored::list(line, 11, &mut matrices);
     run(
         to, line, marks, lengths, words, unary, binary, codes, lefts, rights, sizes, matrices,
     )
@@ -163,11 +164,11 @@ fn search(to: &mut impl Write, line: &[u8]) -> io::Result<()> {
     let mut words = [0u64; 33];
     let mut unary = [0u8; 16];
     let mut binary = [0u8; 16];
-    let marks = stored::bytes(line, 2, &mut marks);
-    let lengths = stored::bytes(line, 3, &mut lengths);
-    let words = stored::words(line, 4, &mut words);
-    let unary = stored::bytes(line, 5, &mut unary);
-    let binary = stored::bytes(line, 6, &mut binary);
+    let marks = stored::list(line, 2, &mut marks);
+    let lengths = stored::list(line, 3, &mut lengths);
+    let words = stored::list(line, 4, &mut words);
+    let unary = stored::list(line, 5, &mut unary);
+    let binary = stored::list(line, 6, &mut binary);
     lend(to, line, marks, lengths, words, unary, binary)
 }
 

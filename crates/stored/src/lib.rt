@@ -4,7 +4,7 @@
 // digit, colon or space is passed over. Lines and fields are counted from 0.
 #![tactic(auto)]
 
-ghost use Rattle.std.specs.Prelude.{◌≡◌, ◌-◌, ◌/◌, ◌<◌, ◌≤◌, ◌++◌, ◌∷◌, [], IfOk, OnErr, OnOk, decimal, length};
+ghost use Rattle.std.specs.Prelude.{◌≡◌, ℕ, ◌+◌, ◌<◌, ◌≤◌, ◌++◌, ◌∷◌, [], IfOk, OnErr, OnOk, decimal, length, min};
 ghost use Rattle.std.specs.Io.KnownBytes.{Appends, Consumes, IsAtEnd};
 ghost use Rattle.stored.specs.Digits.{IsDigitCount};
 ghost use Rattle.stored.specs.Failures.{LostAtMost, SaidFront};
@@ -14,47 +14,14 @@ use itoa::{Buffer, Integer};
 use std::io;
 use std::io::{ErrorKind, Read, Write};
 
-// Where a byte stands first, from a place on; the length where it doesn't.
-fn stop(text: &[u8], from: usize, end: u8) -> usize
-    requires { from ≤ length text.now }
-    ensures { (from ≤ result) × (result ≤ length text.now) }
-{
-    let mut i = from;
-    while i < text.len() {
-        if text[i] == end {
-            return i;
-        }
-        i += 1;
-    }
-    i
-}
-
-// What stands from a place on, up to a byte or the end.
-fn until(text: &[u8], from: usize, end: u8) -> &[u8]
-    ensures { length result.now ≤ length text.now - from }
-{
-    if text.len() < from {
-        return &text[..0];
-    }
-    let e = stop(text, from, end);
-    &text[from..e]
-}
-
 // The part of a text by its number, where a byte ends each part but the last; a part that isn't there is empty.
 fn part(text: &[u8], number: usize, end: u8) -> &[u8]
     ensures { length result.now ≤ length text.now }
 {
-    let mut at: usize = 0;
-    let mut i: usize = 0;
-    while i < number {
-        let e = stop(text, at, end);
-        if e == text.len() {
-            return &text[..0];
-        }
-        at = e + 1;
-        i += 1;
+    match text.split(|b| *b == end).nth(number) {
+        Some(found) => found,
+        None => &[],
     }
-    until(text, at, end)
 }
 
 // Standard input, as much of it as there is room for. Where a read fails, what was read before it is lost.
@@ -72,13 +39,7 @@ pub fn input<'a, R: Read>(from: &mut R, room: &'a mut [u8]) -> io::Result<&'a mu
 pub fn lines(text: &[u8]) -> usize
     ensures { result ≤ length text.now }
 {
-    let mut n: usize = 0;
-    let mut at: usize = 0;
-    while at < text.len() {
-        at = stop(text, at, b'\n') + 1;
-        n += 1;
-    }
-    n
+    text.split_inclusive(|b| *b == b'\n').count()
 }
 
 // A text's line by its number, without its end.
@@ -95,224 +56,134 @@ pub fn field(line: &[u8], number: usize) -> &[u8]
     part(line, number, b'/')
 }
 
-// The smaller of two numbers.
-fn least(a: usize, b: usize) -> usize
-    ensures { (result ≤ a) × (result ≤ b) }
-{
-    if a < b { a } else { b }
+// What stands for a number that was read: of a type that doesn't hold it, the greatest.
+pub trait Number: Copy {
+    ghost nearest: { ℕ → Self };
+
+    fn nearest(x: u64) -> Self
+        ensures { result ≡ nearest x };
 }
 
-// A number and how often, of which some digits were read; the count is 1 from the first digit on, until a colon.
+impl Number for u8 {
+    ghost nearest = { λ x. min x 255 };
+
+    fn nearest(x: u64) -> u8 {
+        u8::try_from(x).unwrap_or(u8::MAX)
+    }
+}
+
+impl Number for u16 {
+    ghost nearest = { λ x. min x 65535 };
+
+    fn nearest(x: u64) -> u16 {
+        u16::try_from(x).unwrap_or(u16::MAX)
+    }
+}
+
+impl Number for u64 {
+    ghost nearest = { λ x. x };
+
+    fn nearest(x: u64) -> u64 {
+        x
+    }
+}
+
+// What was read of a number: none of its digits, some of them, or, from a colon on, how often it stands too.
 #[derive(Clone, Copy)]
-struct Partly {
-    value: u64,
-    count: u64,
-    repeats: bool,
+enum Begun {
+    Nothing,
+    Once(u64),
+    Times(u64, u64),
 }
 
-fn wide(x: u8) -> u64 {
-    x as u64
-}
+impl Begun {
+    // The number and how often.
+    fn told(self) -> (u64, u64) {
+        match self {
+            Begun::Nothing => (0, 0),
+            Begun::Once(value) => (value, 1),
+            Begun::Times(value, times) => (value, times),
+        }
+    }
 
-fn nothing() -> Partly {
-    Partly {
-        value: 0,
-        count: 0,
-        repeats: false,
+    fn with_digit(self, digit: u8) -> Begun {
+        match self {
+            Begun::Nothing => Begun::Once(digit as u64),
+            Begun::Once(value) => Begun::Once(more(value, digit)),
+            Begun::Times(value, times) => Begun::Times(value, more(times, digit)),
+        }
+    }
+
+    // One byte more. A space begins anew.
+    fn with(self, b: u8) -> Begun {
+        match b {
+            b' ' => Begun::Nothing,
+            b':' => Begun::Times(self.told().0, 0),
+            b'0'..=b'9' => self.with_digit(b - b'0'),
+            _ => self,
+        }
     }
 }
 
 // The number with one digit more.
-fn more(x: u64, digit: u64) -> u64 {
-    let tens = std::num::wrapping_add_u64(x << 3, x << 1);
-    std::num::wrapping_add_u64(tens, digit)
+fn more(x: u64, digit: u8) -> u64 {
+    x.wrapping_mul(10).wrapping_add(digit as u64)
 }
 
-fn with_digit(p: Partly, digit: u64) -> Partly {
-    if p.repeats {
-        return Partly {
-            value: p.value,
-            count: more(p.count, digit),
-            repeats: true,
-        };
-    }
-    Partly {
-        value: more(p.value, digit),
-        count: 1,
-        repeats: false,
-    }
+// A number goes into a list behind its first `n`, as often as it was told and there is room; how many are there then is answered.
+fn push<T: Number>(to: &mut [T], n: usize, begun: Begun) -> usize
+    requires { n ≤ length to.old }
+    ensures { (result ≤ length to.new) × (length to.new ≡ length to.old) }
+{
+    let (value, times) = begun.told();
+    let end = n.saturating_add(times as usize).min(to.len());
+    to[n..end].fill_with(|| T::nearest(value));
+    end
 }
 
-// One byte more. A space begins anew.
-fn with(p: Partly, b: u8) -> Partly {
-    match b {
-        b' ' => nothing(),
-        b':' => Partly {
-            value: p.value,
-            count: 0,
-            repeats: true,
-        },
-        b'0'..=b'9' => with_digit(p, wide(b - b'0')),
-        _ => p,
-    }
-}
-
-// A number goes into a list, `times` times, as long as there is room.
-fn push(to: &mut [u64], n: usize, value: u64, times: u64) -> usize {
-    let mut k: u64 = 0;
-    let mut at = n;
-    while k < times {
-        if at >= to.len() {
-            return at;
-        }
-        to[at] = value;
-        at += 1;
-        k += 1;
-    }
-    at
-}
-
-// A space ends a number: how often it is to be pushed at a byte.
-fn due(p: Partly, b: u8) -> u64 {
-    if b == b' ' { p.count } else { 0 }
-}
-
-// The numbers of a field, as many as there is room for, and how many these are.
-fn numbers(field: &[u8], to: &mut [u64]) -> usize {
-    let mut i: usize = 0;
+// A line's list of numbers by its field, as many as there is room for: the part of the room that holds it.
+pub fn list<'a, T: Number>(line: &[u8], number: usize, to: &'a mut [T]) -> &'a mut [T]
+    ensures { length result.now ≤ length to.old }
+{
     let mut n: usize = 0;
-    let mut p = nothing();
-    while i < field.len() {
-        let b = field[i];
-        n = push(to, n, p.value, due(p, b));
-        p = with(p, b);
-        i += 1;
+    let mut begun = Begun::Nothing;
+    for b in field(line, number) {
+        if *b == b' ' {
+            n = push(to, n, begun);
+        }
+        begun = begun.with(*b);
     }
-    push(to, n, p.value, p.count)
-}
-
-fn low8(x: u64) -> u8 {
-    if x < 256 { x as u8 } else { 255 }
-}
-
-fn low16(x: u64) -> u16 {
-    if x < 65536 { x as u16 } else { 65535 }
-}
-
-fn narrow8(from: &[u64], to: &mut [u8]) -> usize
-    ensures { result ≤ length to.old }
-{
-    let n = least(from.len(), to.len());
-    let mut i: usize = 0;
-    while i < n {
-        to[i] = low8(from[i]);
-        i += 1;
-    }
-    n
-}
-
-fn narrow16(from: &[u64], to: &mut [u16]) -> usize
-    ensures { result ≤ length to.old }
-{
-    let n = least(from.len(), to.len());
-    let mut i: usize = 0;
-    while i < n {
-        to[i] = low16(from[i]);
-        i += 1;
-    }
-    n
-}
-
-// A line's list of words by its field: the part of the room that holds it.
-pub fn words<'a>(line: &[u8], number: usize, to: &'a mut [u64]) -> &'a mut [u64]
-    ensures { length result.now ≤ length to.old }
-{
-    let all = numbers(field(line, number), to);
-    let n = least(all, to.len());
-    &mut to[..n]
-}
-
-fn read8(line: &[u8], number: usize, to: &mut [u8]) -> usize
-    ensures { result ≤ length to.old }
-{
-    let mut list = [0u64; 4200];
-    let all = words(line, number, &mut list);
-    narrow8(all, to)
-}
-
-fn read16(line: &[u8], number: usize, to: &mut [u16]) -> usize
-    ensures { result ≤ length to.old }
-{
-    let mut list = [0u64; 4200];
-    let all = words(line, number, &mut list);
-    narrow16(all, to)
-}
-
-// A list of bytes, at most 4,200; what is above 255 is 255.
-pub fn bytes<'a>(line: &[u8], number: usize, to: &'a mut [u8]) -> &'a mut [u8]
-    ensures { length result.now ≤ length to.old }
-{
-    let n = read8(line, number, to);
-    &mut to[..n]
-}
-
-// A list of places, at most 4,200; what is above 65,535 is 65,535.
-pub fn places<'a>(line: &[u8], number: usize, to: &'a mut [u16]) -> &'a mut [u16]
-    ensures { length result.now ≤ length to.old }
-{
-    let n = read16(line, number, to);
-    &mut to[..n]
+    let end = push(to, n, begun);
+    &mut to[..end]
 }
 
 // The value of a hex digit in capitals; 0 for any other byte.
 fn digit(b: u8) -> u8
     ensures { result < 16 }
 {
-    if b >= b'0' {
-        if b <= b'9' {
-            return b - b'0';
-        }
+    match b {
+        b'0'..=b'9' => b - b'0',
+        b'A'..=b'F' => b - b'A' + 10,
+        _ => 0,
     }
-    if b >= b'A' {
-        if b <= b'F' {
-            return b - b'A' + 10;
-        }
-    }
-    0
-}
-
-// The byte that the two hex digits at a place spell.
-fn pair(text: &[u8], i: usize) -> u8
-    requires { i < length text.now / 2 }
-{
-    digit(text[i * 2]) * 16 + digit(text[i * 2 + 1])
-}
-
-// The bytes that the hex digits spell, as many as there is room for, and how many these are.
-fn decode(text: &[u8], out: &mut [u8]) -> usize
-    ensures { result ≤ length out.old }
-{
-    let n = least(text.len() / 2, out.len());
-    let mut i: usize = 0;
-    while i < n {
-        out[i] = pair(text, i);
-        i += 1;
-    }
-    n
 }
 
 // A list of bytes whose field has them in hex, two digits in capitals each and nothing between them.
 pub fn hex<'a>(line: &[u8], number: usize, to: &'a mut [u8]) -> &'a mut [u8]
     ensures { length result.now ≤ length to.old }
 {
-    let n = decode(field(line, number), to);
+    let (pairs, _) = field(line, number).as_chunks::<2>();
+    for (byte, [high, low]) in to.iter_mut().zip(pairs) {
+        *byte = digit(*high) * 16 + digit(*low);
+    }
+    let n = pairs.len().min(to.len());
     &mut to[..n]
 }
 
 // The one number of a field.
 fn asked(line: &[u8], number: usize) -> usize {
     let mut one = [0u64; 1];
-    words(line, number, &mut one);
+    list(line, number, &mut one);
     one[0] as usize
 }
 
@@ -320,7 +191,7 @@ fn asked(line: &[u8], number: usize) -> usize {
 pub fn room<'a>(line: &[u8], number: usize, to: &'a mut [u8]) -> &'a mut [u8]
     ensures { length result.now ≤ length to.old }
 {
-    let n = least(asked(line, number), to.len());
+    let n = asked(line, number).min(to.len());
     &mut to[..n]
 }
 
@@ -380,7 +251,7 @@ fn say_next<W: Write, T: Integer>(to: &mut W, x: T) -> io::Result<()>
 }
 
 // A bar, and a list's numbers with a space before each; how many they are is answered.
-fn say_list<W: Write, T: Integer>(to: &mut W, list: &[T]) -> io::Result<usize>
+pub fn say_list<W: Write, T: Integer>(to: &mut W, list: &[T]) -> io::Result<usize>
     ensures count { IfOk result (λ n. n ≡ length list.now) }
     ensures said { OnOk result (Appends (W.contents to.old) (W.contents to.new) (listed T.text list.now)) }
     ensures err { OnErr result (SaidFront (W.contents to.old) (W.contents to.new) (listed T.text list.now)) }
@@ -390,28 +261,4 @@ fn say_list<W: Write, T: Integer>(to: &mut W, list: &[T]) -> io::Result<usize>
         say_next(to, *x)?;
     }
     Ok(list.len())
-}
-
-pub fn say_bytes<W: Write>(to: &mut W, list: &[u8]) -> io::Result<usize>
-    ensures count { IfOk result (λ n. n ≡ length list.now) }
-    ensures said { OnOk result (Appends (W.contents to.old) (W.contents to.new) (listed decimal list.now)) }
-    ensures err { OnErr result (SaidFront (W.contents to.old) (W.contents to.new) (listed decimal list.now)) }
-{
-    say_list(to, list)
-}
-
-pub fn say_places<W: Write>(to: &mut W, list: &[u16]) -> io::Result<usize>
-    ensures count { IfOk result (λ n. n ≡ length list.now) }
-    ensures said { OnOk result (Appends (W.contents to.old) (W.contents to.new) (listed decimal list.now)) }
-    ensures err { OnErr result (SaidFront (W.contents to.old) (W.contents to.new) (listed decimal list.now)) }
-{
-    say_list(to, list)
-}
-
-pub fn say_words<W: Write>(to: &mut W, list: &[u64]) -> io::Result<usize>
-    ensures count { IfOk result (λ n. n ≡ length list.now) }
-    ensures said { OnOk result (Appends (W.contents to.old) (W.contents to.new) (listed decimal list.now)) }
-    ensures err { OnErr result (SaidFront (W.contents to.old) (W.contents to.new) (listed decimal list.now)) }
-{
-    say_list(to, list)
 }

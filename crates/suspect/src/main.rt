@@ -4,7 +4,6 @@
 
 use std::env::{Env, FillError};
 use std::io::Write;
-use whole_input::Taken;
 
 fn complain(rt: &impl Eprint, what: &str) {
     let _ = rt.eprintln(what);
@@ -25,9 +24,9 @@ fn answer(rt: &HostRuntime, typed: &[u8], file: &[u8]) {
 fn judge(rt: &HostRuntime, typed: &[u8]) {
     // One byte more than the largest good file has: of a longer one these bytes decide (`first-bytes-decide`, in proofs/Prefix of `file`).
     let mut file = [0u8; file::LARGEST + 1];
-    match whole_input::read(&mut rt.stdin(), &mut file) {
-        Taken::Bytes(size) => answer(rt, typed, &file[..size]),
-        Taken::Failed => complain(rt, "suspect: standard input can't be read"),
+    match whole_input::fill(&mut rt.stdin(), &mut file) {
+        Ok(size) => answer(rt, typed, &file[..size]),
+        Err(_) => complain(rt, "suspect: standard input can't be read"),
     }
 }
 

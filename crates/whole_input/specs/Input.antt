@@ -3,13 +3,6 @@
 use Rattle.std.specs.Prelude.{ℕ, ◌<◌, ◌≤◌, List, length, take}
 use Rattle.std.specs.Io.KnownBytes.{Consumes, IsAtEnd}
 use Rattle.std.specs.declared.option.Option.{Option}
-use Rattle.whole_input.specs.declared.Taken.{Taken}
-use Rattle.whole_input.specs.declared.Taken.TheVariants.{Bytes, Failed}
-
--- no more bytes than there is room for
-abbrev pub Within : Taken → ℕ → Type 0
-Within (Bytes n) most = n ≤ most
-Within Failed most = Unit {0}
 
 -- the reader gave n bytes, which stand at the start of the room; where they don't fill it, nothing is left to read
 pub record FirstBytes (old new : Option (List ℕ)) (room : List ℕ) (n : ℕ) : Type 0 where
@@ -20,8 +13,3 @@ pub record FirstBytes (old new : Option (List ℕ)) (room : List ℕ) (n : ℕ) 
 -- where a read failed: the reader gave some bytes before, which stand at the start of the room, and no others
 abbrev pub FirstOf : Option (List ℕ) → Option (List ℕ) → List ℕ → Type 0
 FirstOf old new room = (n : ℕ) × (n ≤ length room) × Consumes old new (take n room)
-
--- the same of what is answered
-abbrev pub TakesFirst : Taken → Option (List ℕ) → Option (List ℕ) → List ℕ → Type 0
-TakesFirst (Bytes n) old new room = FirstBytes old new room n
-TakesFirst Failed old new room = FirstOf old new room

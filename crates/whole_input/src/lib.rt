@@ -2,17 +2,10 @@
 #![tactic(auto)]
 
 ghost use Rattle.std.specs.Prelude.{length, IfOk, OnErr};
-ghost use Rattle.whole_input.specs.Input.{FirstBytes, FirstOf, TakesFirst, Within};
+ghost use Rattle.whole_input.specs.Input.{FirstBytes, FirstOf};
 
 use std::io;
 use std::io::Read;
-
-// How many bytes were read, or that a read failed.
-#[derive(Clone, Copy)]
-pub enum Taken {
-    Bytes(usize),
-    Failed,
-}
 
 // Reads until the input ends or the room is full, and answers how many bytes were read. What comes in pieces is read piece by piece, and where a read fails
 // the pieces before it are in the room. The only error is the reader's own; that a reader had to fail no clause can say.
@@ -20,6 +13,7 @@ pub fn fill<R: Read>(from: &mut R, room: &mut [u8]) -> io::Result<usize>
     ensures ok { IfOk result (FirstBytes (R.remaining from.old) (R.remaining from.new) room.new) }
     ensures err { OnErr result (FirstOf (R.remaining from.old) (R.remaining from.new) room.new) }
 {
+    // A loop of its own: std's `read_exact` takes an end of the input for an error, and says nothing of what stands in the room then.
     let mut at: usize = 0;
     while at < room.len() {
         let n = from.read(&mut room[at..])?;
@@ -29,15 +23,4 @@ pub fn fill<R: Read>(from: &mut R, room: &mut [u8]) -> io::Result<usize>
         at += n;
     }
     Ok(at)
-}
-
-// The same, where a read that failed is told from an end of the input, and no more.
-pub fn read<R: Read>(from: &mut R, file: &mut [u8]) -> Taken
-    ensures within { Within result (length file.new) }
-    ensures bytes { TakesFirst result (R.remaining from.old) (R.remaining from.new) file.new }
-{
-    match fill(from, file) {
-        Ok(n) => Taken::Bytes(n),
-        Err(_) => Taken::Failed,
-    }
 }

@@ -1,9 +1,0 @@
--- `push` stays within the list.
-use Rattle.std.proofs.Common.{◌≡◌, ◌-◌, length}
-use Rattle.stored.proofs.push.Given as goal
-
-abbrev pub invariant-loop-k : goal.invariant-loop-k
-invariant-loop-k l = length l.to ≡ length l.initial.to
-
-abbrev pub decreases-loop-k : goal.decreases-loop-k
-decreases-loop-k l = l.times - l.k
