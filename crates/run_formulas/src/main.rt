@@ -10,10 +10,11 @@
 
 use formula::kinds::Node;
 use rules::kinds::Place;
+use rules::refusal::Refusal;
 use std::io;
 use std::io::Write;
 use stored::{say, say_number};
-use text::Printed;
+use text::PrintError;
 use verdict::Verdict;
 
 // The node that a field has.
@@ -30,16 +31,16 @@ fn node(line: &[u8], number: usize) -> Node {
     }
 }
 
-fn say_verdict(to: &mut impl Write, v: Verdict) -> io::Result<()> {
+fn say_verdict(to: &mut impl Write, v: Result<Verdict, Refusal>) -> io::Result<()> {
     match v {
-        Verdict::Accepted => {
+        Ok(Verdict::Accepted) => {
             say(to, b"accepted")?;
         }
-        Verdict::Disagrees(j) => {
+        Ok(Verdict::Disagrees(j)) => {
             say_number(to, b"disagrees ", j.0 as u64)?;
         }
-        Verdict::Refused(k) => {
-            say_number(to, b"refused ", k as u64)?;
+        Err(refusal) => {
+            say_number(to, b"refused ", u8::from(refusal) as u64)?;
         }
     }
     say(to, b"\n")?;
@@ -80,16 +81,16 @@ fn check(
     )
 }
 
-fn say_printed(to: &mut impl Write, p: Printed) -> io::Result<()> {
+fn say_printed(to: &mut impl Write, p: Result<usize, PrintError>) -> io::Result<()> {
     match p {
-        Printed::Text(n) => {
+        Ok(n) => {
             say_number(to, b"text ", n as u64)?;
         }
-        Printed::Broken(o) => {
+        Err(PrintError::Broken(o)) => {
             say_number(to, b"refused 8 at ", o as u64)?;
         }
-        Printed::Refused(k) => {
-            say_number(to, b"refused ", k as u64)?;
+        Err(PrintError::Refused(refusal)) => {
+            say_number(to, b"refused ", u8::from(refusal) as u64)?;
         }
     }
     Ok(())

@@ -9,7 +9,8 @@
 
 ghost use Rattle.std.specs.Prelude.{◌≤◌, length};
 
-use sequence::{Answer, CharSeq};
+use rules::refusal::Refusal;
+use sequence::CharSeq;
 use std::io;
 use std::io::{Read, Write};
 
@@ -54,7 +55,7 @@ fn read_sequence(fields: &[u8]) -> Option<CharSeq>
 }
 
 // The operators' answer to a query; none where it isn't one.
-fn answer(text: &[u8]) -> Option<Answer> {
+fn answer(text: &[u8]) -> Option<Result<CharSeq, Refusal>> {
     let query = text.as_array::<QUERY>()?;
     if query[71] != b'\n' {
         return None;
@@ -70,10 +71,10 @@ fn answer(text: &[u8]) -> Option<Answer> {
 }
 
 // The numbers of a line of the output: of the refusal, the length, the word.
-fn numbers(answer: Option<Answer>) -> (u8, u64, u64) {
+fn numbers(answer: Option<Result<CharSeq, Refusal>>) -> (u8, u64, u64) {
     match answer {
-        Some(Answer::Sequence(seq)) => (0, seq.length as u64, seq.values),
-        Some(Answer::Refused(number)) => (number, 0, 0),
+        Some(Ok(seq)) => (0, seq.length as u64, seq.values),
+        Some(Err(refusal)) => (refusal.into(), 0, 0),
         None => (255, 0, 0),
     }
 }
@@ -87,7 +88,7 @@ fn write_hex(to: &mut [u8], value: u64) {
     }
 }
 
-fn write_line(line: &mut [u8; LINE], answer: Option<Answer>) {
+fn write_line(line: &mut [u8; LINE], answer: Option<Result<CharSeq, Refusal>>) {
     let (number, length, word) = numbers(answer);
     *line = [b' '; LINE];
     write_hex(&mut line[..2], number as u64);

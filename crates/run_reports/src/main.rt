@@ -8,18 +8,18 @@
 #![tactic(auto)]
 
 use formula::kinds::Node;
-use report::Reported;
 use rules::kinds::Place;
+use rules::refusal::Refusal;
 use std::io;
 use std::io::Write;
 
-fn say_reported(to: &mut impl Write, reported: Reported) -> io::Result<()> {
+fn say_reported(to: &mut impl Write, reported: Result<usize, Refusal>) -> io::Result<()> {
     match reported {
-        Reported::Text(length) => {
+        Ok(length) => {
             stored::say_number(to, b"text ", length as u64)?;
         }
-        Reported::Refused(number) => {
-            stored::say_number(to, b"refused ", number as u64)?;
+        Err(refusal) => {
+            stored::say_number(to, b"refused ", u8::from(refusal) as u64)?;
         }
     }
     stored::say(to, b"\n")?;
@@ -29,7 +29,7 @@ fn say_reported(to: &mut impl Write, reported: Reported) -> io::Result<()> {
 fn say_example(
     to: &mut impl Write,
     name: &[u8],
-    reported: Reported,
+    reported: Result<usize, Refusal>,
     text: &[u8],
 ) -> io::Result<()> {
     if name.len() == 0 {

@@ -3,7 +3,8 @@
 #![tactic(auto)]
 
 use operators::operator_of;
-use sequence::{Answer, CharSeq};
+use rules::refusal::Refusal;
+use sequence::CharSeq;
 use std::io;
 use std::io::Write;
 use stored::{say, say_number};
@@ -16,13 +17,13 @@ fn say_token(to: &mut impl Write, code: u8) -> io::Result<()> {
     Ok(())
 }
 
-fn say_answer(to: &mut impl Write, answer: Answer) -> io::Result<()> {
+fn say_answer(to: &mut impl Write, answer: Result<CharSeq, Refusal>) -> io::Result<()> {
     match answer {
-        Answer::Sequence(seq) => {
+        Ok(seq) => {
             say_number(to, b" ", seq.values)?;
         }
-        Answer::Refused(number) => {
-            say_number(to, b" refused ", number as u64)?;
+        Err(refusal) => {
+            say_number(to, b" refused ", u8::from(refusal) as u64)?;
         }
     }
     Ok(())
