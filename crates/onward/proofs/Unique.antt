@@ -5,12 +5,14 @@ use mathlib.Core.List.{List}
 use Prim.Native.Nat.{ℕ, suc, ◌≤◌, ◌<◌}
 use native.Mathlib.Omega.{arith}
 use native.Mathlib.Decide.{dec_le}
-use Rattle.split.specs.declared.Step.{Step}
-use Rattle.split.specs.declared.Step.TheVariants.{End}
+use Rattle.split.specs.declared.Candidate.{Candidate}
+use Rattle.std.specs.Prelude.{Option, None}
 use Rattle.order.specs.Size.{Layer, layer_of}
 use Rattle.order.specs.Steps.{Steps}
 use Rattle.order.proofs.Rest.{steps-unique}
 use Rattle.state.specs.declared.State.{State}
+use Rattle.state.specs.declared.End.{End}
+use Rattle.state.proofs.Ends.{dec_more}
 use Rattle.onward.specs.declared.Seen.{Seen}
 use Rattle.onward.specs.Onward.{begin_state, starts_at, Over, Seeks}
 
@@ -42,7 +44,7 @@ module _ (m bound constants : ℕ) (sizes unary binary : List ℕ) (from : State
     begun : List ℕ
     way : Way at begun
     long : passed way ≡ n
-    ended : Steps (layer_from at begun) at.at End
+    ended : Steps (layer_from at begun) at.at None
     below : at.size < bound
 
   passed_over : {b : State} {t : List ℕ} (y : Way b t) (n : ℕ) → n < passed y → Passed n
@@ -55,7 +57,7 @@ module _ (m bound constants : ℕ) (sizes unary binary : List ℕ) (from : State
 
   -- where a way stays
   abbrev Stays : State → List ℕ → Type 0
-  Stays at begun = Steps (layer_from at begun) at.at End → at.size < bound → ⊥
+  Stays at begun = Steps (layer_from at begun) at.at None → at.size < bound → ⊥
 
   not-longer : {a b : State} {s t : List ℕ} (x : Way a s) (y : Way b t) → Stays a s → passed y ≤ passed x
   not-longer {a} {b} {s} {t} x y w = elim (dec_le (passed y) (passed x)) [
@@ -63,7 +65,7 @@ module _ (m bound constants : ℕ) (sizes unary binary : List ℕ) (from : State
     | no h ↦
         let p = passed_over y (passed x) (omega arith) in
         let (e, f) = same_way p.way x p.long in
-        absurd (w (subst (λ (v : State). Steps (layer_from v s) v.at End) e (subst (λ (l : List ℕ). Steps (layer_from p.at l) p.at.at End) f p.ended))
+        absurd (w (subst (λ (v : State). Steps (layer_from v s) v.at None) e (subst (λ (l : List ℕ). Steps (layer_from p.at l) p.at.at None) f p.ended))
         (subst (λ (v : State). v.size < bound) e p.below))
   ]
 
@@ -73,17 +75,14 @@ module _ (m bound constants : ℕ) (sizes unary binary : List ℕ) (from : State
   -- TWO ANSWERS OF `seek` ARE ONE
   module _ {s t : List ℕ} {seen other : Seen} (v : Seeks m bound constants sizes unary binary from starts s seen)
       (w : Seeks m bound constants sizes unary binary from starts t other) where
-    stays_at : {l : List ℕ} {x : Seen} → Seeks m bound constants sizes unary binary from starts l x → from.end ≡ 0 → Stays x.state l
+    stays_at : {l : List ℕ} {x : Seen} → Seeks m bound constants sizes unary binary from starts l x → from.end ≡ End.More → Stays x.state l
     stays_at u e step h = let z = u.last e (steps-unique (u.step_is e) step) in omega arith
 
     pub seek-unique : (s ≡ t) × (seen ≡ other)
-    seek-unique = elim (dec_le from.end 0) [
-      | yes h ↦
-          let e : from.end ≡ 0 = omega arith in
+    seek-unique = elim (dec_more from.end) [
+      | yes e ↦
           let (a, b) = one_way (v.goes e) (w.goes e) (stays_at v e) (stays_at w e) in
           let f = subst (λ (x : State). Steps (layer_from x t) x.at seen.step) a (subst (λ (l : List ℕ). Steps (layer_from seen.state l) seen.state.at seen.step) b (v.step_is e)) in
-          (b, ap₂ (λ (x : State) (y : Step). record { state = x; step = y }) a (steps-unique f (w.step_is e)))
-      | no h ↦
-          let o : from.end ≡ 0 → ⊥ = λ z. h (omega arith) in
-          ((v.stays o).1 ∙ sym (w.stays o).1, (v.stays o).0 ∙ sym (w.stays o).0)
+          (b, ap₂ (λ (x : State) (y : Option Candidate). record { state = x; step = y }) a (steps-unique f (w.step_is e)))
+      | no o ↦ ((v.stays o).1 ∙ sym (w.stays o).1, (v.stays o).0 ∙ sym (w.stays o).0)
     ]

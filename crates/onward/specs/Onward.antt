@@ -1,7 +1,6 @@
 -- Onward from a state: the states that the loop answers, the sizes that are passed over, and a turn.
 -- Assumes nothing.
 use Rattle.std.specs.Prelude.{◌≡◌, cond, List, ℕ, ◌+◌, ◌≤◌, ◌<◌, eqb, ltb, Option, None, Some}
-use Rattle.rules.specs.declared.kinds.Place.{Place}
 use Rattle.formula.specs.declared.kinds.Node.{Node}
 use Rattle.formula.specs.Kinds.{no_node}
 use Rattle.split.specs.declared.Cursor.{Cursor}

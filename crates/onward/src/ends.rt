@@ -1,7 +1,7 @@
 // The states that the loop answers: before a candidate, after the last one, and after one by its fate.
 ghost use Rattle.std.specs.Prelude.{◌≡◌};
 ghost use Rattle.formula.specs.Kinds.{no_node};
-ghost use Rattle.onward.specs.Onward.{more_state, end_state, none_state, end_after, root_at, after_state};
+ghost use Rattle.onward.specs.Onward.{more_state, end_state, none_state, after_state};
 
 use counting::{Counts, Fate, count};
 use formula::kinds::Node;
@@ -40,13 +40,7 @@ fn end_of(size: usize, counts: Counts, end: End, root: Node) -> State
 {
     State {
         size,
-        at: Cursor {
-            split: 0,
-            left: 0,
-            right: 0,
-            operator: 0,
-            second: false,
-        },
+        at: Cursor::at_leaf(0),
         counts,
         end,
         root,
@@ -60,36 +54,14 @@ pub(crate) fn none(size: usize, counts: Counts) -> State
     end_of(size, counts, End::None, no_node())
 }
 
-// What a fate says of the walk's end: nothing yet, FOUND or FULL.
-fn end_after(fate: Fate) -> End
-    ensures { result ≡ end_after fate }
-{
-    match fate {
-        Fate::Found => End::Found,
-        Fate::Dropped => End::More,
-        Fate::Full => End::Full,
-        Fate::Kept => End::More,
-    }
-}
-
-// At FOUND the candidate is the root.
-fn root_at(end: End, node: Node) -> Node
-    ensures { result ≡ root_at end node }
-{
-    if end == End::Found {
-        return node;
-    }
-    no_node()
-}
-
-// The state after a candidate, which is counted: before the next one, or at the walk's end.
+// The state after a candidate, which is counted: before the next one, or at the walk's end, which at FOUND has the candidate as its root.
 pub fn after(size: usize, counts: Counts, next: Cursor, fate: Fate, node: Node) -> State
     ensures { result ≡ after_state size counts next fate node }
 {
     let counted = count(fate, counts);
-    let end = end_after(fate);
-    if end == End::More {
-        return more(size, next, counted);
+    match fate {
+        Fate::Found => end_of(size, counted, End::Found, node),
+        Fate::Full => end_of(size, counted, End::Full, no_node()),
+        Fate::Dropped | Fate::Kept => more(size, next, counted),
     }
-    end_of(size, counted, end, root_at(end, node))
 }

@@ -29,31 +29,11 @@ pub enum Turn {
     },
 }
 
-// A number as a byte; one above 255, which no size and no number of propositions is, as 0.
-fn byte_of(n: usize) -> u8
-    ensures { result ≡ up_to 255 n }
-{
-    if 255 < n {
-        return 0;
-    }
-    n as u8
-}
-
-// A place as its kind has it; one above its kind's, which no table has, as 0.
-fn place_of(n: usize) -> u16
-    ensures { result ≡ up_to 65535 n }
-{
-    if 65535 < n {
-        return 0;
-    }
-    n as u16
-}
-
-// Where the sizes of the kept formulas begin.
+// Where the sizes of the kept formulas begin. A count above a place's kind, which no table has, is taken for 0.
 pub fn starts_at(sizes: &[u8], kept: usize) -> [u16; starts::COUNT]
     ensures { result ≡ starts_at sizes.now kept }
 {
-    of_table(sizes, place_of(kept))
+    of_table(sizes, u16::try_from(kept).unwrap_or(0))
 }
 
 // The state before the first candidate of the next size, by where the sizes begin.
@@ -85,7 +65,8 @@ pub fn seek(
             step: None,
         };
     }
-    let propositions = byte_of(m);
+    // Above a byte there is no number of propositions.
+    let propositions = u8::try_from(m).unwrap_or(0);
     let mut state = from;
     loop {
         let step = order::next(
@@ -123,7 +104,7 @@ pub fn turn_of(seen: Seen, left: u64) -> Turn
         code: candidate.code,
         left: candidate.left,
         right: candidate.right,
-        size: byte_of(state.size),
+        size: u8::try_from(state.size).unwrap_or(0),
     };
     Turn::Tries {
         state,

@@ -4,8 +4,8 @@
 
 use counting::Counts;
 use formula::kinds::Node;
-use slices::{Resumed, fresh, resume};
-use state::State;
+use slices::{fresh, resume};
+use state::{End, State};
 use std::io;
 use std::io::Write;
 use stored::{say, say_number};
@@ -31,7 +31,7 @@ fn say_root(to: &mut impl Write, root: Node) -> io::Result<()> {
 
 // The end that a state tells.
 fn say_end(to: &mut impl Write, state: State) -> io::Result<()> {
-    say_number(to, b" end ", state.end)?;
+    say_number(to, b" end ", u64::from(state.end))?;
     say_number(to, b" size ", state.size as u64)?;
     say_counts(to, state.counts)?;
     say_root(to, state.root)
@@ -97,11 +97,11 @@ fn in_slices(
             &mut matrices,
         );
         turn += 1;
-        let Resumed::Goes(after) = answer else {
+        let Ok(after) = answer else {
             return say_refused(to);
         };
         state = after;
-        if after.end != 0 {
+        if after.end != End::More {
             return say_ended(to, budget, turn, after);
         }
     }

@@ -1,16 +1,14 @@
--- A state put into lent words: by their number. What is read of a single word; and any two results are equal.
+-- A state put into lent words: by their number; and any two results are equal.
 -- Assumes nothing.
-use mathlib.Core.Path.{◌≡◌, refl, sym, ap, ◌∙◌}
-use mathlib.Core.Bool.{Bool, true, false, cond}
+use mathlib.Core.Path.{◌≡◌, refl, sym, ◌∙◌}
 use mathlib.Core.List.{List}
 use Prim.Native.Nat.{ℕ, ◌≤◌, ◌<◌}
 use native.Mathlib.Decide.{ℕ_discrete}
 use native.Mathlib.Omega.{arith}
-use borrow.Author.Tests.{le-leb, lt-leb, eq-eqb, ne_eqb}
 use lib.ListN.{length}
 use Rattle.rules.proofs.Refusals.{decided-unique, decided-given, decided-not}
 use Rattle.state.specs.declared.State.{State}
-use Rattle.state_words.specs.Words.{state_words, marked, end_read, Narrow}
+use Rattle.state_words.specs.Words.{state_words, Narrow}
 use Rattle.state_words.specs.Written.{state_short, state_over, StateDone}
 
 pub state-short : (s : State) (old : List ℕ) → length old < state_words → StateDone s old 3 old
@@ -18,18 +16,6 @@ state-short s old h = record { number = decided-given (state_short old) h; refus
 
 pub state-long : (s : State) (old new : List ℕ) → state_words ≤ length old → Narrow s.root → new ≡ state_over s old → StateDone s old 0 new
 state-long s old new h n e = record { number = decided-not (state_short old) (λ g. omega arith); refused = λ f. absurd (f refl); passed = λ _. (n, e) }
-
-pub end-in : (w : ℕ) → w ≤ 3 → w ≡ end_read w
-end-in w h = sym (ap (λ (b : Bool). cond b w 0) (le-leb w 3 h))
-
-pub end-out : (w : ℕ) → 3 < w → 0 ≡ end_read w
-end-out w h = sym (ap (λ (b : Bool). cond b w 0) (lt-leb w 3 h))
-
-pub mark-none : (w : ℕ) → w ≡ 0 → false ≡ marked w
-mark-none w e = sym (ap (λ (b : Bool). cond b false true) (eq-eqb w 0 e))
-
-pub mark-some : (w : ℕ) → (w ≡ 0 → ⊥) → true ≡ marked w
-mark-some w f = sym (ap (λ (b : Bool). cond b false true) (ne_eqb w 0 f))
 
 -- number and words
 pub state-done-unique : (s : State) (old : List ℕ) (k l : ℕ) (x y : List ℕ) → StateDone s old k x → StateDone s old l y → (k ≡ l) × (x ≡ y)

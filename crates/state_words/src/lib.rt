@@ -4,7 +4,7 @@
 ghost use Rattle.std.specs.Prelude.{◌≡◌, ◌≤◌, length, get_or};
 ghost use Rattle.out.specs.Out.{written, in_order};
 ghost use Rattle.slices.specs.Slices.{fresh_state};
-ghost use Rattle.state_words.specs.Words.{state_words, mark, first_words, last_words, Narrow, marked, end_read, cursor_read, counts_read, root_read, state_read};
+ghost use Rattle.state_words.specs.Words.{state_words, first_words, last_words, Narrow, end_read, cursor_read, counts_read, root_read, state_read};
 ghost use Rattle.state_words.specs.Written.{StateDone};
 
 use counting::Counts;
@@ -20,13 +20,7 @@ pub const STATE_WORDS: usize = 16;
 fn word(words: &[u64], at: usize) -> u64
     ensures { result ≡ get_or words.now at 0 }
 {
-    if at < words.len() { words[at] } else { 0 }
-}
-
-fn mark_of(word: u64) -> bool
-    ensures { result ≡ marked word }
-{
-    if word == 0 { false } else { true }
+    words.get(at).copied().unwrap_or(0)
 }
 
 // A number that no end has is read as that of a walk that goes on.
@@ -48,7 +42,7 @@ fn cursor_of(words: &[u64]) -> Cursor
     let right = word(words, 4) as usize;
     let operator = word(words, 5) as usize;
     let split = word(words, 6) as usize;
-    let second = mark_of(word(words, 7));
+    let second = word(words, 7) != 0;
     Cursor {
         split,
         left,
@@ -116,13 +110,7 @@ fn put_first(size: usize, counts: Counts, at: Cursor, words: &mut [u64])
     words[4] = at.right as u64;
     words[5] = at.operator as u64;
     words[6] = at.split as u64;
-    words[7] = mark_word(at.second);
-}
-
-fn mark_word(second: bool) -> u64
-    ensures { result ≡ mark second }
-{
-    if second { 1 } else { 0 }
+    words[7] = u64::from(at.second);
 }
 
 // Words 8 to 15. The root's fields fit their kinds.
@@ -130,7 +118,7 @@ fn put_rest(end: End, root: Node, dropped: u64, words: &mut [u64])
     requires { state_words ≤ length words.old }
     ensures { Narrow root × (words.new ≡ written (in_order 8 (last_words end root dropped)) words.old) }
 {
-    words[8] = end.into();
+    words[8] = u64::from(end);
     words[9] = root.code as u64;
     words[10] = root.left.0 as u64;
     words[11] = root.right.0 as u64;

@@ -20,6 +20,8 @@ use Rattle.rows.proofs.Matrices.{length-map}
 use Rattle.table.specs.Slices.{Cols, table_over}
 use Rattle.checks.specs.Promises.{RoomThere}
 use Rattle.state.specs.declared.State.{State}
+use Rattle.state.specs.declared.End.{End}
+use Rattle.state.proofs.Ends.{not_on}
 use Rattle.turns.specs.Costs.{in_all}
 use Rattle.turns.specs.Standing.{counts, starts_in, layer_at, todo, Ongoing, StandsIn}
 use Rattle.turns.specs.Turns.{GoAsks, Gone}
@@ -58,11 +60,11 @@ module _ (i : Input) (t₀ t : Cols) (s j : ℕ) (k : Table) (n : Tally) (w : On
 
 module _ (i : Input) (t : Cols) (ok : Passes i) (budget : ℕ) (state : State) where
   -- the walk goes on where the state says so
-  on : (after : State) {t' : Cols} (t₀ : Cols) → RoomThere i t₀ → (c : Cut (List ℕ)) → state.end ≡ 0 → StandsIn i t₀ c state t → Ran i budget state t t' after
+  on : (after : State) {t' : Cols} (t₀ : Cols) → RoomThere i t₀ → (c : Cut (List ℕ)) → state.end ≡ End.More → StandsIn i t₀ c state t → Ran i budget state t t' after
       → StandsIn i t₀ (go_on i budget c) after t'
-  on after t₀ r (over (found root) k n) e w v = absurd (let z = ap (λ (x : State). x.end) w.is in omega arith)
-  on after t₀ r (over none k n) e w v = absurd (let z = ap (λ (x : State). x.end) w.is in omega arith)
-  on after t₀ r (over (full s) k n) e w v = absurd (let z = ap (λ (x : State). x.end) w.is in omega arith)
+  on after t₀ r (over (found root) k n) e w v = absurd (not_on refl (sym (ap (λ (x : State). x.end) w.is) ∙ e))
+  on after t₀ r (over none k n) e w v = absurd (not_on refl (sym (ap (λ (x : State). x.end) w.is) ∙ e))
+  on after t₀ r (over (full s) k n) e w v = absurd (not_on refl (sym (ap (λ (x : State). x.end) w.is) ∙ e))
   on after {t'} t₀ r (more s j k n) e w v =
       let q = w.sound in
       let g = subst (λ (x : State). Ran i budget x t t' after) w.is v in
@@ -70,7 +72,7 @@ module _ (i : Input) (t : Cols) (ok : Passes i) (budget : ℕ) (state : State) w
       (g.runs refl t₀ k j ok r (ongoing-point i t₀ t s j k n q ok w.holds))
 
 pub gone : {i : Input} {budget : ℕ} {from : State} {t t' : Cols} {state : State} → GoAsks i from → Ran i budget from t t' state
-    → ((from.end ≡ 0 → ⊥) → (state ≡ from) × (t' ≡ t)) → Gone i budget from t t' state
+    → ((from.end ≡ End.More → ⊥) → (state ≡ from) × (t' ≡ t)) → Gone i budget from t t' state
 gone {i} {budget} {from} {t} {t'} {state} a v e = record {
   goes = λ _. record {
     state-in = v.state-in;

@@ -7,13 +7,15 @@ use native.Mathlib.Omega.{arith}
 use native.Mathlib.Decide.{dec_le}
 use lib.ListN.{length, take, drop, length-append, length-drop, get_or-append}
 use lib.Seq.{get_or-append_seam}
-use Rattle.rules.specs.declared.kinds.Place.{Place}
 use Rattle.walk.specs.Walk.{Candidate, going, kept, layer}
 use Rattle.walk.specs.Input.{Input, Passes, offer}
 use Rattle.walk.specs.Kept.{Table}
 use Rattle.walk.proofs.Places.{Split, split-push}
 use Rattle.split.specs.declared.Cursor.{Cursor}
-use Rattle.split.specs.declared.Step.TheVariants.{Candidate as Told, End}
+use Rattle.split.specs.declared.Candidate as step
+use Rattle.std.specs.Prelude.{None, Some}
+use Rattle.state.specs.declared.End.{End}
+use Rattle.state.proofs.Ends.{not_on}
 use Rattle.split.specs.Split.{Cand, cand}
 use Rattle.order.specs.Size.{first_place}
 use Rattle.order.specs.Ahead.{ahead, candidate_at, rest, first, cursor_after}
@@ -58,11 +60,11 @@ pub record PointAt (i : Input) (t₀ t : Cols) (starts : List ℕ) (s : ℕ) (at
 -- ---- what a candidate leaves, where the walk goes on: the table as it was, or with this formula
 
 -- the counts are the walk's, where they don't reach the largest number
-pub comes-going : (v : Fate) → end_after v ≡ 0 → (x : Candidate (List ℕ)) (k : Table) (n : Counts) → n.kept ≡ length k → n.tried + 1 < 2 ^ 64 → n.kept ≤ n.tried
+pub comes-going : (v : Fate) → end_after v ≡ End.More → (x : Candidate (List ℕ)) (k : Table) (n : Counts) → n.kept ≡ length k → n.tried + 1 < 2 ^ 64 → n.kept ≤ n.tried
     → n.dropped ≤ n.tried → comes v x k (tally_of n) ≡ going (kept (comes v x k (tally_of n))) (tally_of (counted_by v n))
-comes-going Found e x k n c f l d = absurd (omega (arith, e))
+comes-going Found e x k n c f l d = absurd (not_on refl e)
 comes-going Dropped e x k n c f l d = ap (going k) (sym (counts-are-walks Dropped n x k c f l d).0)
-comes-going Full e x k n c f l d = absurd (omega (arith, e))
+comes-going Full e x k n c f l d = absurd (not_on refl e)
 comes-going Kept e x k n c f l d = ap (going (k ++ (x ∷ []))) (sym (counts-are-walks Kept n x k c f l d).0)
 
 module _ {i : Input} {t₀ t t' : Cols} {k : Table} {starts : List ℕ} {s kept₀ : ℕ} (w : Standing i t₀ t k starts s kept₀) (x : Candidate (List ℕ))
@@ -97,11 +99,11 @@ module _ {i : Input} {t₀ t t' : Cols} {k : Table} {starts : List ℕ} {s kept�
       begins = λ u l. split-push no_candidate k u (first_place starts u) x (w.begins u l) (omega (arith, size));
     }
 
-  pub standing-after : (v : Fate) → end_after v ≡ 0 → (n : Counts) → n.kept ≡ kept₀ → n.kept + 1 < 2 ^ 64 → HoldsKept i (kept (comes v x k (tally_of n))) t₀ t'
+  pub standing-after : (v : Fate) → end_after v ≡ End.More → (n : Counts) → n.kept ≡ kept₀ → n.kept + 1 < 2 ^ 64 → HoldsKept i (kept (comes v x k (tally_of n))) t₀ t'
       → Standing i t₀ t' (kept (comes v x k (tally_of n))) starts s (counted_by v n).kept
-  standing-after Found e n c f h = absurd (omega (arith, e))
+  standing-after Found e n c f h = absurd (not_on refl e)
   standing-after Dropped e n c f h = record { counted = c ∙ w.counted; holds = h; rising = w.rising; small = w.small; begins = w.begins }
-  standing-after Full e n c f h = absurd (omega (arith, e))
+  standing-after Full e n c f h = absurd (not_on refl e)
   standing-after Kept e n c f h = standing-more h (omega (arith, c, w.counted, length-append k (x ∷ [])))
 
 -- ---- the candidates that are left, as the walk has them
@@ -125,39 +127,39 @@ module _ {i : Input} (ok : Passes i) {t₀ t : Cols} {k : Table} {starts : List 
       ∙ ap (map (make i k s)) (drop-map (candidate_at g) (ahead g (first starts s)) j ∙ ap (map (candidate_at g)) (sym w.left))
 
   -- none is left
-  pub none_left : Steps (layer_at i s starts) at End → length (layer (offer i) s k) ≤ j
+  pub none_left : Steps (layer_at i s starts) at None → length (layer (offer i) s k) ≤ j
   none_left step = omega (arith, ap length (layer-left ∙ ap (map (make i k s)) (end-left step)), length-drop j (layer (offer i) s k))
 
   -- ---- or the one that a step tells
 
-  module _ (rises : Rises (layer_at i s starts)) {next : Cursor} {code : ℕ} {a b : Place} (step : Steps (layer_at i s starts) at (Told code a b next)) where
+  module _ (rises : Rises (layer_at i s starts)) {c : step.Candidate} (step : Steps (layer_at i s starts) at (Some c)) where
     abbrev told : Cand
-    told = cand code a.0 b.0
+    told = cand c.code c.left.0 c.right.0
 
-    first-left : drop j (layer (offer i) s k) ≡ make i k s told ∷ map (make i k s) (rest (layer_at i s starts) next)
+    first-left : drop j (layer (offer i) s k) ≡ make i k s told ∷ map (make i k s) (rest (layer_at i s starts) c.next)
     first-left = layer-left ∙ ap (map (make i k s)) (step_left step)
 
     pub some_left : j < length (layer (offer i) s k)
     some_left = omega (arith, ap length first-left, length-drop j (layer (offer i) s k))
 
-    pub next-is : take 1 (drop j (layer (offer i) s k)) ≡ make i k s (cand code a.0 b.0) ∷ []
+    pub next-is : take 1 (drop j (layer (offer i) s k)) ≡ make i k s (cand c.code c.left.0 c.right.0) ∷ []
     next-is = ap (take 1) first-left
 
-    makes : Makes i.recording.propositions (length k) code a.0 b.0
+    makes : Makes i.recording.propositions (length k) c.code c.left.0 c.right.0
     makes = safe-makes i ok s starts (length k) told (w.stands.begins s (omega arith)).inside (step-safe step rises)
 
-    pub posed : Posed i k (record { code = code; left = a; right = b; size = s }) (make i k s (cand code a.0 b.0))
+    pub posed : Posed i k (record { code = c.code; left = c.left; right = c.right; size = s }) (make i k s (cand c.code c.left.0 c.right.0))
     posed = record { node-is = refl; makes = makes; matrix-is = made-written i k makes }
 
-    module _ {t' : Cols} (v : Fate) (goes : end_after v ≡ 0) (kept-fits : n.kept + 1 < 2 ^ 64)
-        (y : Does i (record { code = code; left = a; right = b; size = s }) t₀ t' k (make i k s (cand code a.0 b.0)) v) where
-      shorter : length (rest (layer_at i s starts) at) ≡ 1 + length (rest (layer_at i s starts) next)
+    module _ {t' : Cols} (v : Fate) (goes : end_after v ≡ End.More) (kept-fits : n.kept + 1 < 2 ^ 64)
+        (y : Does i (record { code = c.code; left = c.left; right = c.right; size = s }) t₀ t' k (make i k s (cand c.code c.left.0 c.right.0)) v) where
+      shorter : length (rest (layer_at i s starts) at) ≡ 1 + length (rest (layer_at i s starts) c.next)
       shorter = ap length (step_left step) ∙ omega arith
 
-      fewer : (u : Fate) → end_after u ≡ 0 → (counted_by u n).dropped ≤ (counted_by u n).tried
-      fewer Found e = absurd (omega (arith, e))
+      fewer : (u : Fate) → end_after u ≡ End.More → (counted_by u n).dropped ≤ (counted_by u n).tried
+      fewer Found e = absurd (not_on refl e)
       fewer Dropped e = omega (arith, w.dropped)
-      fewer Full e = absurd (omega (arith, e))
+      fewer Full e = absurd (not_on refl e)
       fewer Kept e = omega (arith, w.dropped, w.tried, shorter)
 
       more-tried : (u : Fate) → (counted_by u n).tried ≤ n.tried + 1
@@ -166,7 +168,7 @@ module _ {i : Input} (ok : Passes i) {t₀ t : Cols} {k : Table} {starts : List 
       more-tried Full = omega arith
       more-tried Kept = omega arith
 
-      pub turn-stands : PointAt i t₀ t' starts s next (counted_by v n) (kept (comes v (make i k s (cand code a.0 b.0)) k (tally_of n))) (suc j)
+      pub turn-stands : PointAt i t₀ t' starts s c.next (counted_by v n) (kept (comes v (make i k s (cand c.code c.left.0 c.right.0)) k (tally_of n))) (suc j)
       turn-stands =
           let z = after-step (layer_at i s starts) at j step w.left in
           record {

@@ -10,7 +10,6 @@ use native.Mathlib.Decide.{dec_le}
 use lib.ListN.{length, take, drop, replicate, length-replicate, get_or-eq_default}
 use lib.Seq.{take_at, take_all}
 use Rattle.rules.specs.Limits.{most_sessions, most_size, most_room}
-use Rattle.rules.specs.declared.kinds.Place.{Place}
 use Rattle.formula.specs.declared.kinds.Node.{Node}
 use Rattle.formula.specs.Kinds.{node_of, no_node}
 use Rattle.formula.specs.Nodes as nodes
@@ -20,8 +19,9 @@ use Rattle.walk.specs.Cut.{Cut}
 use Rattle.walk.specs.Kept.{Table, go_on}
 use Rattle.walk.proofs.Places.{Split}
 use Rattle.split.specs.declared.Cursor.{Cursor}
-use Rattle.split.specs.declared.Step.{Step}
-use Rattle.split.specs.declared.Step.TheVariants.{Candidate as Told, End}
+use Rattle.split.specs.declared.Candidate as step
+use Rattle.std.specs.Prelude.{None, Some}
+use Rattle.state.specs.declared.End.{End}
 use Rattle.split.specs.Split.{cand}
 use Rattle.order.specs.Size.{first_place}
 use Rattle.order.specs.Ahead.{ahead, rest, first, cursor_after}
@@ -133,7 +133,7 @@ pub record Ran (i : Input) (budget : ℕ) (from : value.State) (t t' : Cols) (st
   pub state-in : StateIn i state
   pub spends : state.counts.tried ≤ from.counts.tried + budget
   pub keeps : state.counts.kept ≤ from.counts.kept + budget
-  pub runs : from.end ≡ 0 → (t₀ : Cols) (k : Table) (j : ℕ) → Passes i → RoomThere i t₀ → PointAt i t₀ t (starts_of t.sizes from.counts.kept) from.size from.at from.counts k j
+  pub runs : from.end ≡ End.More → (t₀ : Cols) (k : Table) (j : ℕ) → Passes i → RoomThere i t₀ → PointAt i t₀ t (starts_of t.sizes from.counts.kept) from.size from.at from.counts k j
       → StandsIn i t₀ (go_on i budget (settled_cut i from.size j (going k (tally_of from.counts)))) state t'
 
 -- a size has few candidates
@@ -184,14 +184,14 @@ module _ (i : Input) (t₀ : Cols) {t' : Cols} (target : Cut (List ℕ)) (s j a 
 
   -- at a candidate of the size over the table k
   module _ (k : Table) (n : Counts) (c : n.kept ≡ length k) (f : n.tried + 1 < 2 ^ 64) (node : Node) (x : Candidate (List ℕ)) (e : x.node ≡ node_of node) (z : node.size ≡ s) where
-    stands-over : (v : Fate) → (end_after v ≡ 0 → ⊥) → Does i node t₀ t' k x v → (st : WalkState (List ℕ)) → st ≡ comes v x k (tally_of n)
+    stands-over : (v : Fate) → (end_after v ≡ End.More → ⊥) → Does i node t₀ t' k x v → (st : WalkState (List ℕ)) → st ≡ comes v x k (tally_of n)
         → target ≡ go_on i a (settled_cut i s j st) → StandsIn i t₀ target (over_state s n v node) t'
     stands-over Found g w st is t =
         subst (λ (y : Cut (List ℕ)). StandsIn i t₀ y (over_state s n Found node) t')
         (sym (t ∙ ap (λ (y : WalkState (List ℕ)). go_on i a (settled_cut i s j y)) (is ∙ ap (λ (y : nodes.Node). ended (found y) k (one_tried (tally_of n))) e)
         ∙ ap (go_on i a) (settled-over i s j (found (node_of node)) k (one_tried (tally_of n))) ∙ turn-over i a (found (node_of node)) k (one_tried (tally_of n))))
         (record {
-          is = ap₂ (λ (y : ℕ) (m : Counts). end_state y m 1 node) (sym z) (one-counted k n (counted_by Found n) c f refl refl refl);
+          is = ap₂ (λ (y : ℕ) (m : Counts). end_state y m End.Found node) (sym z) (one-counted k n (counted_by Found n) c f refl refl refl);
           holds = (w.holds (tally_of n)).are;
           sound = tt;
         })
@@ -201,7 +201,7 @@ module _ (i : Input) (t₀ : Cols) {t' : Cols} (target : Cut (List ℕ)) (s j a 
         (sym (t ∙ ap (λ (y : WalkState (List ℕ)). go_on i a (settled_cut i s j y)) (is ∙ ap (λ (y : nodes.Node). ended (full y.size) k (one_tried (tally_of n))) e)
         ∙ ap (go_on i a) (settled-over i s j (full node.size) k (one_tried (tally_of n))) ∙ turn-over i a (full node.size) k (one_tried (tally_of n))))
         (record {
-          is = ap₂ (λ (y : ℕ) (m : Counts). end_state y m 3 no_node) (sym z) (one-counted k n (counted_by Full n) c f refl refl refl);
+          is = ap₂ (λ (y : ℕ) (m : Counts). end_state y m End.Full no_node) (sym z) (one-counted k n (counted_by Full n) c f refl refl refl);
           holds = (w.holds (tally_of n)).are;
           sound = tt;
         })
@@ -251,7 +251,7 @@ module _ {r m bound room constants : ℕ} {marks lengths words unary binary : Li
 
   -- ---- the end of a size
 
-  module _ (step : Steps (layer_at i s starts) at End) where
+  module _ (step : Steps (layer_at i s starts) at None) where
     -- of the last one
     pub stops-none : bound ≤ s → Ran i budget from t t' (none_state s n)
     stops-none h = record {
@@ -335,8 +335,8 @@ module _ {r m bound room constants : ℕ} {marks lengths words unary binary : Li
 
   -- ---- a candidate
 
-  module _ {next : Cursor} {code : ℕ} {l q : Place} (step : Steps (layer_at i s starts) at (Told code l q next)) where
-    shorter : length (rest (layer_at i s starts) at) ≡ 1 + length (rest (layer_at i s starts) next)
+  module _ {c : step.Candidate} (step : Steps (layer_at i s starts) at (Some c)) where
+    shorter : length (rest (layer_at i s starts) at) ≡ 1 + length (rest (layer_at i s starts) c.next)
     shorter = ap length (step_left step) ∙ omega arith
 
     -- the budget is spent
@@ -357,9 +357,9 @@ module _ {r m bound room constants : ℕ} {marks lengths words unary binary : Li
           let p = z.point in
           let k' = z.table in
           let agree = starts-in p.stands (omega (arith, v.high, a.bound-in)) in
-          let c = cursor-same s m constants unary binary starts (starts_in k') v.low reached
+          let same = cursor-same s m constants unary binary starts (starts_in k') v.low reached
           (omega (arith, starts-long (map (λ c. c.node.size) k') (length k'), v.high, a.bound-in)) agree z.position in
-          let y : at ≡ cursor_after (layer_at i s (starts_in k')) z.position = p.cursor ∙ c in
+          let y : at ≡ cursor_after (layer_at i s (starts_in k')) z.position = p.cursor ∙ same in
           let d = left-same s m constants unary binary starts (starts_in k') v.low reached
           (omega (arith, starts-long (map (λ c. c.node.size) k') (length k'), v.high, a.bound-in)) agree at z.position p.left in
           let o = rest-same s m constants unary binary starts (starts_in k') v.low reached
@@ -386,24 +386,24 @@ module _ {r m bound room constants : ℕ} {marks lengths words unary binary : Li
 
     -- it is tried
     abbrev node : Node
-    node = record { code = code; left = l; right = q; size = s }
+    node = record { code = c.code; left = c.left; right = c.right; size = s }
 
     module _ (some : 1 ≤ left) where
       tries : (j : ℕ) (k : Table) → (ok : Passes i) → {t₀ : Cols} → PointAt i t₀ t' starts s at n k j
           → go_on i left (settled_cut i s j (going k (tally_of n)))
-          ≡ go_on i (left - 1) (settled_cut i s (suc j) (consider (offer i) i.room (going k (tally_of n)) (make i k s (cand code l.0 q.0))))
+          ≡ go_on i (left - 1) (settled_cut i s (suc j) (consider (offer i) i.room (going k (tally_of n)) (make i k s (cand c.code c.left.0 c.right.0))))
       tries j k ok p =
           ap (go_on i left) (settled-more i s j k (tally_of n) v.high (some_left ok p v.low reached v.begun.rises step))
           ∙ turn_one i left (left - 1) _ (omega arith)
-          ∙ ap (go_on i (left - 1)) (one-step i s j k (tally_of n) (make i k s (cand code l.0 q.0)) (next-is ok p v.low reached v.begun.rises step))
+          ∙ ap (go_on i (left - 1)) (one-step i s j k (tally_of n) (make i k s (cand c.code c.left.0 c.right.0)) (next-is ok p v.low reached v.begun.rises step))
 
       module _ {masks rows rows' : List ℕ} {u : Cols} (ms : Passes i → Masks i masks) (long : most_sessions ≤ length rows) {d : Fate}
           (judged : Judged r m room marks words masks node n.kept rows rows' t' u d) where
         more-counted : Grown i n (counted_by d n)
         more-counted = grown a.room_in r marks node rows' n t' u d v.kept_in v.kept-tried judged.tests
 
-        does : {t₀ : Cols} (k : Table) (j : ℕ) → Passes i → RoomThere i t₀ → PointAt i t₀ t' starts s at n k j → Does i node t₀ u k (make i k s (cand code l.0 q.0)) d
-        does k j ok there p = judge-walks r m room marks words masks node n.kept rows rows' t' u d judged bound constants lengths unary binary _ k (make i k s (cand code l.0 q.0))
+        does : {t₀ : Cols} (k : Table) (j : ℕ) → Passes i → RoomThere i t₀ → PointAt i t₀ t' starts s at n k j → Does i node t₀ u k (make i k s (cand c.code c.left.0 c.right.0)) d
+        does k j ok there p = judge-walks r m room marks words masks node n.kept rows rows' t' u d judged bound constants lengths unary binary _ k (make i k s (cand c.code c.left.0 c.right.0))
             (record {
               passes = ok;
               few = v.kept_in;
@@ -419,7 +419,7 @@ module _ {r m bound room constants : ℕ} {marks lengths words unary binary : Li
         fits p = omega (arith, p.tried, shorter)
 
         -- the walk goes on
-        pub turn-goes-on : SameLengths t u → end_after d ≡ 0 → Loop i budget from t u starts s next (counted_by d n) (left - 1)
+        pub turn-goes-on : SameLengths t u → end_after d ≡ End.More → Loop i budget from t u starts s c.next (counted_by d n) (left - 1)
         turn-goes-on same e =
             let w = step-within step v.begun.rises in
             let g = more-counted in
@@ -438,7 +438,7 @@ module _ {r m bound room constants : ℕ} {marks lengths words unary binary : Li
               begun = v.begun;
               runs = λ t₀ k j ok there y.
                   let z = v.runs t₀ k j ok there y in
-                  let x = make i z.table s (cand code l.0 q.0) in
+                  let x = make i z.table s (cand c.code c.left.0 c.right.0) in
                   let b = does z.table z.position ok there z.point in
                   record {
                     table = kept (comes d x z.table (tally_of n));
@@ -451,7 +451,7 @@ module _ {r m bound room constants : ℕ} {marks lengths words unary binary : Li
             }
 
         -- or has ended
-        pub stops : (end_after d ≡ 0 → ⊥) → Ran i budget from t u (over_state s n d node)
+        pub stops : (end_after d ≡ End.More → ⊥) → Ran i budget from t u (over_state s n d node)
         stops e =
             let g = more-counted in
             record {
@@ -467,7 +467,7 @@ module _ {r m bound room constants : ℕ} {marks lengths words unary binary : Li
               keeps = omega (arith, v.gained, g.kept-one, v.left_in);
               runs = λ _ t₀ k j ok there y.
                   let z = v.runs t₀ k j ok there y in
-                  let x = make i z.table s (cand code l.0 q.0) in
+                  let x = make i z.table s (cand c.code c.left.0 c.right.0) in
                   let b = does z.table z.position ok there z.point in
                   stands-over i t₀ _ s (suc z.position) (left - 1) z.table n z.point.stands.counted (fits z.point) node x refl refl d e b _ (b.is (tally_of n))
                   (z.is ∙ tries z.position z.table ok z.point);

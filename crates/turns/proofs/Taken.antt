@@ -2,7 +2,6 @@
 -- next turn begins.
 -- Assumes no_candidate.
 use mathlib.Core.Path.{◌≡◌, refl, sym, ap, ◌∙◌, subst}
-use mathlib.Core.Bool.{true, false, true≢false}
 use mathlib.Core.List.{List}
 use Prim.Native.Nat.{ℕ, ◌+◌, ◌-◌, ◌≤◌}
 use native.Mathlib.Omega.{arith}
@@ -11,8 +10,9 @@ use lib.ListN.{length}
 use Rattle.rules.specs.Limits.{most_sessions}
 use Rattle.formula.specs.declared.kinds.Node.{Node}
 use Rattle.walk.specs.Input.{Input, Passes, input_of}
-use Rattle.split.specs.declared.Step.{Step}
-use Rattle.split.specs.declared.Step.TheVariants.{Candidate as Told, End}
+use Rattle.split.specs.declared.Candidate.{Candidate}
+use Rattle.split.specs.declared.Cursor.{Cursor}
+use Rattle.std.specs.Prelude.{Option, None, Some}
 use Rattle.order.specs.Ahead.{first}
 use Rattle.order.specs.Steps.{Steps}
 use Rattle.rows.specs.Formulas.{Masks}
@@ -20,11 +20,14 @@ use Rattle.table.specs.Slices.{Cols}
 use Rattle.counting.specs.declared.Fate.{Fate}
 use Rattle.candidate.specs.Judge.{Judged}
 use Rattle.state.specs.declared.State.{State}
+use Rattle.state.specs.declared.End.{End}
+use Rattle.state.proofs.Ends.{dec_more}
 use Rattle.onward.specs.declared.Seen.{Seen}
 use Rattle.onward.specs.declared.Turn.{Turn}
+use Rattle.onward.specs.declared.Turn.TheVariants.{Rests, Tries}
 use Rattle.turns.specs.Standing.{layer_at}
 use Rattle.turns.specs.Turns.{GoAsks}
-use Rattle.onward.specs.Onward.{end_after, after_state, up_to, starts_at, Over, Seeks, rest_turn, turn_of}
+use Rattle.onward.specs.Onward.{end_after, after_state, up_to, starts_at, Over, Seeks, turn_of}
 use Rattle.onward.proofs.Fates.{after_more, after-over}
 use Rattle.onward.proofs.Seeking.{up_to_fits, starts_fit}
 use Rattle.onward.proofs.Turning.{turn-stays, turn-none, turn-spent, turn-tries}
@@ -35,17 +38,22 @@ pub record Turning (i : Input) (budget : ℕ) (from : State) (t t' : Cols) (star
   pub asks : GoAsks i from
   pub long : SameLengths t t'
   pub size_in : state.size ≤ i.bound
-  pub going : state.end ≡ 0 → Loop i budget from t t' starts state.size state.at state.counts left
-  pub ended : (state.end ≡ 0 → ⊥) → Ran i budget from t t' state
-  pub fresh : (from.end ≡ 0 → ⊥) → (state ≡ from) × (t' ≡ t)
+  pub going : state.end ≡ End.More → Loop i budget from t t' starts state.size state.at state.counts left
+  pub ended : (state.end ≡ End.More → ⊥) → Ran i budget from t t' state
+  pub fresh : (from.end ≡ End.More → ⊥) → (state ≡ from) × (t' ≡ t)
 
 -- a candidate is tried
-pub record Tries (i : Input) (budget : ℕ) (from : State) (t t' : Cols) (starts : List ℕ) (turn : Turn) (left : ℕ) : Type 0 where
-  pub loop : Loop i budget from t t' starts turn.state.size turn.state.at turn.state.counts left
+pub record Tried (i : Input) (budget : ℕ) (from : State) (t t' : Cols) (starts : List ℕ) (before : State) (node : Node) (next : Cursor) (left : ℕ) : Type 0 where
+  pub loop : Loop i budget from t t' starts before.size before.at before.counts left
   pub some : 1 ≤ left
-  pub begun : from.end ≡ 0
-  pub step : Steps (layer_at i turn.state.size starts) turn.state.at (Told turn.node.code turn.node.left turn.node.right turn.next)
-  pub sized : turn.node.size ≡ turn.state.size
+  pub begun : from.end ≡ End.More
+  pub step : Steps (layer_at i before.size starts) before.at (Some (record { code = node.code; left = node.left; right = node.right; next = next }))
+  pub sized : node.size ≡ before.size
+
+-- what a turn comes to: a state that is answered, which is the one at the start where the walk had ended, or a candidate that is tried
+abbrev pub Turned : (i : Input) (budget : ℕ) (from : State) (t t' : Cols) (starts : List ℕ) (left : ℕ) → Turn → Type 0
+Turned i budget from t t' starts left (Rests state) = Ran i budget from t t' state × ((from.end ≡ End.More → ⊥) → (state ≡ from) × (t' ≡ t))
+Turned i budget from t t' starts left (Tries before node next) = Tried i budget from t t' starts before node next left
 
 pub turning-start : {i : Input} {budget : ℕ} {from : State} {t : Cols} {starts : List ℕ} → GoAsks i from → starts ≡ starts_at t.sizes from.counts.kept
     → Turning i budget from t t starts from budget
@@ -75,71 +83,53 @@ module _ (r m bound room constants : ℕ) (marks lengths words unary binary : Li
   -- ---- the state that is answered, or the candidate that is tried
 
   module _ {budget : ℕ} {from : State} {t t' : Cols} {starts starts' : List ℕ} {state : State} {left : ℕ} (v : Turning i budget from t t' starts state left) {seen : Seen}
-      (told : Seeks (up_to 255 m) bound constants t'.sizes unary binary state starts starts' seen) {turn : Turn} (is : turn ≡ turn_of seen left) where
+      (told : Seeks (up_to 255 m) bound constants t'.sizes unary binary state starts starts' seen) where
     w : Seeks m bound constants t'.sizes unary binary state starts starts' seen
     w = subst (λ (x : ℕ). Seeks x bound constants t'.sizes unary binary state starts starts' seen) (up_to_fits 255 m (omega (arith, v.asks.propositions-in))) told
 
-    loop-at : state.end ≡ 0 → Loop i budget from t t' starts' seen.state.size seen.state.at seen.state.counts left
+    loop-at : state.end ≡ End.More → Loop i budget from t t' starts' seen.state.size seen.state.at seen.state.counts left
     loop-at z = over-loop state (v.going z) (w.goes z)
 
-    step-at : state.end ≡ 0 → (step : Step) → seen.step ≡ step → Steps (layer_at i seen.state.size starts') seen.state.at step
-    step-at z step e = subst (λ (x : Step). Steps (layer_at i seen.state.size starts') seen.state.at x) e (w.step_is z)
+    step-at : state.end ≡ End.More → (step : Option Candidate) → seen.step ≡ step → Steps (layer_at i seen.state.size starts') seen.state.at step
+    step-at z step e = subst (λ (x : Option Candidate). Steps (layer_at i seen.state.size starts') seen.state.at x) e (w.step_is z)
 
-    stays : (state.end ≡ 0 → ⊥) → turn ≡ rest_turn state
-    stays h = let e = ap (λ (x : Seen). x.state) (w.stays h).0 in is ∙ turn-stays seen left (λ z. h (ap (λ (x : State). x.end) (sym e) ∙ z)) ∙ ap rest_turn e
+    stays : (state.end ≡ End.More → ⊥) → turn_of seen left ≡ Rests state
+    stays h = let e = ap (λ (x : Seen). x.state) (w.stays h).0 in turn-stays seen left (λ z. h (ap (λ (x : State). x.end) (sym e) ∙ z)) ∙ ap Rests e
 
-    -- a walk that has ended stays
-    pub turn-fresh : (from.end ≡ 0 → ⊥) → (turn.state ≡ from) × (t' ≡ t)
-    turn-fresh h =
-        let (e, f) = v.fresh h in
-        (ap (λ (x : Turn). x.state) (stays (λ z. h (ap (λ (x : State). x.end) (sym e) ∙ z))) ∙ e, f)
-
-    rests-by : (step : Step) → seen.step ≡ step → state.end ≡ 0 → turn.rests ≡ true → Ran i budget from t t' turn.state
-    rests-by End e z g = subst (λ (x : Turn). Ran i budget from t t' x.state) (sym (is ∙ turn-none seen left (w.more z) e))
-        (stops-none (loop-at z) (step-at z End e) (w.last z e))
-    rests-by (Told code l q next) e z g = elim (dec_le left 0) [
-      | yes y ↦ subst (λ (x : Turn). Ran i budget from t t' x.state) (sym (is ∙ turn-spent seen left (w.more z) e (omega arith)))
-          (stops-more (loop-at z) (step-at z (Told code l q next) e) (omega arith))
-      | no y ↦ absurd (true≢false (sym g ∙ ap (λ (x : Turn). x.rests) (is ∙ turn-tries seen left (w.more z) e (λ x. y (omega arith)))))
+    begun-at : state.end ≡ End.More → from.end ≡ End.More
+    begun-at z = elim (dec_more from.end) [
+      | yes h ↦ h
+      | no h ↦ ap (λ (x : State). x.end) (sym (v.fresh h).0) ∙ z
     ]
 
-    pub turn-rests : turn.rests ≡ true → Ran i budget from t t' turn.state
-    turn-rests g = elim (dec_le state.end 0) [
-      | yes h ↦ rests-by seen.step refl (omega arith) g
-      | no h ↦ let o : state.end ≡ 0 → ⊥ = λ z. h (omega arith) in subst (λ (x : Turn). Ran i budget from t t' x.state) (sym (stays o)) (v.ended o)
-    ]
-
-    begun-at : state.end ≡ 0 → from.end ≡ 0
-    begun-at z = elim (dec_le from.end 0) [
-      | yes h ↦ omega arith
-      | no h ↦ ap (λ (x : State). x.end) (sym (v.fresh (λ y. h (omega arith))).0) ∙ z
-    ]
-
-    tries-by : (step : Step) → seen.step ≡ step → state.end ≡ 0 → turn.rests ≡ false → Tries i budget from t t' starts' turn left
-    tries-by End e z g = absurd (true≢false (sym (ap (λ (x : Turn). x.rests) (is ∙ turn-none seen left (w.more z) e)) ∙ g))
-    tries-by (Told code l q next) e z g = elim (dec_le left 0) [
-      | yes y ↦ absurd (true≢false (sym (ap (λ (x : Turn). x.rests) (is ∙ turn-spent seen left (w.more z) e (omega arith))) ∙ g))
-      | no y ↦ subst (λ (x : Turn). Tries i budget from t t' starts' x left) (sym (is ∙ turn-tries seen left (w.more z) e (λ x. y (omega arith))))
+    turned-by : (step : Option Candidate) → seen.step ≡ step → state.end ≡ End.More → Turned i budget from t t' starts' left (turn_of seen left)
+    turned-by None e z = subst (Turned i budget from t t' starts' left) (sym (turn-none seen left (w.more z) e))
+        (stops-none (loop-at z) (step-at z None e) (w.last z e), λ h. absurd (h (begun-at z)))
+    turned-by (Some c) e z = elim (dec_le left 0) [
+      | yes y ↦ subst (Turned i budget from t t' starts' left) (sym (turn-spent seen left (w.more z) e (omega arith)))
+          (stops-more (loop-at z) (step-at z (Some c) e) (omega arith), λ h. absurd (h (begun-at z)))
+      | no y ↦ subst (Turned i budget from t t' starts' left) (sym (turn-tries seen left (w.more z) e (λ x. y (omega arith))))
           (record {
             loop = loop-at z;
             some = omega arith;
             begun = begun-at z;
-            step = step-at z (Told code l q next) e;
+            step = step-at z (Some c) e;
             sized = up_to_fits 255 _ (omega (arith, w.size_in v.size_in, v.asks.bound-in));
           })
     ]
 
-    pub turn-tried : turn.rests ≡ false → Tries i budget from t t' starts' turn left
-    turn-tried g = elim (dec_le state.end 0) [
-      | yes h ↦ tries-by seen.step refl (omega arith) g
-      | no h ↦ absurd (true≢false (sym (ap (λ (x : Turn). x.rests) (stays (λ z. h (omega arith)))) ∙ g))
-    ]
+    pub turned : {turn : Turn} → turn ≡ turn_of seen left → Turned i budget from t t' starts' left turn
+    turned is = subst (Turned i budget from t t' starts' left) (sym is) (elim (dec_more state.end) [
+      | yes z ↦ turned-by seen.step refl z
+      | no h ↦ subst (Turned i budget from t t' starts' left) (sym (stays h)) (v.ended h, v.fresh)
+    ])
 
   -- ---- after the candidate
 
-  module _ {budget : ℕ} {from : State} {t t' : Cols} {starts : List ℕ} {turn : Turn} {left : ℕ} (v : Tries i budget from t t' starts turn left) {masks rows rows' : List ℕ} {u : Cols}
+  module _ {budget : ℕ} {from : State} {t t' : Cols} {starts : List ℕ}
+      {before : State} {given : Node} {next : Cursor} {left : ℕ} (v : Tried i budget from t t' starts before given next left) {masks rows rows' : List ℕ} {u : Cols}
       (ms : Passes i → Masks i masks) (long : most_sessions ≤ length rows) {d : Fate}
-      (judged : Judged r m room marks words masks turn.node turn.state.counts.kept rows rows' t' u d) (kept-long : SameLengths t' u) where
+      (judged : Judged r m room marks words masks given before.counts.kept rows rows' t' u d) (kept-long : SameLengths t' u) where
     same : SameLengths t u
     same =
         let l = v.loop.long in
@@ -152,21 +142,21 @@ module _ (r m bound room constants : ℕ) (marks lengths words unary binary : Li
         }
 
     abbrev node : Node
-    node = record { code = turn.node.code; left = turn.node.left; right = turn.node.right; size = turn.state.size }
+    node = record { code = given.code; left = given.left; right = given.right; size = before.size }
 
-    node-is : turn.node ≡ node
-    node-is = ap (λ (x : ℕ). record { code = turn.node.code; left = turn.node.left; right = turn.node.right; size = x }) v.sized
+    node-is : given ≡ node
+    node-is = ap (λ (x : ℕ). record { code = given.code; left = given.left; right = given.right; size = x }) v.sized
 
-    sized : Judged r m room marks words masks node turn.state.counts.kept rows rows' t' u d
-    sized = subst (λ (x : Node). Judged r m room marks words masks x turn.state.counts.kept rows rows' t' u d) node-is judged
+    sized : Judged r m room marks words masks node before.counts.kept rows rows' t' u d
+    sized = subst (λ (x : Node). Judged r m room marks words masks x before.counts.kept rows rows' t' u d) node-is judged
 
     abbrev after : State
-    after = after_state turn.state.size turn.state.counts turn.next d node
+    after = after_state before.size before.counts next d node
 
-    goes_on : end_after d ≡ 0 → Turning i budget from t u starts after (left - 1)
+    goes_on : end_after d ≡ End.More → Turning i budget from t u starts after (left - 1)
     goes_on e =
         let l = turn-goes-on v.loop v.step v.some ms long sized same e in
-        subst (λ (x : State). Turning i budget from t u starts x (left - 1)) (sym (after_more turn.state.size turn.state.counts turn.next node d e))
+        subst (λ (x : State). Turning i budget from t u starts x (left - 1)) (sym (after_more before.size before.counts next node d e))
         (record {
           asks = l.asks;
           long = same;
@@ -176,11 +166,11 @@ module _ (r m bound room constants : ℕ) (marks lengths words unary binary : Li
           fresh = λ h. absurd (h v.begun);
         })
 
-    ends : (end_after d ≡ 0 → ⊥) → Turning i budget from t u starts after (left - 1)
+    ends : (end_after d ≡ End.More → ⊥) → Turning i budget from t u starts after (left - 1)
     ends e =
         let a = v.loop.asks in
         let l = stops v.loop v.step v.some ms long sized e in
-        subst (λ (x : State). Turning i budget from t u starts x (left - 1)) (sym (after-over turn.state.size turn.state.counts turn.next node d e))
+        subst (λ (x : State). Turning i budget from t u starts x (left - 1)) (sym (after-over before.size before.counts next node d e))
         (record {
           asks = a;
           long = same;
@@ -190,9 +180,6 @@ module _ (r m bound room constants : ℕ) (marks lengths words unary binary : Li
           fresh = λ h. absurd (h v.begun);
         })
 
-    pub turn-after : Turning i budget from t u starts (after_state turn.state.size turn.state.counts turn.next d turn.node) (left - 1)
-    turn-after = subst (λ (x : Node). Turning i budget from t u starts (after_state turn.state.size turn.state.counts turn.next d x) (left - 1)) (sym node-is)
-        (elim (dec_le (end_after d) 0) [
-          | yes h ↦ goes_on (omega arith)
-          | no h ↦ ends (λ z. h (omega arith))
-        ])
+    pub turn-after : Turning i budget from t u starts (after_state before.size before.counts next d given) (left - 1)
+    turn-after = subst (λ (x : Node). Turning i budget from t u starts (after_state before.size before.counts next d x) (left - 1)) (sym node-is)
+        (elim (dec_more (end_after d)) [ yes h ↦ goes_on h | no h ↦ ends h ])

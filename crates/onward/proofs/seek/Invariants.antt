@@ -3,8 +3,8 @@ use Prim.Native.Nat.{◌-◌}
 use Rattle.onward.proofs.Seeking.{Seeking}
 use Rattle.onward.proofs.seek.Given as goal
 
-abbrev pub invariant-loop-starts : goal.invariant-loop-starts
-invariant-loop-starts l = Seeking l.propositions l.bound l.constants l.sizes l.unary l.binary l.initial.state l.initial.starts l.state l.starts
+abbrev pub invariant-loop-step : goal.invariant-loop-step
+invariant-loop-step l = Seeking l.propositions l.bound l.constants l.sizes l.unary l.binary l.initial.state l.initial.starts l.state l.starts
 
-abbrev pub decreases-loop-starts : goal.decreases-loop-starts
-decreases-loop-starts l = l.bound - l.state.size
+abbrev pub decreases-loop-step : goal.decreases-loop-step
+decreases-loop-step l = l.bound - l.state.size
