@@ -12,7 +12,7 @@ use Rattle.formula.specs.declared.kinds.Node.{Node}
 use Rattle.formula.specs.Kinds.{node_of}
 use Rattle.walk.specs.Input.{input_of}
 use Rattle.rows.proofs.Unique.{rows-unique}
-use Rattle.comparison.specs.declared.Known.TheVariants.{At, New}
+use Rattle.std.specs.Prelude.{Some, None}
 use Rattle.comparison.specs.Compare.{KnownAnswer}
 use Rattle.table.specs.Acceptance.{agreeing}
 use Rattle.table.specs.Slices.{Cols}
@@ -30,7 +30,7 @@ module _ (r room : ℕ) (marks : List ℕ) (node : Node) (count : ℕ) (rows : L
   disagree e f = absurd (true≢false (sym e ∙ f))
 
   -- a place with an equal matrix, and none
-  both : {A : Type 0} (p : Place) → KnownAnswer r t.matrices rows count (At p) → KnownAnswer r t.matrices rows count New → A
+  both : {A : Type 0} (p : Place) → KnownAnswer r t.matrices rows count (Some p) → KnownAnswer r t.matrices rows count None → A
   both p a n = absurd (n a.0 p.0 a.1 a.2)
 
   no_room : (room ≤ count) ⊎ (most_room ≤ count) → count < room → count < most_room → ⊥

@@ -7,7 +7,6 @@ use mathlib.Core.List.{List}
 use Prim.Native.Nat.{ℕ, ◌≤◌, ◌<◌}
 use native.Mathlib.Omega.{arith}
 use lib.ListN.{length, take}
-use denote.Enum.Declared.{tag_of}
 use borrow.Author.Tests.{le-leb, lt-leb}
 use Rattle.rules.specs.Limits.{most_room}
 use Rattle.rules.specs.declared.kinds.Place.{Place}
@@ -18,13 +17,11 @@ use Rattle.walk.specs.Walk.{Candidate, judge, consider}
 use Rattle.walk.specs.Walk as walk
 use Rattle.walk.specs.Input.{Input, separating, offer}
 use Rattle.walk.specs.Kept.{Table}
-use Rattle.comparison.specs.declared.Known.{Known}
-use Rattle.comparison.specs.declared.Known.TheVariants.{At, New}
+use Rattle.std.specs.Prelude.{Option, Some, None, is_some}
 use Rattle.table.specs.Slices.{Cols}
 use Rattle.rows.specs.Rows.{RowsAnswer}
 use Rattle.rows.specs.Formulas.{Fine, Stored}
 use Rattle.rows.proofs.Matrices.{rows_made, made-fine}
-use Rattle.comparison.specs.contracts.Known.{the_type as known-type}
 use Rattle.table.specs.Acceptance.{agreeing}
 use Rattle.comparison.specs.Compare.{KnownAnswer}
 use Rattle.table.specs.Keep.{KeepAnswer}
@@ -49,13 +46,13 @@ pub record Keeps (r : ℕ) (rows : List ℕ) (place : ℕ) (node : nodes.Node) (
   pub answer : KeepAnswer r rows place node t t' done
 
 module _ {r : ℕ} {matrices rows : List ℕ} {kept : ℕ} where
-  pub repeats : (known : Known) → tag_of known-type known ≡ 0 → KnownAnswer r matrices rows kept known → (p : Place) × KnownAnswer r matrices rows kept (At p)
-  repeats (At p) e w = (p, w)
-  repeats New e w = absurd (omega (arith, e))
+  pub repeats : (known : Option Place) → is_some known ≡ true → KnownAnswer r matrices rows kept known → (p : Place) × KnownAnswer r matrices rows kept (Some p)
+  repeats (Some p) e w = (p, w)
+  repeats None e w = absurd (true≢false (sym e))
 
-  pub fresh : (known : Known) → tag_of known-type known ≡ 1 → KnownAnswer r matrices rows kept known → KnownAnswer r matrices rows kept New
-  fresh (At p) e w = absurd (omega (arith, e))
-  fresh New e w = w
+  pub fresh : (known : Option Place) → is_some known ≡ false → KnownAnswer r matrices rows kept known → KnownAnswer r matrices rows kept None
+  fresh (Some p) e w = absurd (true≢false e)
+  fresh None e w = w
 
 pub out-of-room : (room count : ℕ) (b : Bool) → b ≡ true → NoPlace room count b → (room ≤ count) ⊎ (most_room ≤ count)
 out-of-room room count true e w = w
@@ -97,21 +94,21 @@ module _ {i : Input} {masks old : List ℕ} {node : Node} {count : ℕ} {t₀ t 
   does-found e = record { is = λ n. rw (separates true e); holds = λ n. o.holds }
 
   module _ (e : false ≡ agreeing i.recording.sessions i.recording.marks rows) where
-    knows : (a : Known) → KnownAnswer i.recording.sessions t.matrices rows count a → walk.known (offer i) x.matrix k ≡ is_at a
+    knows : (a : Option Place) → KnownAnswer i.recording.sessions t.matrices rows count a → walk.known (offer i) x.matrix k ≡ is_at a
     knows a v =
         ap (λ (y : List ℕ). walk.known (offer i) y k) (sym rows_are)
         ∙ known-is-known i o.passes k t.matrices rows stored (omega (arith, o.counted, o.few)) rows_long a
         (subst (λ (z : ℕ). KnownAnswer i.recording.sessions t.matrices rows z a) o.counted v)
 
-    pub does-dropped : ((p : Place) × KnownAnswer i.recording.sessions t.matrices rows count (At p)) → Does i node t₀ t k x Dropped
+    pub does-dropped : ((p : Place) × KnownAnswer i.recording.sessions t.matrices rows count (Some p)) → Does i node t₀ t k x Dropped
     unfolding consider judge
-    does-dropped v = record { is = λ n. rw (separates false e, knows (At v.0) v.1); holds = λ n. o.holds }
+    does-dropped v = record { is = λ n. rw (separates false e, knows (Some v.0) v.1); holds = λ n. o.holds }
 
-    module _ (v : KnownAnswer i.recording.sessions t.matrices rows count New) where
+    module _ (v : KnownAnswer i.recording.sessions t.matrices rows count None) where
       pub does-full : i.room ≤ count → Does i node t₀ t k x Full
       unfolding consider judge
       does-full l = record {
-        is = λ n. rw (separates false e, knows New v, le-leb i.room (length k) (omega (arith, o.counted)));
+        is = λ n. rw (separates false e, knows None v, le-leb i.room (length k) (omega (arith, o.counted)));
         holds = λ n. o.holds;
       }
 
@@ -122,6 +119,6 @@ module _ {i : Input} {masks old : List ℕ} {node : Node} {count : ℕ} {t₀ t 
           let a = subst (λ (q : ℕ). KeepAnswer i.recording.sessions rows q (node_of node) t t' z.done) o.counted z.answer in
           let b = subst (λ (q : nodes.Node). KeepAnswer i.recording.sessions rows (length k) q t t' z.done) (sym o.posed.node-is) a in
           record {
-            is = λ n. rw (separates false e, knows New v, lt-leb i.room (length k) (omega (arith, o.counted)));
+            is = λ n. rw (separates false e, knows None v, lt-leb i.room (length k) (omega (arith, o.counted)));
             holds = λ n. (keep-grows i o.passes k t₀ t t' o.holds room rows x rows_long rows_are fine z.done b).1;
           }

@@ -13,13 +13,7 @@ use rules::kinds::Place;
 fn no_place(room: usize, kept: usize) -> bool
     ensures { NoPlace room kept result }
 {
-    if room <= kept {
-        return true;
-    }
-    if rules::ROOM <= kept {
-        return true;
-    }
-    false
+    room <= kept || rules::ROOM <= kept
 }
 
 // What becomes of the candidate `node` over the `kept` formulas of the table: its rows are made in `rows`, and where it is kept it is written at the next
@@ -50,8 +44,7 @@ pub fn judge(
     if table::agrees(r, marks, rows) {
         return Fate::Found;
     }
-    let known = comparison::known_at(r, matrices, rows, kept);
-    if known.is_some() {
+    if comparison::known_at(r, matrices, rows, kept).is_some() {
         return Fate::Dropped;
     }
     if no_place(room, kept) {

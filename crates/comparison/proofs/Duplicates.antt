@@ -16,8 +16,7 @@ use Rattle.walk.specs.Promises.{SuperfluousBy}
 use Rattle.walk.proofs.Promises.{kept-distinct}
 use Rattle.walk.proofs.Dropped.{drops-front, dropped-by}
 use Rattle.walk.proofs.Reading.{lawful}
-use Rattle.comparison.specs.declared.Known.{Known}
-use Rattle.comparison.specs.declared.Known.TheVariants.{At, New}
+use Rattle.std.specs.Prelude.{Option, Some, None}
 use Rattle.comparison.specs.Compare.{Same, KnownAsk, KnownAnswer}
 use Rattle.rows.specs.Formulas.{no_candidate, matrix_at, Stored}
 use Rattle.comparison.specs.Promises.{KnownIsKnown, KnownBy}
@@ -63,8 +62,8 @@ module _ {i : Input} {k : Table} {matrices : List ℕ} (st : Stored i k matrices
   rows-equal p l q j v = sym (get_or-take i.recording.sessions rows j 0 v) ∙ ap (λ (y : List ℕ). get_or y j 0) q ∙ sym (st.words p j l v)
 
 pub known-is-known : KnownIsKnown
-known-is-known i ok k matrices rows st c h (At p) a = known_some i (take i.recording.sessions rows) k p.0 a.1 (equal-rows st rows h p.0 a.1 a.2)
-known-is-known i ok k matrices rows st c h New a =
+known-is-known i ok k matrices rows st c h (Some p) a = known_some i (take i.recording.sessions rows) k p.0 a.1 (equal-rows st rows h p.0 a.1 a.2)
+known-is-known i ok k matrices rows st c h None a =
     let ask : KnownAsk i.recording.sessions matrices rows (length k) = record
     { sessions-in = ok.sessions-in.1; kept_in = omega (arith, ok.room_in.1); rows-there = h; matrices-there = st.there } in
     known-none i (take i.recording.sessions rows) k (λ p l q. a ask p l (rows-equal st rows h p l q))
@@ -95,11 +94,11 @@ known_by i ok e k n q before c d matrices rows st h m a w = go a w
     size : length k ≡ length d.so_far + length longer.0
     size = ap length longer.1 ∙ length-append d.so_far longer.0
 
-    go : (a : Known) → KnownAnswer i.recording.sessions matrices rows (length d.so_far) a → (p : Place) × (a ≡ At p) × SuperfluousBy k before c p.0
-    go (At p) w =
+    go : (a : Option Place) → KnownAnswer i.recording.sessions matrices rows (length d.so_far) a → (p : Place) × (a ≡ Some p) × SuperfluousBy k before c p.0
+    go (Some p) w =
         let z = by.2.only p.0 (omega (arith, w.1, size)) (matrix-of p.0 w.1 ∙ sym (equal-rows st rows h p.0 w.1 w.2) ∙ m) in
         (p, refl, subst (SuperfluousBy k before c) (sym z) by.2)
-    go New w =
+    go None w =
         let ask : KnownAsk i.recording.sessions matrices rows (length d.so_far) = record {
           sessions-in = ok.sessions-in.1;
           kept_in = omega (arith, size, (kept-distinct i ok e k n q).room, ok.room_in.1);

@@ -12,15 +12,10 @@ pub(crate) fn compare_at(r: usize, place: Place, x: &[u64], rows: &[u64]) -> Com
     requires { (r ≤ most_sessions) × (r ≤ length x.now) × (r ≤ length rows.now) }
     ensures { ComparedAt r place.0 x.now rows.now result }
 {
-    let mut j: usize = 0;
-    while j < r {
-        if rows[j] != x[j] {
-            let session = j as u8;
-            return Compared::Differs(Session(session));
-        }
-        j += 1;
+    match (0..r).position(|j| rows[j] != x[j]) {
+        Some(j) => Compared::Differs(Session(j as u8)),
+        None => Compared::Equal(place),
     }
-    Compared::Equal(place)
 }
 
 // The first place whose matrix is equal, or none.
@@ -28,15 +23,12 @@ pub(crate) fn first_equal(r: usize, matrices: &[u64], rows: &[u64], kept: usize)
     requires { KnownAsk r matrices.now rows.now kept }
     ensures { KnownAnswer r matrices.now rows.now kept result }
 {
-    let mut p: usize = 0;
-    let mut from: usize = 0;
-    while p < kept {
+    for p in 0..kept {
+        let from = p * r;
         let compared = compare_at(r, Place(p as u16), &matrices[from..], rows);
         if let Compared::Equal(place) = compared {
             return Some(place);
         }
-        from += r;
-        p += 1;
     }
     None
 }

@@ -16,9 +16,10 @@ use Rattle.rules.proofs.Refusals.{decided-unique, decided-both, decided-not}
 use Rattle.session.specs.Recording.{Recording, recording}
 use Rattle.session.specs.Data.{data_rows}
 use Rattle.reading.specs.Reading.{Got, bad}
-use Rattle.file.specs.declared.ReadAnswer.{ReadAnswer}
-use Rattle.file.specs.declared.ReadAnswer.TheVariants.{Parts as AllParts, Broken as FileBroken, Room}
-use Rattle.file.specs.contracts.ReadAnswer.{the_type as read-type}
+use Rattle.std.proofs.Common.{Result, Err}
+use Rattle.file.specs.declared.Parts.{Parts as Numbers}
+use Rattle.file.specs.declared.ReadError.{ReadError}
+use Rattle.file.specs.declared.ReadError.TheVariants.{Broken as FileBroken, Room}
 use Rattle.file.specs.Format.{Parts, Good}
 use Rattle.file.specs.Offence.{whole_file}
 use Rattle.file.specs.Reading.{said_read, Lent, read_after, marks_of, lengths_of, words_of, read_of}
@@ -166,7 +167,7 @@ module _ (file : List ℕ) (j : Input) (p : Parts) (g : Good p) (s : j ≡ file_
 
 -- ---- the file
 
-module _ (file : List ℕ) (bytes : Bytes file) (l : Lent) (wide : Wide l) (a : ReadAnswer) (marks lengths words unary binary : List ℕ)
+module _ (file : List ℕ) (bytes : Bytes file) (l : Lent) (wide : Wide l) (a : Result Numbers ReadError) (marks lengths words unary binary : List ℕ)
     (e : read_after (said_read a) marks lengths words unary binary ≡ read_of file l) {old new : List ℕ} {x : ℕ} where
   pub good-explained : {r m n u b constants bound : ℕ} (h : Handed file bytes l wide a marks lengths words unary binary e r m n u b constants bound)
       → Stands (ToldOf file (input file bytes l wide a marks lengths words unary binary e h bench_room)) old x new → ExplanationOf file old x new
@@ -180,17 +181,12 @@ module _ (file : List ℕ) (bytes : Bytes file) (l : Lent) (wide : Wide l) (a : 
       }
 
   -- any other answer than a good file's parts is that of a broken file: there is always room
-  pub broken-explained : OneOf (1 ∷ 2 ∷ []) (tag_of read-type a) → Stands (BenchSays file) old x new → ExplanationOf file old x new
-  broken-explained k v = go a refl k
-    where
-      go : (b : ReadAnswer) → a ≡ b → OneOf (1 ∷ 2 ∷ []) (tag_of read-type b) → ExplanationOf file old x new
-      go (AllParts r m n u b constants bound) q (inl z) = absurd (omega (arith, z))
-      go (AllParts r m n u b constants bound) q (inr z) = absurd (omega (arith, z))
-      go (FileBroken o) q z =
-          let is : whole_file file ≡ bad o = broken-at file bytes l wide a marks lengths words unary binary e q in
-          record {
-            output = v.output;
-            explains = subst (λ (g : Got Parts). Explains g v.output) (sym is) (subst (λ (g : Got Parts). Says g bench_room v.output) is v.said);
-            wrote = v.wrote;
-          }
-      go Room q z = absurd (never-room file bytes l wide a marks lengths words unary binary e q)
+  pub broken-explained : {why : ReadError} → a ≡ Err why → Stands (BenchSays file) old x new → ExplanationOf file old x new
+  broken-explained {FileBroken o} q v =
+      let is : whole_file file ≡ bad o = broken-at file bytes l wide a marks lengths words unary binary e q in
+      record {
+        output = v.output;
+        explains = subst (λ (g : Got Parts). Explains g v.output) (sym is) (subst (λ (g : Got Parts). Says g bench_room v.output) is v.said);
+        wrote = v.wrote;
+      }
+  broken-explained {Room} q v = absurd (never-room file bytes l wide a marks lengths words unary binary e q)

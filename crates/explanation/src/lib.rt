@@ -12,7 +12,6 @@ ghost use Rattle.lines.specs.Bench.{bench_room};
 ghost use Rattle.explanation.specs.Explanation.{ExplanationOf};
 ghost use Rattle.explanation.specs.Inner.{Stands, OfGood, BenchSays, ToldOf, ReportOf};
 
-use file::ReadAnswer;
 use formula::kinds::Node;
 use search::SearchAnswer;
 
@@ -131,27 +130,19 @@ pub fn of_file(file: &[u8], text: &mut [u8; report::LONGEST]) -> usize
         &mut binary,
     );
     match read {
-        ReadAnswer::Parts {
-            sessions,
-            propositions,
-            names: _,
-            unary: u,
-            binary: b,
-            constants,
-            bound,
-        } => searched(
+        Ok(parts) => searched(
             file,
-            sessions,
-            propositions,
-            bound as usize,
-            constants,
-            &marks[..sessions],
-            &lengths[..sessions],
-            &words[..propositions * sessions],
-            &unary[..u],
-            &binary[..b],
+            parts.sessions,
+            parts.propositions,
+            parts.bound as usize,
+            parts.constants,
+            &marks[..parts.sessions],
+            &lengths[..parts.sessions],
+            &words[..parts.propositions * parts.sessions],
+            &unary[..parts.unary],
+            &binary[..parts.binary],
             text,
         ),
-        _ => bench(file, text),
+        Err(_) => bench(file, text),
     }
 }

@@ -1,6 +1,6 @@
 -- Codes and settings: what the rule reads is good, its bytes stand there, and a good one is read.
 -- Assumes nothing.
-use mathlib.Core.Path.{◌≡◌, refl, sym, ap, ◌∙◌, subst}
+use mathlib.Core.Path.{◌≡◌, refl, subst}
 use mathlib.Core.Bool.{true}
 use mathlib.Core.List.{List, [], ◌∷◌, ◌++◌, flat_map}
 use Prim.Native.Nat.{ℕ, ◌+◌, ◌≤◌}

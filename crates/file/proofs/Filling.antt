@@ -1,7 +1,7 @@
 -- The loops of the writing pass: what is written so far and what is left to write come to all that is to be written.
 -- Assumes nothing.
 use mathlib.Core.Path.{◌≡◌, refl, sym, ap, ◌∙◌}
-use mathlib.Core.List.{List, [], ◌∷◌, ◌++◌}
+use mathlib.Core.List.{List, ◌∷◌, ◌++◌}
 use Prim.Native.Nat.{ℕ, zero, suc, ◌+◌, ◌-◌, ◌*◌, ◌≤◌, ◌<◌}
 use native.Mathlib.Nat.{suc-mul, mul-suc}
 use native.Mathlib.Numerals.{add-one}
@@ -54,21 +54,23 @@ module _ (to₀ : List ℕ) (k : ℕ) (file : List ℕ) (at m : ℕ) where
     pub room : p + 8 * (m - i) ≤ length file
     pub is : sets to (k + i) (words_at (m - i) (drop p file)) ≡ sets to₀ k (words_at m (drop at file))
 
-  pub words-start : at + 8 * m ≤ length file → Words to₀ 0 at
+  pub words-start : at + 8 * m ≤ length file → Words to₀ 0 (at + 8 * 0)
   words-start h =
       let z : m - 0 ≡ m = omega arith in
       let y : k + 0 ≡ k = omega arith in
-      record { upto = omega arith; long = refl; room = omega arith; is = rw (z, y) }
+      let x : at + 8 * 0 ≡ at = omega arith in
+      record { upto = omega arith; long = refl; room = omega arith; is = rw (z, y, x) }
 
-  module _ {to : List ℕ} {i p : ℕ} (s : Words to i p) where
-    pub words-turn : i < m → (w : ℕ) → w ≡ number (take 8 (drop p file)) → Words (set to (k + i) w) (i + 1) (p + 8)
+  module _ {to : List ℕ} {i : ℕ} (s : Words to i (at + 8 * i)) where
+    pub words-turn : i < m → (w : ℕ) → w ≡ number (take 8 (drop (at + 8 * i) file)) → Words (set to (k + i) w) (i + 1) (at + 8 * (i + 1))
     unfolding words_at
     words-turn h w e =
         let l : m - i ≡ suc (m - (i + 1)) = omega arith in
         let y : suc (k + i) ≡ k + (i + 1) = omega arith in
-        let step : words_at (m - i) (drop p file) ≡ w ∷ words_at (m - (i + 1)) (drop (p + 8) file) = rw (l, e, drop-drop 8 p file) in
-        let turned : sets to (k + i) (words_at (m - i) (drop p file)) ≡ sets (set to (k + i) w) (k + (i + 1)) (words_at (m - (i + 1)) (drop (p + 8) file)) =
-        ap (sets to (k + i)) step ∙ ap (λ (x : ℕ). sets (set to (k + i) w) x (words_at (m - (i + 1)) (drop (p + 8) file))) y in
+        let x : at + 8 * i + 8 ≡ at + 8 * (i + 1) = omega arith in
+        let step : words_at (m - i) (drop (at + 8 * i) file) ≡ w ∷ words_at (m - (i + 1)) (drop (at + 8 * (i + 1)) file) = rw (l, e, drop-drop 8 (at + 8 * i) file, x) in
+        let turned : sets to (k + i) (words_at (m - i) (drop (at + 8 * i) file)) ≡ sets (set to (k + i) w) (k + (i + 1)) (words_at (m - (i + 1)) (drop (at + 8 * (i + 1)) file)) =
+        ap (sets to (k + i)) step ∙ ap (λ (x : ℕ). sets (set to (k + i) w) x (words_at (m - (i + 1)) (drop (at + 8 * (i + 1)) file))) y in
         record { upto = omega arith; long = length-set to (k + i) w ∙ s.long; room = omega (arith, s.room); is = sym turned ∙ s.is }
 
     pub words-end : m ≤ i → to ≡ sets to₀ k (words_at m (drop at file))

@@ -9,8 +9,10 @@ use native.Mathlib.Omega.{arith}
 use borrow.Author.Tests.{le-leb}
 use lib.ListN.{length, drop, length-map}
 use lib.Seq.{sets}
-use Rattle.file.specs.declared.ReadAnswer.{ReadAnswer}
-use Rattle.file.specs.declared.ReadAnswer.TheVariants.{Parts as AllParts, Broken, Room}
+use Rattle.std.proofs.Common.{Result, Ok, Err}
+use Rattle.reading.specs.declared.Broken.{Broken as BrokenAt}
+use Rattle.file.specs.declared.Parts.{Parts as Numbers}
+use Rattle.file.specs.declared.ReadError.TheVariants.{Broken, Room}
 use Rattle.sections.specs.Numbers.{file_sessions, file_propositions}
 use Rattle.file.specs.Format.{Parts, Good}
 use Rattle.reading.specs.Reading.{section, Got, got, bad}
@@ -18,7 +20,7 @@ use Rattle.names.specs.Names.{name_bytes}
 use Rattle.file.specs.Offence.{whole_file}
 use Rattle.file.specs.Reading.{said_read, Lent, lent, read_after, marks_of, lengths_of, words_of, room_for, read_of}
 use Rattle.rules.specs.Answers.{over}
-use Rattle.file.specs.Inner.{numbers_of, read_answer_of, Enough, strided, session_words}
+use Rattle.file.specs.Inner.{judged, judged_of, Enough, strided, session_words}
 use Rattle.file.proofs.Numbers.{Bytes}
 use Rattle.file.proofs.Whole.{passed-is-good}
 use Rattle.file.proofs.Positions.{layout, filled, length-all-words}
@@ -46,13 +48,15 @@ module _ (file : List ℕ) where
     pub unary : strided 1 u (drop (a + 1 + r * (2 + 8 * m) + 1) file) ≡ parts.unary
     pub binary : strided 1 v (drop (a + 1 + r * (2 + 8 * m) + u + 2) file) ≡ parts.binary
 
-  KnownOf : ReadAnswer → Type 0
-  KnownOf (AllParts r m a u v constants bound) = Known r m a u v constants bound
-  KnownOf (Broken o) = whole_file file ≡ bad o
-  KnownOf Room = ⊥
+  abbrev pub KnownBy : Numbers → Type 0
+  KnownBy n = Known n.sessions n.propositions n.names n.unary n.binary n.constants n.bound
+
+  KnownOf : Result Numbers BrokenAt → Type 0
+  KnownOf (Ok n) = KnownBy n
+  KnownOf (Err o) = whole_file file ≡ bad o.0
 
   module _ (bs : Bytes file) where
-    known_of : (g : Got Parts) → whole_file file ≡ g → KnownOf (numbers_of g)
+    known_of : (g : Got Parts) → whole_file file ≡ g → KnownOf (judged g)
     unfolding KnownOf
     known_of (bad o) e = e
     known_of (got p next) e =
@@ -80,21 +84,16 @@ module _ (file : List ℕ) where
           binary = l.binary;
         }
 
-    module _ (answer : ReadAnswer) (j : answer ≡ read_answer_of file) where
-      told : KnownOf answer
-      told = subst KnownOf (sym j) (known_of (whole_file file) refl)
+    told : {answer : Result Numbers BrokenAt} → answer ≡ judged_of file → KnownOf answer
+    told j = subst KnownOf (sym j) (known_of (whole_file file) refl)
 
-      pub known : {r m a u v constants bound : ℕ} → answer ≡ AllParts r m a u v constants bound → Known r m a u v constants bound
-      unfolding KnownOf
-      known q = subst KnownOf q told
+    pub known : {n : Numbers} → Ok n ≡ judged_of file → KnownBy n
+    unfolding KnownOf
+    known j = told j
 
-      pub known-bad : {o : ℕ} → answer ≡ Broken o → whole_file file ≡ bad o
-      unfolding KnownOf
-      known-bad q = subst KnownOf q told
-
-      pub never-room : answer ≡ Room → ⊥
-      unfolding KnownOf
-      never-room q = subst KnownOf q told
+    pub known-bad : {o : BrokenAt} → Err o ≡ judged_of file → whole_file file ≡ bad o.0
+    unfolding KnownOf
+    known-bad j = told j
 
   -- ---- the answers
 
@@ -102,12 +101,12 @@ module _ (file : List ℕ) where
     abbrev all : Lent
     all = lent marks lengths words unary binary
 
-    pub refused : {o : ℕ} → whole_file file ≡ bad o → read_after (said_read (Broken o)) marks lengths words unary binary ≡ read_of file all
+    pub refused : {o : ℕ} → whole_file file ≡ bad o → read_after (said_read (Err (Broken o))) marks lengths words unary binary ≡ read_of file all
     refused e = rw e
 
     module _ {r m a u v constants bound : ℕ} (k : Known r m a u v constants bound) where
       pub no_room : {b : Bool} → Enough (length marks) (length lengths) (length words) (length unary) (length binary) r (m * r) u v b → b ≡ false
-          → read_after (said_read Room) marks lengths words unary binary ≡ read_of file all
+          → read_after (said_read (Err Room)) marks lengths words unary binary ≡ read_of file all
       no_room e h = rw (k.is, (let z : room_for k.parts all ≡ false = rw (k.count, k.width, k.unaries, k.binaries) (e.lacks h) in z))
 
       module _ (hm : r ≤ length marks) (hl : r ≤ length lengths) (hw : m * r ≤ length words) (hu : u ≤ length unary) (hb : v ≤ length binary) where
@@ -142,7 +141,7 @@ module _ (file : List ℕ) where
         new-binary : sets binary 0 (strided 1 v (drop (a + 1 + r * (2 + 8 * m) + u + 2) file)) ≡ over k.parts.binary binary
         new-binary = ap (sets binary 0) k.binary ∙ filled k.parts.binary binary (omega (arith, k.binaries))
 
-        pub written : read_after (said_read (AllParts r m a u v constants bound))
+        pub written : read_after (said_read (Ok (record { sessions = r; propositions = m; names = a; unary = u; binary = v; constants = constants; bound = bound })))
             (sets marks 0 (strided (2 + 8 * m) r (drop (a + 1) file)))
             (sets lengths 0 (strided (2 + 8 * m) r (drop (a + 1 + 1) file)))
             (sets words 0 (session_words m r (drop (a + 1) file)))

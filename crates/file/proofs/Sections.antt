@@ -8,65 +8,71 @@ use native.Mathlib.Omega.{arith}
 use borrow.Author.Tests.{eq-eqb, ne_eqb}
 use lib.Dec.{eqb}
 use lib.ListN.{length, get_or}
-use Rattle.reading.specs.declared.ReadStep.{ReadStep}
-use Rattle.reading.specs.declared.ReadStep.TheVariants.{Read, Broken}
-use Rattle.file.specs.declared.Tail.{Tail}
-use Rattle.file.specs.declared.Tail.TheVariants.{Read as TailRead, Broken as TailBroken}
-use Rattle.file.specs.declared.ReadAnswer.{ReadAnswer}
-use Rattle.file.specs.declared.ReadAnswer.TheVariants.{Parts as AllParts, Broken as FileBroken}
+use Rattle.std.proofs.Common.{Result, Ok, Err}
+use Rattle.reading.specs.declared.Read.{Read}
+use Rattle.reading.specs.declared.Broken.{Broken}
+use Rattle.file.specs.declared.Settings.{Settings as Tail}
+use Rattle.file.specs.declared.Parts.{Parts as Numbers}
 use Rattle.sections.specs.Numbers.{file_propositions}
 use Rattle.rules.specs.Limits.{most_size}
 use Rattle.names.specs.Names.{name_bytes, names_up_to}
 use Rattle.file.specs.Format.{FileSession, Parts}
 use Rattle.reading.specs.Reading.{section, Got, got, bad, and_then, byte, within, at_end, step_of}
 use Rattle.file.specs.Offence.{all_sessions, is_unary, is_binary, all_codes, Settings, settings, parts, whole_file}
-use Rattle.file.specs.Inner.{tail_of, tail_at, numbers_of, read_answer_of}
+use Rattle.file.specs.Inner.{tail_of, tail_at, judged, judged_of}
 use Rattle.reading.proofs.Steps.{step-read, step-broken, byte-read, byte_next}
 use Rattle.names.proofs.NameLaws.{names-sound}
 
 module _ (file : List ℕ) where
   -- ---- settings, with nothing after them
 
-  module _ (at : ℕ) (r : ReadStep) (e : r ≡ step_of (λ b. b) (byte (within 2 2) file at)) where
-    pub tail-no-count : {o : ℕ} → r ≡ Broken o → TailBroken o ≡ tail_of (tail_at file at)
+  module _ (at : ℕ) where
+    pub tail-no-count : {o : Broken} → Err o ≡ step_of (λ b. b) (byte (within 2 2) file at) → Err o ≡ tail_of (tail_at file at)
     unfolding settings at_end
-    tail-no-count q = rw (step-broken (λ b. b) r (byte (within 2 2) file at) e q)
+    tail-no-count e = rw (step-broken (λ b. b) (byte (within 2 2) file at) e)
 
-    module _ {k a : ℕ} (q : r ≡ Read k a) (s : ReadStep) (d : s ≡ step_of (λ b. b) (byte (within 0 1) file a)) where
-      pub tail-no-mark : {o : ℕ} → s ≡ Broken o → TailBroken o ≡ tail_of (tail_at file at)
+    module _ {r : Read} (e : Ok r ≡ step_of (λ b. b) (byte (within 2 2) file at)) where
+      pub tail-no-mark : {o : Broken} → Err o ≡ step_of (λ b. b) (byte (within 0 1) file r.next) → Err o ≡ tail_of (tail_at file at)
       unfolding settings at_end
-      tail-no-mark p = rw (byte-read r (byte (within 2 2) file at) e q, step-broken (λ b. b) s (byte (within 0 1) file a) d p)
+      tail-no-mark d = rw (byte-read (byte (within 2 2) file at) e, step-broken (λ b. b) (byte (within 0 1) file r.next) d)
 
-      module _ {c b : ℕ} (p : s ≡ Read c b) (t : ReadStep) (h : t ≡ step_of (λ b. b) (byte (within 1 most_size) file b)) where
-        pub tail-no-bound : {o : ℕ} → t ≡ Broken o → TailBroken o ≡ tail_of (tail_at file at)
+      module _ {s : Read} (d : Ok s ≡ step_of (λ b. b) (byte (within 0 1) file r.next)) where
+        pub tail-no-bound : {o : Broken} → Err o ≡ step_of (λ b. b) (byte (within 1 most_size) file s.next) → Err o ≡ tail_of (tail_at file at)
         unfolding settings at_end
-        tail-no-bound g = rw (byte-read r (byte (within 2 2) file at) e q, byte-read s (byte (within 0 1) file a) d p, step-broken (λ b. b) t (byte (within 1 most_size) file b) h g)
+        tail-no-bound h =
+            rw (byte-read (byte (within 2 2) file at) e, byte-read (byte (within 0 1) file r.next) d, step-broken (λ b. b) (byte (within 1 most_size) file s.next) h)
 
-        module _ {v next : ℕ} (g : t ≡ Read v next) where
-          mark-there : (a < length file) × (b ≡ a + 1) × (get_or file a 0 ≡ c)
-          mark-there = byte_next (within 0 1) file a (byte-read s (byte (within 0 1) file a) d p)
+        module _ {t : Read} (h : Ok t ≡ step_of (λ b. b) (byte (within 1 most_size) file s.next)) where
+          mark-there : (r.next < length file) × (s.next ≡ r.next + 1) × (get_or file r.next 0 ≡ s.value)
+          mark-there = byte_next (within 0 1) file r.next (byte-read (byte (within 0 1) file r.next) d)
 
-          bound-there : (b < length file) × (next ≡ b + 1) × (get_or file b 0 ≡ v)
-          bound-there = byte_next (within 1 most_size) file b (byte-read t (byte (within 1 most_size) file b) h g)
+          bound-there : (s.next < length file) × (t.next ≡ s.next + 1) × (get_or file s.next 0 ≡ t.value)
+          bound-there = byte_next (within 1 most_size) file s.next (byte-read (byte (within 1 most_size) file s.next) h)
 
-          pub tail-mark-in : a < length file
+          pub tail-mark-in : r.next < length file
           tail-mark-in = mark-there.0
 
-          pub tail-bound-in : b < length file
+          pub tail-bound-in : s.next < length file
           tail-bound-in = bound-there.0
 
-          pub tail-extra : (next ≡ length file → ⊥) → TailBroken next ≡ tail_of (tail_at file at)
+          pub tail-extra : (t.next ≡ length file → ⊥) → Err (record { 0 = t.next }) ≡ tail_of (tail_at file at)
           unfolding settings at_end
-          tail-extra n = rw (byte-read r (byte (within 2 2) file at) e q, byte-read s (byte (within 0 1) file a) d p, byte-read t (byte (within 1 most_size) file b) h g, ne_eqb next (length file) n)
+          tail-extra n =
+              rw (
+                byte-read (byte (within 2 2) file at) e,
+                byte-read (byte (within 0 1) file r.next) d,
+                byte-read (byte (within 1 most_size) file s.next) h,
+                ne_eqb t.next (length file) n,
+              )
 
-          pub tail-whole : next ≡ length file → TailRead (get_or file a 0) (get_or file b 0) ≡ tail_of (tail_at file at)
+          pub tail-whole : t.next ≡ length file → Ok (record { constants = get_or file r.next 0; bound = get_or file s.next 0 }) ≡ tail_of (tail_at file at)
           unfolding settings at_end
           tail-whole n =
               rw (
-                byte-read r (byte (within 2 2) file at) e q,
-                byte-read s (byte (within 0 1) file a) d p,
-                byte-read t (byte (within 1 most_size) file b) h g,
-                eq-eqb next (length file) n,
+                byte-read (byte (within 2 2) file at) e,
+                byte-read (byte (within 0 1) file r.next) d,
+                byte-read (byte (within 1 most_size) file s.next) h,
+                eq-eqb t.next (length file) n,
                 mark-there.2,
                 bound-there.2,
               )
@@ -83,74 +89,93 @@ module _ (file : List ℕ) where
       go true = refl
       go false = refl
 
-  module _ (r : ReadStep) (e : r ≡ step_of length (names_up_to file_propositions file 0)) where
-    pub judge-names : {o : ℕ} → r ≡ Broken o → FileBroken o ≡ read_answer_of file
-    unfolding parts at_end
-    judge-names q = rw (step-broken length r (names_up_to file_propositions file 0) e q)
+  pub judge-names : {o : Broken} → Err o ≡ step_of length (names_up_to file_propositions file 0) → Err o ≡ judged_of file
+  unfolding parts at_end
+  judge-names e = rw (step-broken length (names_up_to file_propositions file 0) e)
 
-    module _ {m a : ℕ} (q : r ≡ Read m a) where
-      names-read : (ns : List (List ℕ)) × (names_up_to file_propositions file 0 ≡ got ns a) × (length ns ≡ m)
-      names-read = step-read length r (names_up_to file_propositions file 0) e q
+  module _ {m : Read} (e : Ok m ≡ step_of length (names_up_to file_propositions file 0)) where
+    names-read : (ns : List (List ℕ)) × (names_up_to file_propositions file 0 ≡ got ns m.next) × (length ns ≡ m.value)
+    names-read = step-read length (names_up_to file_propositions file 0) e
 
-      ns : List (List ℕ)
-      ns = names-read.0
+    ns : List (List ℕ)
+    ns = names-read.0
 
-      names-end : length (section name_bytes ns) ≡ a
-      unfolding ns
-      names-end = omega (arith, (names-sound file file_propositions 0 names-read.1).spans.end)
+    names-end : length (section name_bytes ns) ≡ m.next
+    unfolding ns
+    names-end = omega (arith, (names-sound file file_propositions 0 names-read.1).spans.end)
 
-      module _ (s : ReadStep) (d : s ≡ step_of length (all_sessions m file a)) where
-        sessions-step : s ≡ step_of length (all_sessions (length ns) file a)
-        unfolding ns
-        sessions-step = d ∙ ap (λ (k : ℕ). step_of length (all_sessions k file a)) (sym names-read.2)
+    sessions-step : {s : Result Read Broken} → s ≡ step_of length (all_sessions m.value file m.next) → s ≡ step_of length (all_sessions (length ns) file m.next)
+    unfolding ns
+    sessions-step d = d ∙ ap (λ (k : ℕ). step_of length (all_sessions k file m.next)) (sym names-read.2)
 
-        pub judge-sessions : {o : ℕ} → s ≡ Broken o → FileBroken o ≡ read_answer_of file
+    pub judge-sessions : {o : Broken} → Err o ≡ step_of length (all_sessions m.value file m.next) → Err o ≡ judged_of file
+    unfolding parts at_end ns
+    judge-sessions d = rw (names-read.1, step-broken length (all_sessions (length ns) file m.next) (sessions-step d))
+
+    module _ {r : Read} (d : Ok r ≡ step_of length (all_sessions m.value file m.next)) where
+      sessions-read : (ss : List FileSession) × (all_sessions (length ns) file m.next ≡ got ss r.next) × (length ss ≡ r.value)
+      sessions-read = step-read length (all_sessions (length ns) file m.next) (sessions-step d)
+
+      pub judge-unary : {o : Broken} → Err o ≡ step_of length (all_codes is_unary file r.next) → Err o ≡ judged_of file
+      unfolding parts at_end ns
+      judge-unary f = rw (names-read.1, sessions-read.1, step-broken length (all_codes is_unary file r.next) f)
+
+      module _ {u : Read} (f : Ok u ≡ step_of length (all_codes is_unary file r.next)) where
+        unary_read : (us : List ℕ) × (all_codes is_unary file r.next ≡ got us u.next) × (length us ≡ u.value)
+        unary_read = step-read length (all_codes is_unary file r.next) f
+
+        pub judge-binary : {o : Broken} → Err o ≡ step_of length (all_codes is_binary file u.next) → Err o ≡ judged_of file
         unfolding parts at_end ns
-        judge-sessions p = rw (names-read.1, step-broken length s (all_sessions (length ns) file a) sessions-step p)
+        judge-binary h = rw (names-read.1, sessions-read.1, unary_read.1, step-broken length (all_codes is_binary file u.next) h)
 
-        module _ {n b : ℕ} (p : s ≡ Read n b) (t : ReadStep) (f : t ≡ step_of length (all_codes is_unary file b)) where
-          sessions-read : (ss : List FileSession) × (all_sessions (length ns) file a ≡ got ss b) × (length ss ≡ n)
-          sessions-read = step-read length s (all_sessions (length ns) file a) sessions-step p
+        module _ {v : Read} (h : Ok v ≡ step_of length (all_codes is_binary file u.next)) where
+          binary-read : (bs : List ℕ) × (all_codes is_binary file u.next ≡ got bs v.next) × (length bs ≡ v.value)
+          binary-read = step-read length (all_codes is_binary file u.next) h
 
-          pub judge-unary : {o : ℕ} → t ≡ Broken o → FileBroken o ≡ read_answer_of file
-          unfolding parts at_end ns
-          judge-unary g = rw (names-read.1, sessions-read.1, step-broken length t (all_codes is_unary file b) f g)
+          whole : Settings → Parts
+          whole z = record { names = ns; sessions = sessions-read.0; unary = unary_read.0; binary = binary-read.0; constants = z.constants; bound = z.bound }
 
-          module _ {u c : ℕ} (g : t ≡ Read u c) (w : ReadStep) (h : w ≡ step_of length (all_codes is_binary file c)) where
-            unary_read : (us : List ℕ) × (all_codes is_unary file b ≡ got us c) × (length us ≡ u)
-            unary_read = step-read length t (all_codes is_unary file b) f g
+          file-is : whole_file file ≡ and_then (tail_at file v.next) (λ z n. got (whole z) n)
+          unfolding parts whole ns
+          file-is = rw (names-read.1, sessions-read.1, unary_read.1, binary-read.1) (end-map whole (settings file v.next))
 
-            pub judge-binary : {o : ℕ} → w ≡ Broken o → FileBroken o ≡ read_answer_of file
-            unfolding parts at_end ns
-            judge-binary k = rw (names-read.1, sessions-read.1, unary_read.1, step-broken length w (all_codes is_binary file c) h k)
+          -- the numbers of the parts, with these settings
+          answer : Result Tail Broken → Result Numbers Broken
+          answer (Ok t) =
+              Ok (
+              record {
+                sessions = r.value;
+                propositions = m.value;
+                names = m.next;
+                unary = u.value;
+                binary = v.value;
+                constants = t.constants;
+                bound = t.bound;
+              })
+          answer (Err o) = Err o
 
-            module _ {v i : ℕ} (k : w ≡ Read v i) (x : Tail) (y : x ≡ tail_of (tail_at file i)) where
-              binary-read : (bs : List ℕ) × (all_codes is_binary file c ≡ got bs i) × (length bs ≡ v)
-              binary-read = step-read length w (all_codes is_binary file c) h k
+          answer-is : (z : Got Settings) → answer (tail_of z) ≡ judged (and_then z (λ z n. got (whole z) n))
+          unfolding answer whole ns
+          answer-is (bad o) = refl
+          answer-is (got z next) = rw (sessions-read.2, names-read.2, names-end, unary_read.2, binary-read.2)
 
-              whole : Settings → Parts
-              whole z = record { names = ns; sessions = sessions-read.0; unary = unary_read.0; binary = binary-read.0; constants = z.constants; bound = z.bound }
+          found : {x : Result Tail Broken} → x ≡ tail_of (tail_at file v.next) → answer x ≡ judged_of file
+          found y = ap answer y ∙ answer-is (tail_at file v.next) ∙ ap judged (sym file-is)
 
-              file-is : whole_file file ≡ and_then (tail_at file i) (λ z n. got (whole z) n)
-              unfolding parts whole ns
-              file-is = rw (names-read.1, sessions-read.1, unary_read.1, binary-read.1) (end-map whole (settings file i))
+          pub judge-tail : {o : Broken} → Err o ≡ tail_of (tail_at file v.next) → Err o ≡ judged_of file
+          unfolding answer
+          judge-tail y = found y
 
-              answer : Tail → ReadAnswer
-              answer (TailRead constants bound) = AllParts n m a u v constants bound
-              answer (TailBroken o) = FileBroken o
-
-              answer-is : (z : Got Settings) → answer (tail_of z) ≡ numbers_of (and_then z (λ z n. got (whole z) n))
-              unfolding answer whole ns
-              answer-is (bad o) = refl
-              answer-is (got z next) = rw (sessions-read.2, names-read.2, names-end, unary_read.2, binary-read.2)
-
-              judged : answer x ≡ read_answer_of file
-              judged = ap answer y ∙ answer-is (tail_at file i) ∙ ap numbers_of (sym file-is)
-
-              pub judge-tail : {o : ℕ} → x ≡ TailBroken o → FileBroken o ≡ read_answer_of file
-              unfolding answer
-              judge-tail z = ap answer (sym z) ∙ judged
-
-              pub judge-whole : {constants bound : ℕ} → x ≡ TailRead constants bound → AllParts n m a u v constants bound ≡ read_answer_of file
-              unfolding answer
-              judge-whole z = ap answer (sym z) ∙ judged
+          pub judge-whole : {t : Tail} → Ok t ≡ tail_of (tail_at file v.next)
+              → Ok (
+              record {
+                sessions = r.value;
+                propositions = m.value;
+                names = m.next;
+                unary = u.value;
+                binary = v.value;
+                constants = t.constants;
+                bound = t.bound;
+              }) ≡ judged_of file
+          unfolding answer
+          judge-whole y = found y

@@ -13,8 +13,10 @@ use lib.Seq.{get_or-append-add, take-append_seam}
 use Rattle.words.specs.Word.{width, Wf}
 use Rattle.rules.specs.Refusals.{Decided}
 use Rattle.sequence.specs.Operators.{Unary, Binary, unary_code, binary_code}
-use Rattle.file.specs.declared.ReadAnswer.{ReadAnswer}
-use Rattle.file.specs.declared.ReadAnswer.TheVariants.{Parts as AllParts, Broken, Room}
+use Rattle.std.proofs.Common.{Result, Ok, Err}
+use Rattle.file.specs.declared.Parts.{Parts as Numbers}
+use Rattle.file.specs.declared.ReadError.{ReadError}
+use Rattle.file.specs.declared.ReadError.TheVariants.{Broken, Room}
 use Rattle.file.specs.Format.{FileSession, Parts, session_bytes, file_bytes, GoodSession, GoodUnary, GoodBinary, Good, GoodFile}
 use Rattle.reading.specs.Reading.{one, section, Got, got, bad}
 use Rattle.names.specs.Names.{name_bytes, whole_names}
@@ -149,21 +151,33 @@ binary-once p g i j h k e = (each_at GoodBinary 0 p.binary [] g.binary j k).1 (M
 
 -- ---- any two allowed results are equal
 
-said-one : (a b : ReadAnswer) → said_read a ≡ said_read b → a ≡ b
-said-one (AllParts r m n u v c d) (AllParts r' m' n' u' v' c' d') e =
-    let t : r ∷ m ∷ n ∷ u ∷ v ∷ c ∷ d ∷ [] ≡ r' ∷ m' ∷ n' ∷ u' ∷ v' ∷ c' ∷ d' ∷ [] = ap (λ (s : Said). s.values) e in
-    cc
-said-one (AllParts r m n u v c d) (Broken o) e = let t : ◌≡◌ {A = ℕ} 0 8 = ap (λ (s : Said). s.number) e in absurd (omega arith)
-said-one (AllParts r m n u v c d) Room e = let t : ◌≡◌ {A = ℕ} 0 3 = ap (λ (s : Said). s.number) e in absurd (omega arith)
-said-one (Broken o) (AllParts r m n u v c d) e = let t : ◌≡◌ {A = ℕ} 8 0 = ap (λ (s : Said). s.number) e in absurd (omega arith)
-said-one (Broken o) (Broken o') e = let t : o ∷ [] ≡ o' ∷ [] = ap (λ (s : Said). s.values) e in cc
-said-one (Broken o) Room e = let t : ◌≡◌ {A = ℕ} 8 3 = ap (λ (s : Said). s.number) e in absurd (omega arith)
-said-one Room (AllParts r m n u v c d) e = let t : ◌≡◌ {A = ℕ} 3 0 = ap (λ (s : Said). s.number) e in absurd (omega arith)
-said-one Room (Broken o) e = let t : ◌≡◌ {A = ℕ} 3 8 = ap (λ (s : Said). s.number) e in absurd (omega arith)
-said-one Room Room e = refl
+-- the numbers of the parts that these values say
+numbers : List ℕ → Numbers
+numbers l =
+    record {
+      sessions = get_or l 0 0;
+      propositions = get_or l 1 0;
+      names = get_or l 2 0;
+      unary = get_or l 3 0;
+      binary = get_or l 4 0;
+      constants = get_or l 5 0;
+      bound = get_or l 6 0;
+    }
+
+said-one : (a b : Result Numbers ReadError) → said_read a ≡ said_read b → a ≡ b
+unfolding numbers
+said-one (Ok n) (Ok m) e = ap (λ (s : Said). Ok (numbers s.values)) e
+said-one (Ok n) (Err (Broken o)) e = let t : ◌≡◌ {A = ℕ} 0 8 = ap (λ (s : Said). s.number) e in absurd (omega arith)
+said-one (Ok n) (Err Room) e = let t : ◌≡◌ {A = ℕ} 0 3 = ap (λ (s : Said). s.number) e in absurd (omega arith)
+said-one (Err (Broken o)) (Ok n) e = let t : ◌≡◌ {A = ℕ} 8 0 = ap (λ (s : Said). s.number) e in absurd (omega arith)
+said-one (Err (Broken o)) (Err (Broken o')) e = let t : o ∷ [] ≡ o' ∷ [] = ap (λ (s : Said). s.values) e in cc
+said-one (Err (Broken o)) (Err Room) e = let t : ◌≡◌ {A = ℕ} 8 3 = ap (λ (s : Said). s.number) e in absurd (omega arith)
+said-one (Err Room) (Ok n) e = let t : ◌≡◌ {A = ℕ} 3 0 = ap (λ (s : Said). s.number) e in absurd (omega arith)
+said-one (Err Room) (Err (Broken o)) e = let t : ◌≡◌ {A = ℕ} 3 8 = ap (λ (s : Said). s.number) e in absurd (omega arith)
+said-one (Err Room) (Err Room) e = refl
 
 -- `read`: the answer and the later contents of all five lent slices
-pub read-unique : (file : List ℕ) (l : Lent) (a b : ReadAnswer) (m n u v w m' n' u' v' w' : List ℕ) → read_after (said_read a) m n u v w ≡ read_of file l
+pub read-unique : (file : List ℕ) (l : Lent) (a b : Result Numbers ReadError) (m n u v w m' n' u' v' w' : List ℕ) → read_after (said_read a) m n u v w ≡ read_of file l
     → read_after (said_read b) m' n' u' v' w' ≡ read_of file l
     → (a ≡ b) × (lent m n u v w ≡ lent m' n' u' v' w')
 read-unique file l a b m n u v w m' n' u' v' w' p q =

@@ -10,12 +10,10 @@ fn fill_bytes(to: &mut [u8], file: &[u8], at: usize, stride: usize, n: usize)
     requires { (1 ≤ stride) × (n ≤ length to.old) × (at + n * stride ≤ length file.now) }
     ensures { to.new ≡ sets to.old 0 (strided stride n (drop at file.now)) }
 {
-    let mut i: usize = 0;
     let mut p = at;
-    while i < n {
+    for i in 0..n {
         to[i] = file[p];
         p += stride;
-        i += 1;
     }
 }
 
@@ -24,12 +22,8 @@ fn fill_session(to: &mut [u64], k: usize, file: &[u8], at: usize, m: usize)
     requires { (k + m ≤ length to.old) × (at + 8 * m ≤ length file.now) }
     ensures { to.new ≡ sets to.old k (words_at m (drop at file.now)) }
 {
-    let mut i: usize = 0;
-    let mut p = at;
-    while i < m {
-        to[k + i] = word_from(file, p);
-        p += 8;
-        i += 1;
+    for i in 0..m {
+        to[k + i] = word_from(file, at + 8 * i);
     }
 }
 
@@ -38,14 +32,12 @@ fn fill_words(to: &mut [u64], file: &[u8], at: usize, m: usize, n: usize)
     requires { (m * n ≤ length to.old) × (at + n * (2 + 8 * m) ≤ length file.now) }
     ensures { to.new ≡ sets to.old 0 (session_words m n (drop at file.now)) }
 {
-    let mut i: usize = 0;
     let mut k: usize = 0;
     let mut p = at;
-    while i < n {
+    for _ in 0..n {
         fill_session(to, k, file, p + 2, m);
         p = p + 2 + 8 * m;
         k += m;
-        i += 1;
     }
 }
 

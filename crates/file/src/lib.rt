@@ -43,6 +43,7 @@ pub enum ReadError {
 
 impl From<Broken> for ReadError {
     ghost use Rattle.std.specs.Prelude.{◌≡◌};
+    ghost use Rattle.file.specs.declared.ReadError.{ReadError};
 
     ghost from_gives = { λ broken e. e ≡ ReadError.Broken broken.0 };
 

@@ -1,5 +1,5 @@
 // The nodes of four lent slices, and the rule of a node list (number 9), tested at each listed node and at the root.
-ghost use Rattle.std.specs.Prelude.{◌≡◌, [], ◌∷◌, min};
+ghost use Rattle.std.specs.Prelude.{◌≡◌, [], ◌∷◌};
 ghost use Rattle.formula.specs.Nodes.{node_at};
 ghost use Rattle.rules.specs.Refusals.{Decided, number_of};
 ghost use Rattle.formula.specs.Kinds.{node, node_of, count_of, nodes};
@@ -11,23 +11,13 @@ use operators::Group;
 use rules::kinds::Place;
 use rules::refusal::Refusal;
 
-fn smaller(a: usize, b: usize) -> usize
-    ensures { result ≡ min a b }
-{
-    if b < a {
-        return b;
-    }
-    a
-}
-
 // How many nodes four slices have: as many as the shortest.
 pub fn count(codes: &[u8], lefts: &[u16], rights: &[u16], sizes: &[u8]) -> usize
     ensures { result ≡ count_of codes.now lefts.now rights.now sizes.now }
 {
-    smaller(
-        codes.len(),
-        smaller(lefts.len(), smaller(rights.len(), sizes.len())),
-    )
+    codes
+        .len()
+        .min(lefts.len().min(rights.len().min(sizes.len())))
 }
 
 fn node_of(code: u8, left: u16, right: u16, size: u8) -> Node
@@ -128,12 +118,9 @@ fn node_good(
 fn nodes_good(m: usize, codes: &[u8], lefts: &[u16], rights: &[u16], sizes: &[u8], n: usize) -> bool
     ensures { AllJudged m (nodes codes.now lefts.now rights.now sizes.now) n result }
 {
-    let mut i: usize = 0;
-    while i < n {
+    for i in 0..n {
         let node = node_at(codes, lefts, rights, sizes, i);
-        if node_good(m, codes, lefts, rights, sizes, i, node) {
-            i += 1;
-        } else {
+        if !node_good(m, codes, lefts, rights, sizes, i, node) {
             return false;
         }
     }

@@ -9,14 +9,14 @@ use rules::kinds::Proposition;
 pub fn proposition_rows(r: usize, m: usize, words: &[u64], p: Proposition, rows: &mut [u64])
     ensures { PropositionOver r m words.now p.0 rows.old rows.new }
 {
-    let mut at = p.0 as usize;
+    let p = p.0 as usize;
     if rules::SESSIONS < r {
         return;
     }
     if rules::PROPOSITIONS < m {
         return;
     }
-    if m <= at {
+    if m <= p {
         return;
     }
     if words.len() < m * r {
@@ -25,11 +25,8 @@ pub fn proposition_rows(r: usize, m: usize, words: &[u64], p: Proposition, rows:
     if rows.len() < r {
         return;
     }
-    let mut j: usize = 0;
-    while j < r {
-        rows[j] = words[at];
-        at += m;
-        j += 1;
+    for j in 0..r {
+        rows[j] = words[j * m + p];
     }
 }
 
@@ -39,11 +36,7 @@ pub fn false_rows(r: usize, rows: &mut [u64])
     if rows.len() < r {
         return;
     }
-    let mut j: usize = 0;
-    while j < r {
-        rows[j] = 0;
-        j += 1;
-    }
+    rows[..r].fill(0);
 }
 
 pub fn true_rows(r: usize, masks: &[u64], rows: &mut [u64])
@@ -55,9 +48,7 @@ pub fn true_rows(r: usize, masks: &[u64], rows: &mut [u64])
     if rows.len() < r {
         return;
     }
-    let mut j: usize = 0;
-    while j < r {
+    for j in 0..r {
         rows[j] = words::places(masks[j]);
-        j += 1;
     }
 }

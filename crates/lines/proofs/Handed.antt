@@ -10,8 +10,10 @@ use lib.ListN.{length, take, drop, replicate, length-append, length-map, length-
 use lib.Dec.{leb}
 use lib.Seq.{sets-eq, length-take-le}
 use borrow.Author.Tests.{le-leb}
-use Rattle.file.specs.declared.ReadAnswer.{ReadAnswer}
-use Rattle.file.specs.declared.ReadAnswer.TheVariants.{Parts as AllParts, Broken, Room}
+use Rattle.std.proofs.Common.{Result, Ok, Err}
+use Rattle.file.specs.declared.Parts.{Parts as Numbers}
+use Rattle.file.specs.declared.ReadError.{ReadError}
+use Rattle.file.specs.declared.ReadError.TheVariants.{Broken, Room}
 use Rattle.file.specs.Format.{Parts, Good, file_bytes}
 use Rattle.reading.specs.Reading.{section, Got, got, bad}
 use Rattle.names.specs.Names.{name_bytes, whole_names}
@@ -105,7 +107,7 @@ values e = ap (λ (x : Said). x.values) e
 number : {a b : Said} → a ≡ b → a.number ≡ b.number
 number e = ap (λ (x : Said). x.number) e
 
-module _ (file : List ℕ) (bytes : Bytes file) (l : Lent) (wide : Wide l) (a : ReadAnswer) (marks lengths words unary binary : List ℕ)
+module _ (file : List ℕ) (bytes : Bytes file) (l : Lent) (wide : Wide l) (a : Result Numbers ReadError) (marks lengths words unary binary : List ℕ)
     (e : read_after (said_read a) marks lengths words unary binary ≡ read_of file l) where
   -- a good file's parts are handed out
   all-handed : (p : Parts) (next : ℕ) → Good p → whole_file file ≡ got p next → read_after (said_read a) marks lengths words unary binary ≡ handed_out p l
@@ -114,31 +116,31 @@ module _ (file : List ℕ) (bytes : Bytes file) (l : Lent) (wide : Wide l) (a : 
       e ∙ ap (λ (w : Got Parts). outcome w l) i ∙ room
 
   -- a broken file
-  pub broken-at : {o : ℕ} → a ≡ Broken o → whole_file file ≡ bad o
+  pub broken-at : {o : ℕ} → a ≡ Err (Broken o) → whole_file file ≡ bad o
   broken-at {o} q = go (whole_file file) refl
     where
       go : (w : Got Parts) → whole_file file ≡ w → whole_file file ≡ bad o
       go (bad o') i =
-          let x : said_read (Broken o) ≡ record { number = 8; values = o' ∷ [] } = ap said_read (sym q) ∙ ap (λ (x : After). x.answer) e ∙ ap (λ (g : Got Parts). (outcome g l).answer) i in
+          let x : said_read (Err (Broken o)) ≡ record { number = 8; values = o' ∷ [] } = ap said_read (sym q) ∙ ap (λ (x : After). x.answer) e ∙ ap (λ (g : Got Parts). (outcome g l).answer) i in
           let v = values x in
           let h : o ≡ o' = cc v in
           i ∙ ap bad (sym h)
       go (got p next) i =
           let g = (passed-is-good file bytes p next i).0 in
-          let x : said_read (Broken o) ≡ (handed_out p l).answer = ap said_read (sym q) ∙ ap (λ (x : After). x.answer) (all-handed p next g i) in
+          let x : said_read (Err (Broken o)) ≡ (handed_out p l).answer = ap said_read (sym q) ∙ ap (λ (x : After). x.answer) (all-handed p next g i) in
           absurd (omega (arith, number x))
 
   -- there is always room
-  pub never-room : a ≡ Room → ⊥
+  pub never-room : a ≡ Err Room → ⊥
   never-room q = go (whole_file file) refl
     where
       go : (w : Got Parts) → whole_file file ≡ w → ⊥
       go (bad o') i =
-          let x : said_read Room ≡ record { number = 8; values = o' ∷ [] } = ap said_read (sym q) ∙ ap (λ (x : After). x.answer) e ∙ ap (λ (g : Got Parts). (outcome g l).answer) i in
+          let x : said_read (Err Room) ≡ record { number = 8; values = o' ∷ [] } = ap said_read (sym q) ∙ ap (λ (x : After). x.answer) e ∙ ap (λ (g : Got Parts). (outcome g l).answer) i in
           omega (arith, number x)
       go (got p next) i =
           let g = (passed-is-good file bytes p next i).0 in
-          let x : said_read Room ≡ (handed_out p l).answer = ap said_read (sym q) ∙ ap (λ (x : After). x.answer) (all-handed p next g i) in
+          let x : said_read (Err Room) ≡ (handed_out p l).answer = ap said_read (sym q) ∙ ap (λ (x : After). x.answer) (all-handed p next g i) in
           omega (arith, number x)
 
   -- a good file: its parts, and where they are
@@ -161,19 +163,27 @@ module _ (file : List ℕ) (bytes : Bytes file) (l : Lent) (wide : Wide l) (a : 
     pub all-unary : Part parts.unary unary u
     pub all-binary : Part parts.binary binary b
 
-  pub handed : {r m n u b constants bound : ℕ} → a ≡ AllParts r m n u b constants bound → Handed r m n u b constants bound
-  handed {r} {m} {n} {u} {b} {constants} {bound} q = go (whole_file file) refl
+  pub handed : {k : Numbers} → a ≡ Ok k → Handed k.sessions k.propositions k.names k.unary k.binary k.constants k.bound
+  handed {k} q = go (whole_file file) refl
     where
-      go : (w : Got Parts) → whole_file file ≡ w → Handed r m n u b constants bound
+      r = k.sessions
+      m = k.propositions
+      n = k.names
+      u = k.unary
+      b = k.binary
+      constants = k.constants
+      bound = k.bound
+
+      go : (w : Got Parts) → whole_file file ≡ w → Handed k.sessions k.propositions k.names k.unary k.binary k.constants k.bound
       go (bad o') i =
-          let x : said_read (AllParts r m n u b constants bound) ≡ record { number = 8; values = o' ∷ [] } = ap said_read (sym q) ∙ ap (λ (x : After). x.answer) e ∙ ap (λ
+          let x : said_read (Ok k) ≡ record { number = 8; values = o' ∷ [] } = ap said_read (sym q) ∙ ap (λ (x : After). x.answer) e ∙ ap (λ
           (g : Got Parts). (outcome g l).answer) i in
           absurd (omega (arith, number x))
       go (got p next) i =
           let t = passed-is-good file bytes p next i in
           let g = t.0 in
           let y : read_after (said_read a) marks lengths words unary binary ≡ handed_out p l = all-handed p next g i in
-          let x : said_read (AllParts r m n u b constants bound) ≡ (handed_out p l).answer = ap said_read (sym q) ∙ ap (λ (x : After). x.answer) y in
+          let x : said_read (Ok k) ≡ (handed_out p l).answer = ap said_read (sym q) ∙ ap (λ (x : After). x.answer) y in
           let v = values x in
           let hr : r ≡ length p.sessions = cc v in
           let hm : m ≡ length p.names = cc v in
@@ -249,7 +259,7 @@ module _ (file : List ℕ) (bytes : Bytes file) (l : Lent) (wide : Wide l) (a : 
           holds = t.1;
         }
 
-  pub broken-lines : {o : ℕ} (room : ℕ) → a ≡ Broken o → {old new : List ℕ} {x : ℕ} → 512 ≤ length old → Wrote old 0 (broken_line o) new x → LinesOf file room old x new
+  pub broken-lines : {o : ℕ} (room : ℕ) → a ≡ Err (Broken o) → {old new : List ℕ} {x : ℕ} → 512 ≤ length old → Wrote old 0 (broken_line o) new x → LinesOf file room old x new
   broken-lines {o} room q {old} {new} {x} h w =
       let t = over-start w (omega (arith, broken-short o)) in
       record {

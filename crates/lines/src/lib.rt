@@ -7,7 +7,7 @@ ghost use Rattle.walk.specs.Input.{input_of};
 ghost use Rattle.lines.specs.Bench.{longest_lines, LinesOf};
 ghost use Rattle.lines.specs.Inner.{Showable, ShownBy, GivenBy, WrittenFor};
 
-use file::ReadAnswer;
+use file::ReadError;
 use formula::kinds::Node;
 use search::SearchAnswer;
 use text::PrintError;
@@ -131,29 +131,21 @@ pub fn of_file(file: &[u8], room: usize, text: &mut [u8; LONGEST]) -> usize
         &mut binary,
     );
     match read {
-        ReadAnswer::Parts {
-            sessions,
-            propositions,
-            names,
-            unary: u,
-            binary: b,
-            constants,
-            bound,
-        } => searched(
-            &file[..names],
-            sessions,
-            propositions,
-            bound as usize,
+        Ok(parts) => searched(
+            &file[..parts.names],
+            parts.sessions,
+            parts.propositions,
+            parts.bound as usize,
             room,
-            constants,
-            &marks[..sessions],
-            &lengths[..sessions],
-            &words[..propositions * sessions],
-            &unary[..u],
-            &binary[..b],
+            parts.constants,
+            &marks[..parts.sessions],
+            &lengths[..parts.sessions],
+            &words[..parts.propositions * parts.sessions],
+            &unary[..parts.unary],
+            &binary[..parts.binary],
             text,
         ),
-        ReadAnswer::Broken(at) => line::broken(text, at),
-        ReadAnswer::Room => line::refused(text, 3),
+        Err(ReadError::Broken(at)) => line::broken(text, at),
+        Err(ReadError::Room) => line::refused(text, 3),
     }
 }

@@ -9,9 +9,6 @@ use lib.Seq.{get_or-set_same, get_or-set_other}
 use borrow.Author.Count.{below_more}
 use Rattle.loops.specs.Loops.{Filled}
 
-pub filled_none : {P : ℕ → ℕ → Type 0} (old : List ℕ) → Filled 0 old P old
-filled_none old = record { long = refl; words = λ j h. absurd (omega arith); rest = λ j h. refl }
-
 pub filled_more : {P : ℕ → ℕ → Type 0} {old new : List ℕ} {j w : ℕ} → j < length old → Filled j old P new → P j w → Filled (j + 1) old P (set new j w)
 filled_more {P} {old} {new} {j} {w} h f p = record {
   long = length-set new j w ∙ f.long;
@@ -19,10 +16,6 @@ filled_more {P} {old} {new} {j} {w} h f p = record {
       (subst (P j) (sym (get_or-set_same new j w 0 (omega (arith, f.long)))) p);
   rest = λ t l. get_or-set_other new j t w 0 (λ e. omega arith) ∙ f.rest t (omega arith);
 }
-
--- a loop that has come to the end has filled all
-pub filled-all : {P : ℕ → ℕ → Type 0} {old new : List ℕ} {j r : ℕ} → j ≤ r → r ≤ j → Filled j old P new → Filled r old P new
-filled-all {P} {old} {new} {j} {r} a b f = let e : j ≡ r = omega arith in subst (λ (n : ℕ). Filled n old P new) e f
 
 -- the same words by another reading
 pub filled-as : {P Q : ℕ → ℕ → Type 0} {old new : List ℕ} {r : ℕ} → ((j w : ℕ) → j < r → P j w → Q j w) → Filled r old P new → Filled r old Q new

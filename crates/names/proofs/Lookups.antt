@@ -10,7 +10,7 @@ use native.Mathlib.Numerals.{add-one}
 use native.Mathlib.Omega.{arith}
 use lib.ListN.{length, get_or, take, drop, length-drop, drop_of_length-le, get_or-eq_default}
 use lib.Seq.{take-nil, take_all}
-use Rattle.names.specs.declared.lookup.FoundName.TheVariants.{At, Nothing}
+use Rattle.std.proofs.Common.{Some, None}
 use Rattle.names.specs.Names.{same_bytes}
 use Rattle.names.specs.declared.lookup.Span.{Span}
 use Rattle.names.specs.Lookup.{names_from, walk_end, LettersAt, find_from, found_in}
@@ -26,9 +26,6 @@ take-clipped n l =
     ]
 
 module _ (file : List ℕ) where
-  pub empty-start : (p : ℕ) → length file ≡ 0 → 0 ≡ min (length file) (walk_end file p 1)
-  empty-start p e = omega arith
-
   pub first-start : (length file ≡ 0 → ⊥) → 1 ≡ min (length file) (walk_end file 0 1)
   unfolding walk_end
   first-start n = omega arith
@@ -70,7 +67,7 @@ module _ (file : List ℕ) where
   pub span-order : (p : ℕ) {s : Span} → LettersAt file p s → (s.from ≤ s.to) × (s.to ≤ length file)
   span-order p {s} l = let e = end-next p in let f = l.from in let t = l.to in (omega arith, omega arith)
 
-  pub nothing-there : (word : List ℕ) → length file ≡ 0 → Nothing ≡ found_in file word
+  pub nothing-there : (word : List ℕ) → length file ≡ 0 → None ≡ found_in file word
   unfolding find_from
   nothing-there word e =
       let z : get_or file 0 0 ≡ 0 = get_or-eq_default file 0 {n = 0} (omega arith) in
@@ -89,7 +86,7 @@ module _ (file word : List ℕ) (count : ℕ) where
 
   module _ {j : ℕ} (r : Missed file word count j) where
     missed-step : j < count → find_from j word (names_from file (count - j) (walk_end file j 1))
-        ≡ cond (same_bytes word (take (get_or file (walk_end file j 1) 0) (drop (walk_end file j 1 + 1) file))) (At j)
+        ≡ cond (same_bytes word (take (get_or file (walk_end file j 1) 0) (drop (walk_end file j 1 + 1) file))) (Some j)
         (find_from (j + 1) word (names_from file (count - (j + 1)) (walk_end file (j + 1) 1)))
     unfolding find_from
     missed-step h =
@@ -99,14 +96,14 @@ module _ (file word : List ℕ) (count : ℕ) where
     pub missed-turn : j < count → same_bytes word (take (get_or file (walk_end file j 1) 0) (drop (walk_end file j 1 + 1) file)) ≡ false → Missed file word count (j + 1)
     missed-turn h e =
         let b = find_from (j + 1) word (names_from file (count - (j + 1)) (walk_end file (j + 1) 1)) in
-        record { upto = omega arith; is = sym (ap (λ (t : Bool). cond t (At j) b) e) ∙ sym (missed-step h) ∙ r.is }
+        record { upto = omega arith; is = sym (ap (λ (t : Bool). cond t (Some j) b) e) ∙ sym (missed-step h) ∙ r.is }
 
-    pub missed_here : j < count → same_bytes word (take (get_or file (walk_end file j 1) 0) (drop (walk_end file j 1 + 1) file)) ≡ true → At j ≡ find_from 0 word (names_from file count 1)
+    pub missed_here : j < count → same_bytes word (take (get_or file (walk_end file j 1) 0) (drop (walk_end file j 1 + 1) file)) ≡ true → Some j ≡ find_from 0 word (names_from file count 1)
     missed_here h e =
         let b = find_from (j + 1) word (names_from file (count - (j + 1)) (walk_end file (j + 1) 1)) in
-        sym (ap (λ (t : Bool). cond t (At j) b) e) ∙ sym (missed-step h) ∙ r.is
+        sym (ap (λ (t : Bool). cond t (Some j) b) e) ∙ sym (missed-step h) ∙ r.is
 
-    pub missed-end : count ≤ j → Nothing ≡ find_from 0 word (names_from file count 1)
+    pub missed-end : count ≤ j → None ≡ find_from 0 word (names_from file count 1)
     unfolding find_from
     missed-end h =
         let z : count - j ≡ zero = omega arith in

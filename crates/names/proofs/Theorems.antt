@@ -9,8 +9,8 @@ use lib.ListN.{length}
 use Rattle.rules.specs.Answers.{Said}
 use Rattle.reading.specs.Reading.{section, got}
 use Rattle.reading.proofs.Ends.{end-sound, end-complete, whole_run, run-whole}
-use Rattle.names.specs.declared.NamesAnswer.{NamesAnswer}
-use Rattle.names.specs.declared.NamesAnswer.TheVariants.{Names, Broken as NamesBroken}
+use Rattle.std.proofs.Common.{Result, Ok, Err}
+use Rattle.reading.specs.declared.Broken.{Broken}
 use Rattle.names.specs.Names.{name_bytes, GoodList, names_up_to, whole_names}
 use Rattle.rules.specs.Limits.{most_propositions}
 use Rattle.names.specs.declared.lookup.Span.{Span}
@@ -31,14 +31,17 @@ names-accepts file ns = (
       (record { some = g.0; few = g.1; fits = g.2; spans = whole_run file (section name_bytes ns) t.1 })),
 )
 
-names-one : (a b : NamesAnswer) → said_names a ≡ said_names b → a ≡ b
-names-one (Names k) (Names k') e = let t : k ∷ [] ≡ k' ∷ [] = ap (λ (s : Said). s.values) e in cc
-names-one (Names k) (NamesBroken o) e = let t : ◌≡◌ {A = ℕ} 0 8 = ap (λ (s : Said). s.number) e in absurd (omega arith)
-names-one (NamesBroken o) (Names k) e = let t : ◌≡◌ {A = ℕ} 8 0 = ap (λ (s : Said). s.number) e in absurd (omega arith)
-names-one (NamesBroken o) (NamesBroken o') e = let t : o ∷ [] ≡ o' ∷ [] = ap (λ (s : Said). s.values) e in cc
+names-one : (a b : Result ℕ Broken) → said_names a ≡ said_names b → a ≡ b
+names-one (Ok k) (Ok j) e = let t : k ∷ [] ≡ j ∷ [] = ap (λ (s : Said). s.values) e in cc
+names-one (Ok k) (Err o) e = let t : ◌≡◌ {A = ℕ} 0 8 = ap (λ (s : Said). s.number) e in absurd (omega arith)
+names-one (Err o) (Ok k) e = let t : ◌≡◌ {A = ℕ} 8 0 = ap (λ (s : Said). s.number) e in absurd (omega arith)
+names-one (Err o) (Err q) e =
+    let t : o.0 ∷ [] ≡ q.0 ∷ [] = ap (λ (s : Said). s.values) e in
+    let u : o.0 ≡ q.0 = cc in
+    ap (λ (x : ℕ). Err (record { 0 = x })) u
 
 -- the judge of a names section
-pub names-unique : (file : List ℕ) (a b : NamesAnswer) → said_names a ≡ names_said file → said_names b ≡ names_said file → a ≡ b
+pub names-unique : (file : List ℕ) (a b : Result ℕ Broken) → said_names a ≡ names_said file → said_names b ≡ names_said file → a ≡ b
 names-unique file a b p q = names-one a b (p ∙ sym q)
 
 -- a name's letters

@@ -12,16 +12,14 @@ pub(crate) fn known_name(file: &[u8], at: usize, n: usize, count: usize) -> bool
     ensures { result ≡ is_in same_bytes (take n (drop at file.now)) (names_from file.now count 1) }
 {
     let end = at + n;
-    let mut j: usize = 0;
     let mut p: usize = 1;
-    while j < count {
+    for _ in 0..count {
         let from = p + 1;
         let to = from + file[p] as usize;
         if same(&file[at..end], &file[from..to]) {
             return true;
         }
         p = to;
-        j += 1;
     }
     false
 }

@@ -11,7 +11,10 @@ use Rattle.rules.specs.Refusals.{Decided}
 use Rattle.session.specs.Data.{data_rows}
 use Rattle.formula.specs.Nodes.{Node}
 use Rattle.verdict.specs.declared.Verdict.{Verdict}
-use Rattle.verdict.specs.declared.Verdict.TheVariants.{Accepted, Disagrees, Refused}
+use Rattle.verdict.specs.declared.Verdict.TheVariants.{Accepted, Disagrees}
+use Rattle.std.specs.Prelude.{Result, Ok, Err}
+use Rattle.rules.specs.declared.refusal.Refusal.{Refusal}
+use Rattle.rules.specs.Refusals.{refusal_number}
 use Rattle.verdict.specs.Check as core
 use Rattle.verdict.specs.Check.{said_verdict, CheckAnswer}
 use Rattle.session.specs.Recording.{Recording, recording}
@@ -57,10 +60,10 @@ module _ (i : Recording) (l : List Node) (root : Node) (old : List ℕ) (h : out
   answered-rows k (inr (p, d)) = inr (p, inr (λ g. omega arith, d))
 
   module _ (new : List ℕ) where
-    abbrev Does : Verdict → Type 0
+    abbrev Does : Result Verdict Refusal → Type 0
     Does v = CheckAnswer i l root (said_verdict v) → new ≡ written (said_words (said_verdict v)) old → CheckDone i l root old (returned_of (said_verdict v)) new
 
-    pub check-long : (v : Verdict) → Does v
-    check-long Accepted a e = record { number = answered-rows 0 a.number; refused = λ f. absurd (f refl); passed = λ _. (Accepted, a, e) }
-    check-long (Disagrees j) a e = record { number = answered-rows 0 a.number; refused = λ f. absurd (f refl); passed = λ _. (Disagrees j, a, e) }
-    check-long (Refused k) a e = record { number = answered-rows k a.number; refused = λ _. e; passed = λ _. (Refused k, a, e) }
+    pub check-long : (v : Result Verdict Refusal) → Does v
+    check-long (Ok Accepted) a e = record { number = answered-rows 0 a.number; refused = λ f. absurd (f refl); passed = λ _. (Ok Accepted, a, e) }
+    check-long (Ok (Disagrees j)) a e = record { number = answered-rows 0 a.number; refused = λ f. absurd (f refl); passed = λ _. (Ok (Disagrees j), a, e) }
+    check-long (Err k) a e = record { number = answered-rows (refusal_number k) a.number; refused = λ _. e; passed = λ _. (Err k, a, e) }

@@ -8,6 +8,8 @@ use Rattle.rules.proofs.Refusals.{decided-unique}
 use Rattle.formula.specs.Nodes.{Node}
 use Rattle.session.specs.Recording.{Recording}
 use Rattle.verdict.specs.declared.Verdict.{Verdict}
+use Rattle.std.specs.Prelude.{Result}
+use Rattle.rules.specs.declared.refusal.Refusal.{Refusal}
 use Rattle.verdict.specs.Check.{said_verdict}
 use Rattle.verdict.proofs.Unique.{check-unique}
 use Rattle.out.specs.Out.{written, said_words}
@@ -21,6 +23,6 @@ check-done-unique i k root old m n x y p q =
       | yes e ↦
           let a = p.passed e in
           let b = q.passed (sym o ∙ e) in
-          (o, a.2 ∙ ap (λ (v : Verdict). written (said_words (said_verdict v)) old) (check-unique i k root a.0 b.0 a.1 b.1) ∙ sym b.2)
+          (o, a.2 ∙ ap (λ (v : Result Verdict Refusal). written (said_words (said_verdict v)) old) (check-unique i k root a.0 b.0 a.1 b.1) ∙ sym b.2)
       | no e ↦ (o, p.refused e ∙ sym (q.refused (λ z. e (o ∙ z))))
     ]

@@ -1,26 +1,28 @@
 -- The comparison at the boundary: the matrix at a place is the first of what is lent from there on.
 -- Assumes nothing.
 use mathlib.Core.Path.{◌≡◌, refl, sym, ap, ◌∙◌}
-use mathlib.Core.Logic.{◌⊎◌, inl, inr, ⊎_elim}
-use mathlib.Core.List.{List, [], ◌∷◌}
+use mathlib.Core.Logic.{inl, inr, ⊎_elim}
+use mathlib.Core.List.{List, []}
 use Prim.Native.Nat.{ℕ, ◌+◌, ◌-◌, ◌*◌, ◌/◌, ◌≤◌, ◌<◌}
 use native.Mathlib.Omega.{arith}
 use native.Mathlib.Nat.{zero-mul, div-lt_iff_lt-mul, lt_of_not-le}
 use native.Mathlib.Decide.{dec_le, ℕ_discrete}
 use lib.ListN.{length, get_or, take, drop}
+use Rattle.std.specs.Prelude.{Result, Ok, Err}
 use Rattle.rules.specs.Limits.{most_sessions, Outside}
-use Rattle.rules.specs.Refusals.{Decided}
-use Rattle.rules.proofs.Refusals.{decided-unique}
+use Rattle.rules.specs.Refusals.{Decided, refusal_number}
+use Rattle.rules.specs.declared.refusal.Refusal.{Refusal}
+use Rattle.rules.proofs.Refusals.{decided-unique, refusal-positive}
 use Rattle.rules.specs.Answers.{Said}
 use Rattle.comparison.specs.declared.Compared.{Compared}
-use Rattle.comparison.specs.declared.Compared.TheVariants.{Equal, Differs, Refused}
-use Rattle.comparison.specs.Compare.{Same, equal_said, differs_said, said_compared, compare_rows_with, Compares}
-use Rattle.comparison.proofs.Unique.{equal-one, differs-one, not_none, outcome-unique}
+use Rattle.comparison.specs.declared.Compared.TheVariants.{Equal, Differs}
+use Rattle.comparison.specs.Compare.{Same, said_compared, compare_rows_with, CompareOutcome, Compares}
+use Rattle.comparison.proofs.Unique.{equal-one, differs-one, outcome-unique}
 use Rattle.rows.proofs.Parts.{part_at, part-long}
 use Rattle.leaves.proofs.Products.{next_row}
 use Rattle.out.specs.Out.{out_words, written, said_words}
 use Rattle.out_compare.specs.Compare.{compare_rows, CompareDone}
-use Rattle.out_compare.specs.Inner.{length_rows, ComparePut}
+use Rattle.out_compare.specs.Inner.{length_rows, Answers, put_said}
 
 -- ---- what is refused
 
@@ -58,22 +60,22 @@ module _ (r place matrices words out : ℕ) where
       )
 
 -- where nothing is refused
-pub record Lent (r place : ℕ) (matrices words old : List ℕ) : Type 0 where
+pub record Lent (r place : ℕ) (matrices words : List ℕ) (out : ℕ) : Type 0 where
   pub low : 1 ≤ r
   pub high : r ≤ most_sessions
-  pub room : out_words ≤ length old
+  pub room : out_words ≤ out
   pub there : place * r + r ≤ length matrices
   pub long : r ≤ length words
 
-pub lent : (r place : ℕ) (matrices words old : List ℕ) → Decided (length_rows r place (length matrices) (length words) (length old)) 0 → Lent r place matrices words old
+pub lent : (r place : ℕ) (matrices words : List ℕ) (out : ℕ) → Decided (length_rows r place (length matrices) (length words) out) 0 → Lent r place matrices words out
 unfolding Decided
-lent r place matrices words old (inl d) = absurd (omega (arith, d.1))
-lent r place matrices words old (inr (a, inl d)) = absurd (omega (arith, d.1))
-lent r place matrices words old (inr (a, inr (b, inl d))) = absurd (omega (arith, d.1))
-lent r place matrices words old (inr (a, inr (b, inr (c, d)))) = record {
+lent r place matrices words out (inl d) = absurd (omega (arith, d.1))
+lent r place matrices words out (inr (a, inl d)) = absurd (omega (arith, d.1))
+lent r place matrices words out (inr (a, inr (b, inl d))) = absurd (omega (arith, d.1))
+lent r place matrices words out (inr (a, inr (b, inr (c, d)))) = record {
   low = not-below 1 r (λ h. a (inl h));
   high = not-below r most_sessions (λ h. a (inr h));
-  room = not-below out_words (length old) b;
+  room = not-below out_words out b;
   there = (let z = not-below ((place + 1) * r) (length matrices) (λ h. c (inl h)) in omega (arith, next_row place r));
   long = not-below r (length words) (λ h. c (inr h));
 }
@@ -83,12 +85,12 @@ lent r place matrices words old (inr (a, inr (b, inr (c, d)))) = record {
 
 -- ---- what is answered
 
-module _ (r place : ℕ) (matrices words old : List ℕ) (d : Decided (length_rows r place (length matrices) (length words) (length old)) 0) where
+module _ (r place : ℕ) (matrices words : List ℕ) (out : ℕ) (d : Decided (length_rows r place (length matrices) (length words) out) 0) where
   abbrev from : List ℕ
   from = take (length matrices - place * r) (drop (place * r) matrices)
 
-  l : Lent r place matrices words old
-  l = lent r place matrices words old d
+  l : Lent r place matrices words out
+  l = lent r place matrices words out d
 
   -- a row of the first matrix from there on is one of the place's
   row-there : (j : ℕ) → j < r → get_or from (0 * r + j) 0 ≡ get_or matrices (place * r + j) 0
@@ -110,33 +112,19 @@ module _ (r place : ℕ) (matrices words old : List ℕ) (d : Decided (length_ro
     ),
   )
 
-  pub answered : (c : Compared) → Compares r 0 from words (said_compared c) → (returned : ℕ) (new : List ℕ) → ComparePut c place old returned new
-      → CompareDone r place matrices words old returned new
-  answered (Equal p) a returned new (e, w) = record {
-    number = rw e d;
-    refused = λ n. absurd (n e);
-    passed = λ _. (equal_said place, inl (same-there r (omega arith) (equal-one r 0 from words p a).0, refl), w);
-  }
-  answered (Differs j) a returned new (e, w) =
+  pub answered : (c : Compared) → Compares r 0 from words (said_compared (Ok c)) → CompareOutcome r place matrices words (put_said place c)
+  answered (Equal p) a = inl (same-there r (omega arith) (equal-one r 0 from words p a).0, refl)
+  answered (Differs j) a =
       let f = differs-one r 0 from words j a in
-      record {
-        number = rw e d;
-        refused = λ n. absurd (n e);
-        passed = λ _. (
-          differs_said j.0,
-          inr (
-            j.0,
-            record { there = f.there; differs = λ q. f.differs (q ∙ sym (row-there j.0 f.there)); before = same-there j.0 (omega (arith, f.there)) f.before },
-            refl,
-          ),
-          w,
-        );
-      }
-  answered (Refused k) a returned new w = absurd (not_none r 0 from words k a (decided-unique (compare_rows_with r 0 from words []) k 0 a.number good))
+      inr (
+        j.0,
+        record { there = f.there; differs = λ q. f.differs (q ∙ sym (row-there j.0 f.there)); before = same-there j.0 (omega (arith, f.there)) f.before },
+        refl,
+      )
 
-pub refused : (r place : ℕ) (matrices words old : List ℕ) (k : ℕ) → Decided (length_rows r place (length matrices) (length words) (length old)) k → (k ≡ 0 → ⊥)
-    → CompareDone r place matrices words old k old
-refused r place matrices words old k d n = record { number = d; refused = λ _. refl; passed = λ e. absurd (n e) }
+  pub answers : (result : Result Compared Refusal) → Compares r 0 from words (said_compared result) → Answers r place matrices words out result
+  answers (Ok c) a = record { number = d; room = l.room; outcome = answered c a }
+  answers (Err k) a = absurd (let e = decided-unique (compare_rows_with r 0 from words []) (refusal_number k) 0 a.number good in omega (arith, e, refusal-positive k))
 
 -- ---- any two results for the same input are equal
 

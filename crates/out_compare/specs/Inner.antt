@@ -1,6 +1,6 @@
 -- What private functions of this crate promise each other. No public contract cites this.
 -- Assumes nothing.
-use Rattle.std.specs.Prelude.{◌≡◌, ◌⊎◌, List, [], ◌∷◌, ℕ, ◌+◌, ◌*◌, ◌<◌, ◌≤◌, length, Result, Ok, Err, IfOk}
+use Rattle.std.specs.Prelude.{◌⊎◌, List, [], ◌∷◌, ℕ, ◌+◌, ◌*◌, ◌<◌, ◌≤◌, length, Result, IfOk}
 use Rattle.rules.specs.Answers.{Said}
 use Rattle.rules.specs.Limits.{most_sessions, Outside}
 use Rattle.rules.specs.declared.refusal.Refusal.{Refusal}

@@ -25,7 +25,13 @@ pub fn compare(r: usize, place: usize, matrices: &[u64], words: &[u64], out: &mu
 }
 
 // The answer for an `out` of that length. The matrix is the first of those from its place on, since a place past 65535 is no Place.
-fn answer(r: usize, place: usize, matrices: &[u64], words: &[u64], out: usize) -> Result<Compared, Refusal>
+fn answer(
+    r: usize,
+    place: usize,
+    matrices: &[u64],
+    words: &[u64],
+    out: usize,
+) -> Result<Compared, Refusal>
     ensures { Answers r place matrices.now words.now out result }
 {
     check(r, place, matrices.len(), words.len(), out)?;

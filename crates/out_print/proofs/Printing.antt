@@ -20,7 +20,8 @@ use Rattle.names.proofs.NameLaws.{names-sound}
 use Rattle.file.proofs.Offsets.{names-offset-small}
 use Rattle.formula.specs.Formula.{leaf, unary, binary, proposition, constant, Formula}
 use Rattle.formula.specs.Nodes.{Node, Spells, codes}
-use Rattle.text.specs.declared.Printed.{Printed}
+use Rattle.std.specs.Prelude.{Result}
+use Rattle.text.specs.declared.PrintError.{PrintError}
 use Rattle.formula.specs.Rule.{no_proposition, Broken, rooted}
 use Rattle.text.specs.Text.{text}
 use Rattle.text.specs.Print.{said_printed, print_rows, PrintAnswer, PrintsBy, Prints}
@@ -152,7 +153,7 @@ module _ (file : List ℕ) (k : List Node) (root : Node) where
           let r = a.refused (λ z. f (plain names a ∙ z)) in
           (r.1, e ∙ no_words s old r.0)
 
-  pub print-long : (room old : List ℕ) → out_words ≤ length old → (p : Printed) (room' new : List ℕ) → Prints file k root room (said_printed p) room'
+  pub print-long : (room old : List ℕ) → out_words ≤ length old → (p : Result ℕ PrintError) (room' new : List ℕ) → Prints file k root room (said_printed p) room'
       → new ≡ written (said_words (said_printed p)) old → PrintDone file k root room old (returned_of (said_printed p)) room' new
   print-long room old h p room' new a e =
       record {

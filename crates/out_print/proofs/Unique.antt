@@ -8,7 +8,8 @@ use Rattle.rules.proofs.Refusals.{decided-unique}
 use Rattle.reading.specs.Reading.{Got, got, bad}
 use Rattle.names.specs.Names.{whole_names}
 use Rattle.formula.specs.Nodes.{Node}
-use Rattle.text.specs.declared.Printed.{Printed}
+use Rattle.std.specs.Prelude.{Result}
+use Rattle.text.specs.declared.PrintError.{PrintError}
 use Rattle.text.specs.Print.{said_printed}
 use Rattle.text.proofs.Unique.{print-unique}
 use Rattle.out.specs.Out.{written, said_words}
@@ -28,7 +29,7 @@ print-done-unique names k root room old m n u v x y p q =
           let a = p.passed e in
           let b = q.passed (sym o ∙ e) in
           let s = print-unique names k root room a.0 b.0 u v a.1 b.1 in
-          (o, s.1, a.2 ∙ ap (λ (w : Printed). written (said_words (said_printed w)) old) s.0 ∙ sym b.2)
+          (o, s.1, a.2 ∙ ap (λ (w : Result ℕ PrintError). written (said_words (said_printed w)) old) s.0 ∙ sym b.2)
       | no e ↦
           let a = p.refused e in
           let b = q.refused (λ z. e (o ∙ z)) in

@@ -10,7 +10,7 @@ ghost use Rattle.out.specs.Unanswered.{OffsetFits};
 ghost use Rattle.out_read.specs.Read.{done, read_done};
 ghost use Rattle.out_read.specs.Inner.{read_unanswered};
 
-use file::ReadAnswer;
+use file::{Parts, ReadError};
 
 // A session file's parts, in the lent slices.
 pub fn read(
@@ -46,48 +46,29 @@ fn unanswered(file: &[u8]) -> u64
     number(answer)
 }
 
-fn number(answer: ReadAnswer) -> u64
+fn number(answer: Result<Parts, ReadError>) -> u64
     requires { OffsetFits (reading.said_read answer) }
     ensures { result ≡ returned_of (reading.said_read answer) }
 {
     match answer {
-        ReadAnswer::Parts {
-            sessions: _,
-            propositions: _,
-            names: _,
-            unary: _,
-            binary: _,
-            constants: _,
-            bound: _,
-        } => 0,
-        ReadAnswer::Broken(offset) => out::refused_at(8, offset as u32),
-        ReadAnswer::Room => 3,
+        Ok(_) => 0,
+        Err(ReadError::Broken(offset)) => out::refused_at(8, offset as u32),
+        Err(ReadError::Room) => 3,
     }
 }
 
-fn put(answer: ReadAnswer, out: &mut [u64])
+fn put(answer: Result<Parts, ReadError>, out: &mut [u64])
     requires { out_words ≤ length out.old }
     ensures { out.new ≡ written (said_words (reading.said_read answer)) out.old }
 {
-    match answer {
-        ReadAnswer::Parts {
-            sessions,
-            propositions,
-            names,
-            unary,
-            binary,
-            constants,
-            bound,
-        } => {
-            out[0] = sessions as u64;
-            out[1] = propositions as u64;
-            out[2] = names as u64;
-            out[3] = unary as u64;
-            out[4] = binary as u64;
-            out[5] = constants as u64;
-            out[6] = bound as u64;
-        }
-        ReadAnswer::Broken(_) => {}
-        ReadAnswer::Room => {}
-    }
+    let Ok(parts) = answer else {
+        return;
+    };
+    out[0] = parts.sessions as u64;
+    out[1] = parts.propositions as u64;
+    out[2] = parts.names as u64;
+    out[3] = parts.unary as u64;
+    out[4] = parts.binary as u64;
+    out[5] = parts.constants as u64;
+    out[6] = parts.bound as u64;
 }

@@ -9,14 +9,14 @@ use native.Mathlib.Decide.{ℕ_discrete}
 use native.Mathlib.Omega.{arith}
 use lib.Dec.{lit<}
 use lib.ListN.{length, length-append}
-use Rattle.rules.specs.Refusals.{Row, Decided}
+use Rattle.rules.specs.Refusals.{Row, Decided, refusal_number}
 use Rattle.rules.proofs.Refusals.{Numbered, decided-none, decided-unique}
 use Rattle.session.specs.Recording.{Recording}
 use Rattle.formula.specs.Nodes.{Node}
 use Rattle.verdict.specs.Check.{check_rows}
 use Rattle.writing.specs.Writing.{decimal}
-use Rattle.report.specs.declared.Reported.{Reported}
-use Rattle.report.specs.declared.Reported.TheVariants.{Text, Refused}
+use Rattle.std.specs.Prelude.{Result, Ok, Err}
+use Rattle.rules.specs.declared.refusal.Refusal.{Refusal}
 use Rattle.report.specs.Lines.{SessionsLines, root_line, summary_text, root_word}
 use Rattle.report.specs.Report.{said_report, short_text, report_rows, Reports}
 use Rattle.report.proofs.Unique.{report-unique}
@@ -50,7 +50,7 @@ module _ (i : Recording) (k : List Node) (root : Node) where
 
   -- ---- `out` is too short
 
-  last : (a : Reported) (new : List ℕ) → Reports i k root [] (said_report a) new → Decided (short_text i k root [] ∷ []) (said_report a).number
+  last : (a : Result ℕ Refusal) (new : List ℕ) → Reports i k root [] (said_report a) new → Decided (short_text i k root [] ∷ []) (said_report a).number
       → Decided (no_answer ∷ []) (said_report a).number
   unfolding Decided
   last a new r (inl p) = inl (tt, p.1)
@@ -59,7 +59,7 @@ module _ (i : Recording) (k : List Node) (root : Node) where
       let s = some-session (subst (Decided (report_rows i k root [])) z r.number) in
       absurd (p (t.0, t.1, some i.sessions s t.0 t.1))
 
-  pub unreported : (a : Reported) (new : List ℕ) → Reports i k root [] (said_report a) new → ReportUnanswered i k root (said_report a).number
+  pub unreported : (a : Result ℕ Refusal) (new : List ℕ) → Reports i k root [] (said_report a) new → ReportUnanswered i k root (said_report a).number
   unreported a new r = swap (check_rows i k root) (short_text i k root [] ∷ []) (no_answer ∷ []) (said_report a).number (last a new r) r.number
 
   module _ (text old : List ℕ) where
@@ -89,19 +89,19 @@ module _ (i : Recording) (k : List Node) (root : Node) where
     unfolding Decided
     behind h n d = inr (λ g. omega arith, d)
 
-    pub report-long : out_words ≤ length old → (a : Reported) (text' new : List ℕ) → Reports i k root text (said_report a) text'
+    pub report-long : out_words ≤ length old → (a : Result ℕ Refusal) (text' new : List ℕ) → Reports i k root text (said_report a) text'
         → new ≡ written (said_words (said_report a)) old → ReportDone i k root text old (said_report a).number text' new
-    report-long h (Text n) text' new r e =
+    report-long h (Ok n) text' new r e =
         record {
           number = swap (check_rows i k root) (short_text i k root text ∷ []) (out_short old ∷ (short_text i k root text ∷ [])) 0 (behind h 0) r.number;
           refused = λ z. absurd (z refl);
-          passed = λ z. (Text n, r, e);
+          passed = λ z. (Ok n, r, e);
         }
-    report-long h (Refused n) text' new r e =
+    report-long h (Err n) text' new r e =
         record {
-          number = swap (check_rows i k root) (short_text i k root text ∷ []) (out_short old ∷ (short_text i k root text ∷ [])) n (behind h n) r.number;
+          number = swap (check_rows i k root) (short_text i k root text ∷ []) (out_short old ∷ (short_text i k root text ∷ [])) (refusal_number n) (behind h (refusal_number n)) r.number;
           refused = λ z. ((r.refused z).1, e);
-          passed = λ z. (Refused n, r, e);
+          passed = λ z. (Err n, r, e);
         }
 
 -- number, text and `out`
@@ -114,7 +114,7 @@ report-done-unique i k root text old m n u v x y p q =
           let a = p.passed e in
           let b = q.passed (sym o ∙ e) in
           let s = report-unique i k root text a.0 b.0 u v a.1 b.1 in
-          (o, s.1, a.2 ∙ ap (λ (w : Reported). written (said_words (said_report w)) old) s.0 ∙ sym b.2)
+          (o, s.1, a.2 ∙ ap (λ (w : Result ℕ Refusal). written (said_words (said_report w)) old) s.0 ∙ sym b.2)
       | no e ↦
           let a = p.refused e in
           let b = q.refused (λ z. e (o ∙ z)) in

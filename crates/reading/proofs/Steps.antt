@@ -6,28 +6,35 @@ use mathlib.Core.List.{List, [], ◌∷◌, ◌++◌}
 use Prim.Native.Nat.{ℕ, zero, suc, ◌+◌, ◌-◌, ◌≤◌, ◌<◌}
 use native.Mathlib.Omega.{arith}
 use lib.ListN.{length, get_or, drop, length-append}
-use Rattle.reading.specs.declared.ReadStep.{ReadStep}
-use Rattle.reading.specs.declared.ReadStep.TheVariants.{Read, Broken}
+use Rattle.std.proofs.Common.{Result, Ok, Err}
+use Rattle.reading.specs.declared.Read.{Read}
+use Rattle.reading.specs.declared.Broken.{Broken}
 use Rattle.reading.specs.Reading.{Got, got, bad, Reader, each_item, byte, within, counted, step_of}
 use Rattle.reading.proofs.Spans.{head}
 use Rattle.reading.proofs.Readers.{byte-sound}
 
-module _ {A : Type 0} (value : A → ℕ) (r : ReadStep) where
-  pub step-read : (g : Got A) {v n : ℕ} → r ≡ step_of value g → r ≡ Read v n → (a : A) × (g ≡ got a n) × (value a ≡ v)
-  step-read (got a next) {v} {n} p q =
-      let e : Read (value a) next ≡ Read v n = sym p ∙ q in
-      let w : value a ≡ v = cc in
-      let m : next ≡ n = cc in
-      (a, ap (λ (x : ℕ). got a x) m, w)
-  step-read (bad o) {v} {n} p q = let e : Broken o ≡ Read v n = sym p ∙ q in let z : ◌≡◌ {A = ℕ} 0 1 = cc in absurd (omega arith)
+module _ {A : Type 0} (value : A → ℕ) where
+  pub step-read : (g : Got A) {s : Read} → Ok s ≡ step_of value g → (a : A) × (g ≡ got a s.next) × (value a ≡ s.value)
+  step-read (got a next) {s} e =
+      let q : s ≡ record { value = value a; next = next } = cc in
+      (a, ap (λ (r : Read). got a r.next) (sym q), sym (ap (λ (r : Read). r.value) q))
+  step-read (bad o) e = absurd (is-read e)
+    where
+      is-read : {s : Read} {o : Broken} → Ok s ≡ Err o → ⊥
+      is-read e = let z : ◌≡◌ {A = ℕ} 0 1 = cc in omega arith
 
-  pub step-broken : (g : Got A) {o : ℕ} → r ≡ step_of value g → r ≡ Broken o → g ≡ bad o
-  step-broken (got a next) {o} p q = let e : Read (value a) next ≡ Broken o = sym p ∙ q in let z : ◌≡◌ {A = ℕ} 0 1 = cc in absurd (omega arith)
-  step-broken (bad k) {o} p q = let e : Broken k ≡ Broken o = sym p ∙ q in let w : k ≡ o = cc in ap bad w
+  pub step-broken : (g : Got A) {o : Broken} → Err o ≡ step_of value g → g ≡ bad o.0
+  step-broken (got a next) {o} e = absurd (is-broken e)
+    where
+      is-broken : {s : Read} {o : Broken} → Err o ≡ Ok s → ⊥
+      is-broken e = let z : ◌≡◌ {A = ℕ} 0 1 = cc in omega arith
+  step-broken (bad k) {o} e =
+      let q : o ≡ record { 0 = k } = cc in
+      ap (λ (r : Broken). bad r.0) (sym q)
 
 -- a byte's step hands up the byte
-pub byte-read : (r : ReadStep) (g : Got ℕ) {n next : ℕ} → r ≡ step_of (λ b. b) g → r ≡ Read n next → g ≡ got n next
-byte-read r g {n} {next} p q = let t = step-read (λ b. b) r g p q in t.1 ∙ ap (λ (x : ℕ). got x next) t.2
+pub byte-read : (g : Got ℕ) {s : Read} → Ok s ≡ step_of (λ b. b) g → g ≡ got s.value s.next
+byte-read g {s} e = let t = step-read (λ b. b) g e in t.1 ∙ ap (λ (x : ℕ). got x s.next) t.2
 
 -- ---- a loop over items
 
@@ -63,7 +70,7 @@ module _ {A : Type 0} (item : List A → Reader A) (file : List ℕ) where
           is = sym (on (n - (i + 1)) l.seen p e) ∙ ap (λ (k : ℕ). each_item item k l.seen file p) (sym (left h)) ∙ l.is;
         }
 
-    pub broken : {o : ℕ} → i < n → item l.seen file p ≡ bad o → Broken o ≡ step_of length (each_item item n [] file at)
+    pub broken : {o : Broken} → i < n → item l.seen file p ≡ bad o.0 → Err o ≡ step_of length (each_item item n [] file at)
     broken {o} h e =
         ap (step_of length) (sym (off (n - (i + 1)) l.seen p e) ∙ ap (λ (k : ℕ). each_item item k l.seen file p) (sym (left h)) ∙ l.is)
 
@@ -74,25 +81,26 @@ module _ {A : Type 0} (item : List A → Reader A) (file : List ℕ) where
         let e : each_item item (n - i) l.seen file p ≡ got l.seen p = ap (λ (k : ℕ). each_item item k l.seen file p) z in
         sym e ∙ l.is
 
-    pub done : n ≤ i → Read n p ≡ step_of length (each_item item n [] file at)
+    pub done : n ≤ i → Ok (record { value = n; next = p }) ≡ step_of length (each_item item n [] file at)
     done h =
         let k : n ≡ length l.seen = omega (arith, l.count, l.upto) in
-        ap (λ (x : ℕ). Read x p) k ∙ ap (step_of length) (all h)
+        ap (λ (x : ℕ). Ok (record { value = x; next = p })) k ∙ ap (step_of length) (all h)
 
 -- ---- a section after its count
 
-module _ {A : Type 0} (item : List A → Reader A) (file : List ℕ) (lo hi at : ℕ) (r : ReadStep) (e : r ≡ step_of (λ b. b) (byte (within lo hi) file at)) where
-  pub section-read : {n next : ℕ} (s : ReadStep) → r ≡ Read n next → s ≡ step_of length (each_item item n [] file next) → s ≡ step_of length (counted lo hi item file at)
-  section-read {n} {next} s q p = p ∙ ap (step_of length) (sym whole)
+module _ {A : Type 0} (item : List A → Reader A) (file : List ℕ) (lo hi at : ℕ) where
+  pub section-read : {s : Read} (r : Result Read Broken) → Ok s ≡ step_of (λ b. b) (byte (within lo hi) file at)
+      → r ≡ step_of length (each_item item s.value [] file s.next) → r ≡ step_of length (counted lo hi item file at)
+  section-read {s} r e p = p ∙ ap (step_of length) (sym whole)
     where
-      whole : counted lo hi item file at ≡ each_item item n [] file next
-      whole = rw (byte-read r (byte (within lo hi) file at) e q)
+      whole : counted lo hi item file at ≡ each_item item s.value [] file s.next
+      whole = rw (byte-read (byte (within lo hi) file at) e)
 
-  pub section-broken : {o : ℕ} → r ≡ Broken o → Broken o ≡ step_of length (counted lo hi item file at)
-  section-broken {o} q = ap (step_of length) (sym whole)
+  pub section-broken : {o : Broken} → Err o ≡ step_of (λ b. b) (byte (within lo hi) file at) → Err o ≡ step_of length (counted lo hi item file at)
+  section-broken {o} e = ap (step_of length) (sym whole)
     where
-      whole : counted lo hi item file at ≡ bad o
-      whole = rw (step-broken (λ b. b) r (byte (within lo hi) file at) e q)
+      whole : counted lo hi item file at ≡ bad o.0
+      whole = rw (step-broken (λ b. b) (byte (within lo hi) file at) e)
 
 -- a byte that was read is the one there
 pub byte_next : (test : ℕ → Bool) (file : List ℕ) (at : ℕ) {b next : ℕ} → byte test file at ≡ got b next → (at < length file) × (next ≡ at + 1) × (get_or file at 0 ≡ b)

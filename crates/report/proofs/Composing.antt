@@ -1,19 +1,18 @@
 -- The report put together: what is said of a node by its sequence, line after line as they are written, and the answers.
 -- Assumes nothing.
 use mathlib.Core.Path.{◌≡◌, refl, sym, ap, ◌∙◌, subst}
-use mathlib.Core.Logic.{◌↔◌, ◌⊎◌, ⊎_elim}
-use mathlib.Core.List.{List, [], ◌∷◌, ◌++◌, nil≢cons}
+use mathlib.Core.Logic.{◌↔◌}
+use mathlib.Core.List.{List, [], ◌∷◌, ◌++◌}
 use Prim.Native.Nat.{ℕ, zero, suc, ◌+◌, ◌≤◌, ◌<◌, min}
 use native.Mathlib.Numerals.{add-one}
 use native.Mathlib.Omega.{arith}
-use denote.Enum.Declared.{tag_of}
 use lib.Dec.{lit<}
 use lib.ListN.{length, take, drop, replicate, length-replicate}
 use lib.Seq.{sets, sets-eq}
 use Rattle.words.specs.Word.{width, At}
-use Rattle.rules.specs.Refusals.{Decided}
+use Rattle.rules.specs.Refusals.{Decided, refusal_number}
 use Rattle.rules.specs.Answers.{over}
-use Rattle.rules.proofs.Refusals.{Numbered, decided-unique, decided-both, decided-given, decided-not, decided-early}
+use Rattle.rules.proofs.Refusals.{Numbered, decided-unique, decided-both, decided-given, decided-not, refused-early, refusal-positive, handed-up}
 use Rattle.writing.specs.Writing.{Wrote}
 use Rattle.writing.proofs.Writing.{wrote-both, wrote-whole}
 use Rattle.writing.proofs.Digits.{written-front}
@@ -22,14 +21,12 @@ use Rattle.session.specs.Recording.{Recording, length_of}
 use Rattle.formula.specs.Nodes.{Node}
 use Rattle.verdict.specs.Check.{check_rows, said_verdict, CheckAnswer}
 use Rattle.verdict.specs.Sequences.{SequenceAnswer}
-use Rattle.verdict.specs.declared.Sequenced.{Sequenced}
-use Rattle.verdict.specs.declared.Sequenced.TheVariants as sequenced
 use Rattle.verdict.specs.declared.Verdict.{Verdict}
-use Rattle.verdict.specs.declared.Verdict.TheVariants as verdict
-use Rattle.verdict.specs.contracts.Sequenced.{the_type as sequenced-type}
-use Rattle.verdict.specs.contracts.Verdict.{the_type as verdict-type}
+use Rattle.verdict.specs.declared.Verdict.TheVariants.{Accepted, Disagrees}
 use Rattle.summary.specs.declared.values.Summary.{Summary}
-use Rattle.report.specs.declared.Reported.TheVariants.{Text, Refused}
+use Rattle.std.specs.Prelude.{Option, None, Some, Result, Ok, Err, IsErr, IsErrAnd}
+use Rattle.rules.specs.declared.refusal.Refusal.{Refusal}
+use Rattle.rules.specs.declared.refusal.Refusal.TheVariants.{Room}
 use Rattle.summary.specs.Values.{Summed}
 use Rattle.report.specs.Lines.{NodeSays, PlaceLines, root_line}
 use Rattle.report.specs.Lines.PlaceLine.{one, none}
@@ -42,10 +39,9 @@ use Rattle.report.proofs.Length.{report-fits, longest-is}
 -- ---- a node by its sequence
 
 module _ (i : Recording) (k : List Node) (j : ℕ) (n : Node) where
-  pub node-says : {q : CharSeq} (a : Sequenced) → a ≡ sequenced.Sequence q → SequenceAnswer i k n j a → (s : Summary)
-      → Summed (min q.length width) (At q.values) s → NodeSays i k j n s
-  node-says {q} a e b s m =
-      let c = (subst (SequenceAnswer i k n j) e b).carries in
+  pub node-says : (q : CharSeq) → SequenceAnswer i k n j (Ok (Some q)) → (s : Summary) → Summed (min q.length width) (At q.values) s → NodeSays i k j n s
+  node-says q b s m =
+      let c = b.carries in
       let w = c.denotes.means in
       let l : min q.length width ≡ length_of i j = (let h = w.wf.short in omega (arith, c.denotes.length)) in
       record {
@@ -55,14 +51,11 @@ module _ (i : Recording) (k : List Node) (j : ℕ) (n : Node) where
       }
 
   -- what has passed the check has a sequence
-  pub never-none : {A : Type 0} (a : Sequenced) → (tag_of sequenced-type a ≡ 1) ⊎ (tag_of sequenced-type a ≡ 2) → SequenceAnswer i k n j a → j < i.sessions
-      → Decided (check_rows i k n) 0 → A
-  never-none (sequenced.Sequence q) t b h d = absurd (⊎_elim (λ e. omega (arith, e)) (λ e. omega (arith, e)) t)
-  never-none sequenced.NoSession t b h d = let c : i.sessions ≤ j = b.carries in absurd (omega arith)
-  never-none (sequenced.Refused r) t b h d =
-      let c : 0 < r = b.carries in
-      let z : r ≡ 0 = decided-unique (check_rows i k n) r 0 b.number d in
-      absurd (omega arith)
+  pub sequence-there : (a : Result (Option CharSeq) Refusal) → SequenceAnswer i k n j a → j < i.sessions → Decided (check_rows i k n) 0
+      → (q : CharSeq) × (a ≡ Ok (Some q))
+  sequence-there (Ok (Some q)) b h d = (q, refl)
+  sequence-there (Ok None) b h d = let c : i.sessions ≤ j = b.carries in absurd (omega arith)
+  sequence-there (Err r) b h d = absurd (omega (arith, decided-unique (check_rows i k n) (refusal_number r) 0 b.number d, refusal-positive r))
 
 -- ---- line after line
 
@@ -126,7 +119,7 @@ module _ (i : Recording) (k : List Node) (root : Node) (old : List ℕ) where
         let f = written-front w.0 room w.2 in
         (f.0, f.1, (let e = wrote-whole w.0 w.2 (let r = room in omega arith) in omega arith))
 
-    pub too_short : length old < n → Reports i k root old (said_report (Refused 3)) old
+    pub too_short : length old < n → Reports i k root old (said_report (Err Room)) old
     too_short h =
         let e = whole-report.2 in
         record {
@@ -135,7 +128,7 @@ module _ (i : Recording) (k : List Node) (root : Node) (old : List ℕ) where
           passed = λ z. absurd (omega (arith, z));
         }
 
-    pub reported : {new : List ℕ} {r : ℕ} → n ≤ length old → Wrote old 0 (take n whole) new r → Reports i k root old (said_report (Text r)) new
+    pub reported : {new : List ℕ} {r : ℕ} → n ≤ length old → Wrote old 0 (take n whole) new r → Reports i k root old (said_report (Ok r)) new
     reported {new} {r} h v =
         let out = w.0 in
         let e = whole-report in
@@ -153,17 +146,16 @@ module _ (i : Recording) (k : List Node) (root : Node) (old : List ℕ) where
 
   -- ---- by the check
 
-  pub refused-as-check : {n : ℕ} (v : Verdict) → v ≡ verdict.Refused n → CheckAnswer i k root (said_verdict v) → Reports i k root old (said_report (Refused n)) old
-  refused-as-check {n} v e a =
-      let b = subst (λ (x : Verdict). CheckAnswer i k root (said_verdict x)) e a in
-      let not_none : n ≡ 0 → ⊥ = λ z. ⊎_elim (λ o. nil≢cons o.1) (λ o. nil≢cons o.2) (b.passed z).2 in
-      record {
-        number = decided-early (check_rows i k root) (short_text i k root old ∷ []) n b.number not_none;
+  pub refused-as-check : (refusal : Refusal) (a : Result ℕ Refusal) → CheckAnswer i k root (said_verdict (Err refusal)) → IsErr a × IsErrAnd a (λ e. e ≡ refusal)
+      → Reports i k root old (said_report a) old
+  refused-as-check refusal a c h =
+      subst (λ (r : Result ℕ Refusal). Reports i k root old (said_report r) old) (sym (handed-up a refusal h))
+      (record {
+        number = refused-early (check_rows i k root) (short_text i k root old ∷ []) refusal c.number;
         refused = λ z. (refl, refl);
-        passed = λ z. absurd (not_none z);
-      }
+        passed = λ z. absurd (omega (arith, refusal-positive refusal));
+      })
 
-  pub passed-check : (v : Verdict) → (tag_of verdict-type v ≡ 0) ⊎ (tag_of verdict-type v ≡ 1) → CheckAnswer i k root (said_verdict v) → Decided (check_rows i k root) 0
-  passed-check verdict.Accepted t a = a.number
-  passed-check (verdict.Disagrees j) t a = a.number
-  passed-check (verdict.Refused n) t a = absurd (⊎_elim (λ e. omega (arith, e)) (λ e. omega (arith, e)) t)
+  pub passed-check : (v : Verdict) → CheckAnswer i k root (said_verdict (Ok v)) → Decided (check_rows i k root) 0
+  passed-check Accepted a = a.number
+  passed-check (Disagrees j) a = a.number

@@ -27,8 +27,7 @@ use Rattle.verdict.specs.Check.{check_rows}
 use Rattle.formula.proofs.Faults.{not-both, not-unary-leaf, not-binary-leaf}
 use Rattle.formula.proofs.Spelled.{list-spells}
 use Rattle.verdict.proofs.Sequencing.{passed-list, passed-sessions, passed-lengths}
-use Rattle.summary.specs.declared.values.First.{First}
-use Rattle.summary.specs.declared.values.First.TheVariants.{Never, Snapshot}
+use Rattle.std.specs.Prelude.{Option, None, Some}
 use Rattle.summary.specs.declared.values.Summary.{Summary}
 use Rattle.summary.specs.Values.{LeastIn, CountIn, Fails, Summed}
 use Rattle.report.specs.Under.{Child, Down, Under}
@@ -61,17 +60,17 @@ count-le (suc n) f c (inl (a, (b, e, rest))) = let h = count-le n f b rest in om
 count-le (suc n) f c (inr (a, rest)) = let h = count-le n f c rest in omega arith
 
 -- a snapshot below 64 has at most two digits
-first_two : (n : ℕ) (f : Reading) (r : First) → n ≤ width → LeastIn n f r → length (first_text r) ≤ 2
-first_two n f Never h l = omega arith
-first_two n f (Snapshot p) h l = let i = l.0 in few most_digits p 1 (omega arith)
+first_two : (n : ℕ) (f : Reading) (r : Option ℕ) → n ≤ width → LeastIn n f r → length (first_text r) ≤ 2
+first_two n f None h l = omega arith
+first_two n f (Some p) h l = let i = l.0 in few most_digits p 1 (omega arith)
 
 -- at snapshot 0 it holds or not, so one of the two is 0 or never
-firsts : (n : ℕ) (f : Reading) (a b : First) → n ≤ width → LeastIn n f a → LeastIn n (Fails f) b → length (first_text a) + length (first_text b) ≤ 3
-firsts n f Never b h l m = let i = first_two n (Fails f) b h m in omega arith
-firsts n f (Snapshot zero) b h l m = let i = first_two n (Fails f) b h m in let j = few most_digits 0 0 (omega arith) in omega arith
-firsts n f (Snapshot (suc p)) Never h l m = let i = first_two n f (Snapshot (suc p)) h l in omega arith
-firsts n f (Snapshot (suc p)) (Snapshot zero) h l m = let i = first_two n f (Snapshot (suc p)) h l in let j = few most_digits 0 0 (omega arith) in omega arith
-firsts n f (Snapshot (suc p)) (Snapshot (suc q)) h l m = absurd (m.2 0 (omega arith) (l.2 0 (omega arith)))
+firsts : (n : ℕ) (f : Reading) (a b : Option ℕ) → n ≤ width → LeastIn n f a → LeastIn n (Fails f) b → length (first_text a) + length (first_text b) ≤ 3
+firsts n f None b h l m = let i = first_two n (Fails f) b h m in omega arith
+firsts n f (Some zero) b h l m = let i = first_two n (Fails f) b h m in let j = few most_digits 0 0 (omega arith) in omega arith
+firsts n f (Some (suc p)) None h l m = let i = first_two n f (Some (suc p)) h l in omega arith
+firsts n f (Some (suc p)) (Some zero) h l m = let i = first_two n f (Some (suc p)) h l in let j = few most_digits 0 0 (omega arith) in omega arith
+firsts n f (Some (suc p)) (Some (suc q)) h l m = absurd (m.2 0 (omega arith) (l.2 0 (omega arith)))
 
 summary-short : (n : ℕ) (f : Reading) (s : Summary) → n ≤ width → Summed n f s → length (summary_text s) ≤ 9
 summary-short n f s h a =

@@ -9,15 +9,16 @@ use native.Mathlib.Decide.{dec_lt}
 use native.Mathlib.Omega.{arith}
 use lib.ListN.{length}
 use Rattle.rules.specs.Answers.{over}
-use Rattle.rules.proofs.Refusals.{decided-unique}
+use Rattle.rules.proofs.Refusals.{decided-unique, refusal-one}
 use Rattle.session.specs.Recording.{Recording, length_of}
 use Rattle.formula.specs.Formula.{Formula, Holds}
 use Rattle.formula.specs.Nodes.{Node, node_at}
 use Rattle.formula.specs.Recorded.{marked_trace}
 use Rattle.formula.proofs.Spelled.{one-formula}
 use Rattle.summary.specs.declared.values.Summary.{Summary}
-use Rattle.report.specs.declared.Reported.{Reported}
-use Rattle.report.specs.declared.Reported.TheVariants.{Text, Refused}
+use Rattle.std.specs.Prelude.{Result, Ok, Err}
+use Rattle.rules.specs.declared.refusal.Refusal.{Refusal}
+use Rattle.rules.specs.Refusals.{refusal_number}
 use Rattle.summary.specs.Values.{Summed}
 use Rattle.report.specs.Under.{Under}
 use Rattle.report.specs.Lines.{NodeSays, PlaceLine, PlaceLines, SessionLines, SessionsLines, place_line, root_line}
@@ -64,19 +65,19 @@ one-report i k root a b p q = sessions-unique i k root i.sessions a b p q
 
 module _ (i : Recording) (k : List Node) (root : Node) (old : List ℕ) where
   -- a refusal's number is not 0
-  not_none : (n : ℕ) (l : List ℕ) → Reports i k root old (said_report (Refused n)) l → n ≡ 0 → ⊥
+  not_none : (n : Refusal) (l : List ℕ) → Reports i k root old (said_report (Err n)) l → refusal_number n ≡ 0 → ⊥
   not_none n l p e = nil≢cons (p.passed e).2
 
   -- answer and later text
-  pub report-unique : (a b : Reported) (l m : List ℕ) → Reports i k root old (said_report a) l → Reports i k root old (said_report b) m → (a ≡ b) × (l ≡ m)
-  report-unique (Text n) (Text o) l m p q =
+  pub report-unique : (a b : Result ℕ Refusal) (l m : List ℕ) → Reports i k root old (said_report a) l → Reports i k root old (said_report b) m → (a ≡ b) × (l ≡ m)
+  report-unique (Ok n) (Ok o) l m p q =
       let x = p.passed refl in
       let y = q.passed refl in
       let e = one-report i k root x.0 y.0 x.1 y.1 in (
-        ap Text (head-eq_of_cons-eq x.2 ∙ ap length e ∙ sym (head-eq_of_cons-eq y.2)),
+        ap Ok (head-eq_of_cons-eq x.2 ∙ ap length e ∙ sym (head-eq_of_cons-eq y.2)),
         x.3 ∙ ap (λ (t : List ℕ). over t old) e ∙ sym y.3,
       )
-  report-unique (Text n) (Refused o) l m p q = absurd (not_none o m q (sym (decided-unique _ _ _ p.number q.number)))
-  report-unique (Refused n) (Text o) l m p q = absurd (not_none n l p (decided-unique _ _ _ p.number q.number))
-  report-unique (Refused n) (Refused o) l m p q =
-      (ap Refused (decided-unique _ _ _ p.number q.number), (p.refused (not_none n l p)).1 ∙ sym (q.refused (not_none o m q)).1)
+  report-unique (Ok n) (Err o) l m p q = absurd (not_none o m q (sym (decided-unique _ _ _ p.number q.number)))
+  report-unique (Err n) (Ok o) l m p q = absurd (not_none n l p (decided-unique _ _ _ p.number q.number))
+  report-unique (Err n) (Err o) l m p q =
+      (ap Err (refusal-one n o (decided-unique _ _ _ p.number q.number)), (p.refused (not_none n l p)).1 ∙ sym (q.refused (not_none o m q)).1)

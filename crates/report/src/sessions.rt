@@ -33,22 +33,13 @@ fn summary_at(
     ensures { NodeSays (recording r m marks.now lengths.now words.now)
         (nodes codes.now lefts.now rights.now sizes.now) on.0 (node_of node) result }
 {
-    let sequenced = sequence_of(
+    // What is reported has passed the check, and so neither can be missing.
+    let seq = sequence_of(
         r, m, marks, lengths, words, codes, lefts, rights, sizes, node, on,
-    );
-    let Ok(Some(seq)) = sequenced else {
-        // This can't come up: what is reported has passed the check.
-        return nothing();
-    };
+    )
+    .unwrap()
+    .unwrap();
     summary_of(seq)
-}
-
-fn nothing() -> Summary {
-    Summary {
-        holds: None,
-        fails: None,
-        count: 0,
-    }
 }
 
 // The line of a listed node, if it is under the root.

@@ -5,7 +5,7 @@
 // The file is in hex. The next five are what is lent, as it stands before; it is said, as it stands after, where the last is not empty.
 #![tactic(auto)]
 
-use file::ReadAnswer;
+use file::{Parts, ReadError};
 use std::io;
 use std::io::Write;
 use stored::{say, say_number};
@@ -31,30 +31,27 @@ fn say_settings(
     Ok(())
 }
 
-fn say_answer(to: &mut impl Write, answer: ReadAnswer) -> io::Result<()> {
+fn say_answer(to: &mut impl Write, answer: Result<Parts, ReadError>) -> io::Result<()> {
     match answer {
-        ReadAnswer::Parts {
-            sessions,
-            propositions,
-            names,
-            unary,
-            binary,
-            constants,
-            bound,
-        } => {
-            say_counts(to, sessions as u64, propositions as u64, names as u64)?;
+        Ok(parts) => {
+            say_counts(
+                to,
+                parts.sessions as u64,
+                parts.propositions as u64,
+                parts.names as u64,
+            )?;
             say_settings(
                 to,
-                unary as u64,
-                binary as u64,
-                constants as u64,
-                bound as u64,
+                parts.unary as u64,
+                parts.binary as u64,
+                parts.constants as u64,
+                parts.bound as u64,
             )?;
         }
-        ReadAnswer::Broken(o) => {
-            say_number(to, b"refused 8 at ", o as u64)?;
+        Err(ReadError::Broken(at)) => {
+            say_number(to, b"refused 8 at ", at as u64)?;
         }
-        ReadAnswer::Room => {
+        Err(ReadError::Room) => {
             say(to, b"refused 3")?;
         }
     }

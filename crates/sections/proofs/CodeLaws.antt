@@ -1,12 +1,13 @@
 -- Codes: which are in a group, what the rule reads is new, its byte stands there, and a new one is read.
 -- Assumes nothing.
-use mathlib.Core.Path.{◌≡◌, refl, sym, ap, subst}
-use mathlib.Core.Bool.{Bool, true, false, ◌&&◌}
+use mathlib.Core.Path.{◌≡◌, refl, sym, ap, ◌∙◌, subst}
+use mathlib.Core.Bool.{Bool, true, false, ◌&&◌, ◌||◌}
 use mathlib.Core.Bool as bool
-use mathlib.Core.List.{List, Memᴰ}
+use mathlib.Core.List.{List, [], ◌∷◌, Memᴰ}
 use Prim.Native.Nat.{ℕ, zero, suc}
-use borrow.Author.Tests.{eq-eqb, eqb-true, not-true}
+use borrow.Author.Tests.{eq-eqb, ne_eqb, eqb-true, not-true}
 use lib.Dec.{eqb}
+use Rattle.std.specs.List.{list_any}
 use Rattle.sequence.specs.Operators.{Unary, Binary, unary_code, binary_code, Coded, unary, binary, neither, decode}
 use Rattle.sequence.proofs.Decoding.{decode-unary, decode-binary}
 use Rattle.operators.specs.Table.{GroupIs}
@@ -78,6 +79,18 @@ module _ (c : ℕ) where
       go false e = sym e
 
 -- ---- codes
+
+eqb_turned : (a b : ℕ) → eqb a b ≡ eqb b a
+eqb_turned a b = go (eqb b a) refl
+  where
+    go : (t : Bool) → eqb b a ≡ t → eqb a b ≡ eqb b a
+    go true e = eq-eqb a b (sym (eqb-true b a e)) ∙ sym e
+    go false e = ne_eqb a b (λ q. true-false (eq-eqb b a (sym q)) e) ∙ sym e
+
+-- the library's search for a code is the rule's
+pub any_is_in : (c : ℕ) (l : List ℕ) → list_any (λ y. eqb y c) l ≡ is_in eqb c l
+any_is_in c [] = refl
+any_is_in c (y ∷ l) = ap (λ (b : Bool). b || list_any (λ y. eqb y c) l) (eqb_turned y c) ∙ ap (λ (b : Bool). eqb c y || b) (any_is_in c l)
 
 -- a code of the group that is none of those before it
 abbrev pub New : (ℕ → Bool) → List ℕ → ℕ → Type 0

@@ -1,47 +1,32 @@
 -- A word's bytes as they are read; "no bit at or above n is set" is "below 2 ^ n".
 -- Assumes nothing.
-use mathlib.Core.Path.{◌≡◌, refl, sym, ap, ◌∙◌}
+use mathlib.Core.Path.{◌≡◌, refl, sym, ◌∙◌}
 use mathlib.Core.Logic.{◌↔◌}
 use mathlib.Core.Bool.{Bool, true, false}
 use mathlib.Core.List.{List, [], ◌∷◌}
-use Prim.Native.Nat.{ℕ, ◌+◌, ◌*◌, ◌^◌, ◌≤◌}
+use Prim.Native.Nat.{ℕ, ◌^◌, ◌≤◌}
 use native.Mathlib.Omega.{arith}
 use borrow.Author.Tests.{lt-ltb, ltb-true}
 use lib.Dec.{ltb}
-use lib.ListN.{length, get_or, take, drop, length-drop}
-use lib.Seq.{get_or-drop, drop-drop}
+use lib.ListN.{length}
+use Rattle.std.specs.Int.{w64, from_le_bytes}
 use Rattle.words.specs.Word.{width, Wf}
 use Rattle.words.proofs.At.{lt-wf, wf-lt}
 use Rattle.sections.specs.Sections.{number}
 
-four : (l : List ℕ) → 4 ≤ length l → number (take 4 l) ≡ get_or l 0 0 + 256 * (get_or l 1 0 + 256 * (get_or l 2 0 + 256 * get_or l 3 0))
+-- a word's bytes, as the library reads them
+pub low_first : (l : List ℕ) → length l ≡ 8 → from_le_bytes w64 l ≡ number l
 unfolding number
-four [] h = absurd (omega arith)
-four (a ∷ []) h = absurd (omega arith)
-four (a ∷ b ∷ []) h = absurd (omega arith)
-four (a ∷ b ∷ c ∷ []) h = absurd (omega arith)
-four (a ∷ b ∷ c ∷ d ∷ l) h = omega arith
-
-eight : (l : List ℕ) → 4 ≤ length l → number (take 8 l) ≡ number (take 4 l) + 4294967296 * number (take 4 (drop 4 l))
-unfolding number
-eight [] h = absurd (omega arith)
-eight (a ∷ []) h = absurd (omega arith)
-eight (a ∷ b ∷ []) h = absurd (omega arith)
-eight (a ∷ b ∷ c ∷ []) h = absurd (omega arith)
-eight (a ∷ b ∷ c ∷ d ∷ l) h = omega arith
-
-module _ (file : List ℕ) (at : ℕ) where
-  pub four-at : at + 4 ≤ length file
-      → number (take 4 (drop at file)) ≡ get_or file at 0 + 256 * (get_or file (at + 1) 0 + 256 * (get_or file (at + 2) 0 + 256 * get_or file (at + 3) 0))
-  four-at h =
-      let e = four (drop at file) (omega (arith, length-drop at file)) in
-      let z : get_or (drop at file) 0 0 ≡ get_or file at 0 = get_or-drop at file 0 0 ∙ ap (λ (n : ℕ). get_or file n 0) (omega arith) in
-      e ∙ rw (z, get_or-drop at file 1 0, get_or-drop at file 2 0, get_or-drop at file 3 0)
-
-  pub eight-at : at + 8 ≤ length file → number (take 8 (drop at file)) ≡ number (take 4 (drop at file)) + 4294967296 * number (take 4 (drop (at + 4) file))
-  eight-at h =
-      eight (drop at file) (omega (arith, length-drop at file))
-      ∙ ap (λ (l : List ℕ). number (take 4 (drop at file)) + 4294967296 * number (take 4 l)) (drop-drop 4 at file)
+low_first [] h = absurd (omega arith)
+low_first (a ∷ []) h = absurd (omega arith)
+low_first (a ∷ b ∷ []) h = absurd (omega arith)
+low_first (a ∷ b ∷ c ∷ []) h = absurd (omega arith)
+low_first (a ∷ b ∷ c ∷ d ∷ []) h = absurd (omega arith)
+low_first (a ∷ b ∷ c ∷ d ∷ e ∷ []) h = absurd (omega arith)
+low_first (a ∷ b ∷ c ∷ d ∷ e ∷ f ∷ []) h = absurd (omega arith)
+low_first (a ∷ b ∷ c ∷ d ∷ e ∷ f ∷ g ∷ []) h = absurd (omega arith)
+low_first (a ∷ b ∷ c ∷ d ∷ e ∷ f ∷ g ∷ i ∷ []) h = omega arith
+low_first (a ∷ b ∷ c ∷ d ∷ e ∷ f ∷ g ∷ i ∷ j ∷ l) h = absurd (omega arith)
 
 -- a test for a well-formed word of length n is the test for a number below 2 ^ n
 pub clear-is : (n w : ℕ) → n ≤ width → (r : Bool) → ((r ≡ true) ↔ Wf n w) → r ≡ ltb w (2 ^ n)

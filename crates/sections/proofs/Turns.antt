@@ -8,8 +8,9 @@ use native.Mathlib.Omega.{arith}
 use borrow.Author.Tests.{lt-ltb, le-ltb}
 use lib.Dec.{eqb}
 use lib.ListN.{length, get_or, take, drop}
-use Rattle.reading.specs.declared.ReadStep.{ReadStep}
-use Rattle.reading.specs.declared.ReadStep.TheVariants.{Read, Broken}
+use Rattle.std.proofs.Common.{Result, Ok, Err}
+use Rattle.reading.specs.declared.Read.{Read}
+use Rattle.reading.specs.declared.Broken.{Broken}
 use Rattle.reading.specs.Reading.{each_item, byte, is_in, step_of, one}
 use Rattle.sections.specs.Sections.{code}
 use Rattle.reading.proofs.Spans.{head, inside}
@@ -20,21 +21,21 @@ use Rattle.reading.proofs.Runs.{run_more}
 -- ---- one code
 
 module _ (group : ℕ → Bool) (before file : List ℕ) (at : ℕ) where
-  pub code-ends : length file ≤ at → Broken (length file) ≡ step_of (λ c. c) (code group before file at)
+  pub code-ends : length file ≤ at → Err (record { 0 = length file }) ≡ step_of (λ c. c) (code group before file at)
   unfolding byte
   code-ends h = simp (le-ltb at (length file) h)
 
   module _ (h : at < length file) where
-    pub code_off : group (get_or file at 0) ≡ false → Broken at ≡ step_of (λ c. c) (code group before file at)
+    pub code_off : group (get_or file at 0) ≡ false → Err (record { 0 = at }) ≡ step_of (λ c. c) (code group before file at)
     unfolding byte
     code_off e = simp (lt-ltb at (length file) h, e)
 
     module _ (e : group (get_or file at 0) ≡ true) where
-      pub code-twice : is_in eqb (get_or file at 0) before ≡ true → Broken at ≡ step_of (λ c. c) (code group before file at)
+      pub code-twice : is_in eqb (get_or file at 0) before ≡ true → Err (record { 0 = at }) ≡ step_of (λ c. c) (code group before file at)
       unfolding byte
       code-twice q = simp (lt-ltb at (length file) h, e, q)
 
-      pub code-new : is_in eqb (get_or file at 0) before ≡ false → Read (get_or file at 0) (at + 1) ≡ step_of (λ c. c) (code group before file at)
+      pub code-new : is_in eqb (get_or file at 0) before ≡ false → Ok (record { value = get_or file at 0; next = at + 1 }) ≡ step_of (λ c. c) (code group before file at)
       unfolding byte
       code-new q = simp (lt-ltb at (length file) h, e, q)
 
@@ -53,24 +54,24 @@ module _ (group : ℕ → Bool) (file : List ℕ) (from count : ℕ) where
   unfolding start
   codes-start h = record { loop = start (code group) file from count; seen = refl; at = omega arith; room = h }
 
-  module _ {i p : ℕ} (l : Codes group file from count i p) (r : ReadStep) (h : i < count) (e : r ≡ step_of (λ c. c) (code group (take i (drop from file)) file (from + i))) where
-    item : r ≡ step_of (λ c. c) (code group l.loop.seen file p)
-    item = e ∙ ap (step_of (λ c. c)) (ap (λ (q : ℕ). code group (take i (drop from file)) file q) (sym l.at) ∙ ap (λ (b : List ℕ). code group b file p) (sym l.seen))
+  module _ {i p : ℕ} (l : Codes group file from count i p) (h : i < count) where
+    item : {r : Result Read Broken} → r ≡ step_of (λ c. c) (code group (take i (drop from file)) file (from + i)) → r ≡ step_of (λ c. c) (code group l.loop.seen file p)
+    item e = e ∙ ap (step_of (λ c. c)) (ap (λ (q : ℕ). code group (take i (drop from file)) file q) (sym l.at) ∙ ap (λ (b : List ℕ). code group b file p) (sym l.seen))
 
-    pub codes-turn : {v next : ℕ} → r ≡ Read v next → Codes group file from count (i + 1) next
+    pub codes-turn : {s : Read} → Ok s ≡ step_of (λ c. c) (code group (take i (drop from file)) file (from + i)) → Codes group file from count (i + 1) s.next
     unfolding turn
-    codes-turn {v} {next} q =
-        let t = step-read (λ c. c) r (code group l.loop.seen file p) item q in
-        let s = (new-sound group file l.loop.seen p t.0 next t.1).1 in
-        let b = head file p t.0 (drop next file) s.is in
+    codes-turn {s} e =
+        let t = step-read (λ c. c) (code group l.loop.seen file p) (item e) in
+        let spans = (new-sound group file l.loop.seen p t.0 s.next t.1).1 in
+        let b = head file p t.0 (drop s.next file) spans.is in
         let g : get_or file (from + i) 0 ≡ t.0 = ap (λ (x : ℕ). get_or file x 0) (sym l.at) ∙ b.1 in
         let lt : from + i < length file = omega (arith, b.0, l.at) in
         record {
           loop = turn (code group) file l.loop h t.1;
           seen = ap (λ (x : List ℕ). x ++ (t.0 ∷ [])) l.seen ∙ ap (λ (x : ℕ). take i (drop from file) ++ (x ∷ [])) (sym g) ∙ sym (run_more file from i lt);
-          at = omega (arith, s.end, l.at);
-          room = inside file (one t.0) s l.room;
+          at = omega (arith, spans.end, l.at);
+          room = inside file (one t.0) spans l.room;
         }
 
-    pub codes-broken : {o : ℕ} → r ≡ Broken o → Broken o ≡ step_of length (each_item (code group) count [] file from)
-    codes-broken q = broken (code group) file l.loop h (step-broken (λ c. c) r (code group l.loop.seen file p) item q)
+    pub codes-broken : {o : Broken} → Err o ≡ step_of (λ c. c) (code group (take i (drop from file)) file (from + i)) → Err o ≡ step_of length (each_item (code group) count [] file from)
+    codes-broken e = broken (code group) file l.loop h (step-broken (λ c. c) (code group l.loop.seen file p) (item e))

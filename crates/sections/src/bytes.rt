@@ -6,25 +6,7 @@ ghost use Rattle.sections.specs.Sections.{number};
 pub(crate) fn bytes_left(file: &[u8], at: usize) -> usize
     ensures { result ≡ length file.now - at }
 {
-    if at < file.len() { file.len() - at } else { 0 }
-}
-
-fn wide(b: u8) -> u64
-    ensures { (result ≡ b) × (result < 256) }
-{
-    b as u64
-}
-
-// Four bytes, low byte first.
-fn half_at(file: &[u8], at: usize) -> u64
-    requires { at + 4 ≤ length file.now }
-    ensures { (result ≡ number (take 4 (drop at file.now))) × (result < 4294967296) }
-{
-    let a = wide(file[at]);
-    let b = wide(file[at + 1]);
-    let c = wide(file[at + 2]);
-    let d = wide(file[at + 3]);
-    a + 256 * (b + 256 * (c + 256 * d))
+    file.len().saturating_sub(at)
 }
 
 // "words of 8 bytes, low byte first"
@@ -32,9 +14,9 @@ pub(crate) fn word_at(file: &[u8], at: usize) -> u64
     requires { at + 8 ≤ length file.now }
     ensures { result ≡ number (take 8 (drop at file.now)) }
 {
-    let low = half_at(file, at);
-    let high = half_at(file, at + 4);
-    low + 4294967296 * high
+    let mut bytes = [0u8; 8];
+    bytes.copy_from_slice(&file[at..at + 8]);
+    u64::from_le_bytes(bytes)
 }
 
 // The word at any offset; where fewer than 8 bytes are left, 0.

@@ -81,7 +81,7 @@ pub recorded-passes : {n x : ℕ} → WfRecorded n x → Decided (ill_recorded (
 unfolding Decided
 recorded-passes w = inr (λ h. omega (arith, w.short), inr (λ t. omega (arith, w.clear t.0 t.1), refl))
 
-pub recorded-ok : {n x : ℕ} (a : Result CharSeq Refusal) → RecordedAnswer n x a → (is_ok a ≡ true) ↔ WfRecorded n x
-recorded-ok (Ok s) p = (λ e. recorded-clear p.0, λ w. refl)
-recorded-ok {n} {x} (Err refusal) p =
+pub recorded_ok : {n x : ℕ} (a : Result CharSeq Refusal) → RecordedAnswer n x a → (is_ok a ≡ true) ↔ WfRecorded n x
+recorded_ok (Ok s) p = (λ e. recorded-clear p.0, λ w. refl)
+recorded_ok {n} {x} (Err refusal) p =
     (λ e. absurd (true≢false (sym e)), λ w. absurd (omega (arith, refusal-positive refusal, decided-unique (ill_recorded (seq n x)) _ 0 p.0 (recorded-passes w))))

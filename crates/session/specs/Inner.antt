@@ -8,6 +8,10 @@ abbrev pub AllUpTo : List ℕ → ℕ → ℕ → Bool → Type 0
 AllUpTo list n most true = (i : ℕ) → i < n → get_or list i 0 ≤ most
 AllUpTo list n most false = (i : ℕ) × (i < n) × (most < get_or list i 0)
 
+-- a word that was recorded at length n; as one word, so that the search takes it as it stands
+unfoldable pub WordClear : ℕ → ℕ → Type 0
+WordClear n w = Wf n w
+
 -- all of the m words from `from` on are well formed at length n, or one has a bit at or above n
 abbrev pub Clear : List ℕ → ℕ → ℕ → ℕ → Bool → Type 0
 Clear words from m n true = (p : ℕ) → p < m → Wf n (get_or words (from + p) 0)

@@ -1,11 +1,11 @@
 // The tests of session data that search and check share.
-ghost use Rattle.std.specs.Prelude.{true, ◌⊎◌, ◌+◌, ◌*◌, ◌≤◌, ◌<◌, length};
+ghost use Rattle.std.specs.Prelude.{true, ◌↔◌, IsTrue, All, ◌⊎◌, ◌*◌, ◌≤◌, ◌<◌, length};
 ghost use Rattle.words.specs.Word.{width};
 ghost use Rattle.rules.specs.Answers.{Tested};
 ghost use Rattle.rules.specs.Refusals.{Decided, number_of};
 ghost use Rattle.session.specs.Data.{outside_numbers, data_rows};
 ghost use Rattle.session.specs.Recording.{recording};
-ghost use Rattle.session.specs.Inner.{AllUpTo, Clear, AllClear};
+ghost use Rattle.session.specs.Inner.{AllUpTo, WordClear, AllClear};
 
 use rules::refusal::Refusal;
 use sequence::CharSeq;
@@ -13,48 +13,34 @@ use sequence::CharSeq;
 // The largest length, as lengths are lent.
 const LENGTH: u8 = sequence::CharSeq::MAX_LENGTH as u8;
 
-// Whether each of the first n numbers is at most `most`.
-fn all_up_to(list: &[u8], n: usize, most: u8) -> bool
-    requires { n ≤ length list.now }
-    ensures { AllUpTo list.now n most result }
+// Whether each number is at most `most`.
+fn all_up_to(list: &[u8], most: u8) -> bool
+    ensures { IsTrue result ↔ All (λ x. x ≤ most) list.now }
 {
-    let mut i: usize = 0;
-    while i < n {
-        if most < list[i] {
-            return false;
-        }
-        i += 1;
-    }
-    true
+    list.iter().all(|&x| x <= most)
 }
 
-// Whether the m words from `from` on have no bit at or above n.
-fn session_clear(words: &[u64], from: usize, m: usize, n: usize) -> bool
-    requires { (n ≤ width) × (from + m ≤ length words.now) }
-    ensures { Clear words.now from m n result }
+// Whether a word has no bit at or above n.
+fn word_clear(word: u64, n: usize) -> bool
+    ensures { IsTrue result ↔ WordClear n word }
 {
-    let mut p: usize = 0;
-    while p < m {
-        let word = words[from + p];
-        if CharSeq::recorded(n, word).is_err() {
-            return false;
-        }
-        p += 1;
-    }
-    true
+    CharSeq::recorded(n, word).is_ok()
 }
 
+// Whether no word of a session of length n has one.
+fn session_clear(words: &[u64], n: usize) -> bool
+    ensures { IsTrue result ↔ All (λ w. WordClear n w) words.now }
+{
+    words.iter().all(|&word| word_clear(word, n))
+}
+
+// The same of each of r sessions, whose words lie m after m.
 fn all_clear(lengths: &[u8], words: &[u64], r: usize, m: usize) -> bool
     requires { (r ≤ length lengths.now) × (m * r ≤ length words.now) × AllUpTo lengths.now r width true }
     ensures { AllClear lengths.now words.now r m result }
 {
-    let mut i: usize = 0;
-    let mut at: usize = 0;
-    while i < r {
-        if session_clear(words, at, m, lengths[i] as usize) {
-            at += m;
-            i += 1;
-        } else {
+    for i in 0..r {
+        if !session_clear(&words[i * m..i * m + m], lengths[i] as usize) {
             return false;
         }
     }
@@ -89,13 +75,13 @@ pub fn test(r: usize, m: usize, marks: &[u8], lengths: &[u8], words: &[u64]) -> 
     if short(r, m, marks.len(), lengths.len(), words.len()) {
         return Err(Refusal::Room);
     }
-    if !all_up_to(lengths, r, LENGTH) {
+    if !all_up_to(&lengths[..r], LENGTH) {
         return Err(Refusal::Length);
     }
     if !all_clear(lengths, words, r, m) {
         return Err(Refusal::Bit);
     }
-    if !all_up_to(marks, r, 1) {
+    if !all_up_to(&marks[..r], 1) {
         return Err(Refusal::Mark);
     }
     Ok(())

@@ -1,3 +1,2 @@
 -- Laws by subject.
 pub mod Same
-pub mod Words

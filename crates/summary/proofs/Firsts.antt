@@ -12,8 +12,7 @@ use Rattle.words.specs.Ltlf.{Reading}
 use Rattle.words.specs.Word.{width, bit, At, Means}
 use Rattle.words.proofs.Bits.{bit-first, bit-rest, bit-zero, bits-ext}
 use Rattle.words.proofs.At.{at-or-not, at-and, and_at, at-not, at-below, wf-lt, not_at}
-use Rattle.summary.specs.declared.values.First.{First}
-use Rattle.summary.specs.declared.values.First.TheVariants.{Never, Snapshot}
+use Rattle.std.specs.Prelude.{Option, Some, None}
 use Rattle.summary.specs.declared.values.Summary.{Summary}
 use Rattle.summary.specs.Values.{LeastIn, CountIn, Fails, Summed}
 
@@ -42,10 +41,10 @@ pub lowest-there : (k x : ℕ) → x < 2 ^ k → (x ≡ 0 → ⊥) → count_tra
 lowest-there k x l n = lt_of_not-le λ g. n (bits-ext k x 0 l (pow_pos k) (λ p h. clear-below k x p (omega arith) ∙ sym (bit-zero p)))
 
 -- THE LEAST PLACE THAT IS SET
-pub lowest-least : (x : ℕ) → x < 2 ^ width → (x ≡ 0 → ⊥) → LeastIn width (At x) (Snapshot (count_trailing_zeros width x))
+pub lowest-least : (x : ℕ) → x < 2 ^ width → (x ≡ 0 → ⊥) → LeastIn width (At x) (Some (count_trailing_zeros width x))
 lowest-least x l n = (lowest-there width x l n, set_there width x (lowest-there width x l n), λ p h a. omega (arith, clear-below width x p h))
 
-pub none-set : (x : ℕ) → x ≡ 0 → LeastIn width (At x) Never
+pub none-set : (x : ℕ) → x ≡ 0 → LeastIn width (At x) None
 none-set x e p h a = let b : bit x p ≡ 0 = ap (λ (y : ℕ). bit y p) e ∙ bit-zero p in omega arith
 
 -- ---- ones
@@ -74,9 +73,9 @@ counted-in f x (suc n) same =
 -- ---- of a masked word
 
 module _ (f : Reading) {n : ℕ} (x : ℕ) (short : n ≤ width) (inside : (p : ℕ) → At x p → p < n) (same : (p : ℕ) → p < n → At x p ↔ f p) where
-  least_on : (r : First) → LeastIn width (At x) r → LeastIn n f r
-  least_on Never l = λ p h a. l p (omega arith) ((same p h).1 a)
-  least_on (Snapshot q) l =
+  least_on : (r : Option ℕ) → LeastIn width (At x) r → LeastIn n f r
+  least_on None l = λ p h a. l p (omega arith) ((same p h).1 a)
+  least_on (Some q) l =
       let h = inside q l.1 in
       (h, (same q h).0 l.1, λ p g a. l.2 p g ((same p (omega arith)).1 a))
 
@@ -99,10 +98,10 @@ module _ (length w m : ℕ) (l : w < 2 ^ width) (mask : Means width m (λ p. p <
       let n = at-not width w p (omega arith) l in
       (λ a. n.0 (inner (2 ^ width - 1 - w) p a).1, λ a. and_at (2 ^ width - 1 - w) m p (n.1 a) (masked p h))
 
-  pub least-holds : (r : First) → LeastIn width (At (bit_and w m)) r → LeastIn (min length width) (At w) r
+  pub least-holds : (r : Option ℕ) → LeastIn width (At (bit_and w m)) r → LeastIn (min length width) (At w) r
   least-holds r = least_on (At w) (bit_and w m) (omega arith) (λ p a. (inner w p a).0) holding r
 
-  pub least-fails : (r : First) → LeastIn width (At (bit_and (2 ^ width - 1 - w) m)) r → LeastIn (min length width) (Fails (At w)) r
+  pub least-fails : (r : Option ℕ) → LeastIn width (At (bit_and (2 ^ width - 1 - w) m)) r → LeastIn (min length width) (Fails (At w)) r
   least-fails r = least_on (Fails (At w)) (bit_and (2 ^ width - 1 - w) m) (omega arith) (λ p a. (inner (2 ^ width - 1 - w) p a).0) failing r
 
   low : bit_and w m < 2 ^ min length width
@@ -117,9 +116,9 @@ module _ (length w m : ℕ) (l : w < 2 ^ width) (mask : Means width m (λ p. p <
 -- ---- over a reading
 
 module _ {n : ℕ} {f g : Reading} (same : (p : ℕ) → p < n → f p ↔ g p) where
-  least-same : (r : First) → LeastIn n f r → LeastIn n g r
-  least-same Never l = λ p h a. l p h ((same p h).1 a)
-  least-same (Snapshot q) l = (l.0, (same q l.0).0 l.1, λ p h a. let i = l.0 in l.2 p h ((same p (omega arith)).1 a))
+  least-same : (r : Option ℕ) → LeastIn n f r → LeastIn n g r
+  least-same None l = λ p h a. l p h ((same p h).1 a)
+  least-same (Some q) l = (l.0, (same q l.0).0 l.1, λ p h a. let i = l.0 in l.2 p h ((same p (omega arith)).1 a))
 
 count_same : {f g : Reading} (n c : ℕ) → ((p : ℕ) → p < n → f p ↔ g p) → CountIn n f c → CountIn n g c
 count_same zero c same e = e

@@ -1,10 +1,14 @@
 -- Acceptance: the program's test of a session is the walk's, and so it is of all of them.
 -- Assumes nothing.
-use mathlib.Core.Path.{◌≡◌, refl, sym, ap, ap₂}
+use mathlib.Core.Path.{◌≡◌, refl, sym, ap, ap₂, ◌∙◌, subst}
 use mathlib.Core.Bool.{Bool, true, false, ◌&&◌, not, beq}
-use Prim.Native.Nat.{ℕ, zero, suc, ◌+◌, ◌-◌, ◌≤◌, ◌<◌}
+use Prim.Native.Nat.{ℕ, zero, suc, ◌+◌, ◌≤◌, ◌<◌}
 use native.Mathlib.Omega.{arith}
-use native.Mathlib.Numerals.{add-one}
+use native.Mathlib.Decide.{ℕ_discrete}
+use lib.ListN.{length, get_or}
+use Rattle.std.specs.Bool.{MatchBool}
+use Rattle.std.specs.List.{AllWithin, HoldsAt, range_with_len}
+use Rattle.std.proofs.lemmas.List.FromFn.{length-range_with_len, get_or-range_with_len}
 use lib.Seq.{get_or-take}
 use lib.Dec.{eqb}
 use lib.Bits.{bit_and}
@@ -35,18 +39,36 @@ accepts-row x h = eq-eqb (bit x 0) 1 ((at_first x).0 h)
 pub rejects-row : (x : ℕ) → (bit_and x 1 ≡ 1 → ⊥) → accepts_row x ≡ false
 rejects-row x h = ne_eqb (bit x 0) 1 (λ p. h ((at_first x).1 p))
 
--- ---- what is left of the sessions from j on
+-- ---- all sessions
 
-pub every-start : (r : ℕ) (f : ℕ → Bool) → every (count 0 r) f ≡ every (count 0 (r - 0)) f
-every-start r f = ap (λ (n : ℕ). every (count 0 n) f) (let e : r ≡ r - 0 = omega arith in e)
-
-pub every-turn : (j r : ℕ) (f : ℕ → Bool) → j < r → every (count j (r - j)) f ≡ (f j && every (count (j + 1) (r - (j + 1))) f)
+every-true : (a n : ℕ) (f : ℕ → Bool) → ((j : ℕ) → a ≤ j → j < a + n → f j ≡ true) → every (count a n) f ≡ true
 unfolding every count
-every-turn j r f h = let e : r - j ≡ suc (r - (j + 1)) = omega arith in rw (e, add-one)
+every-true a zero f e = refl
+every-true a (suc n) f e = ap₂ (λ (x y : Bool). x && y) (e a (omega arith) (omega arith)) (every-true (suc a) n f (λ j l m. e j (omega arith) (omega arith)))
 
-pub every-end : (j r : ℕ) (f : ℕ → Bool) → r ≤ j → every (count j (r - j)) f ≡ true
+and-false : (b : Bool) → (b && false) ≡ false
+and-false true = refl
+and-false false = refl
+
+every-false : (a n : ℕ) (f : ℕ → Bool) (k : ℕ) → a ≤ k → k < a + n → f k ≡ false → every (count a n) f ≡ false
 unfolding every count
-every-end j r f h = let e : r - j ≡ 0 = omega arith in rw e
+every-false a zero f k l m e = absurd (omega arith)
+every-false a (suc n) f k l m e = elim (ℕ_discrete k a) [
+  | yes q ↦ ap (λ (b : Bool). b && every (count (suc a) n) f) (ap f (sym q) ∙ e)
+  | no q ↦ ap (λ (b : Bool). f a && b) (every-false (suc a) n f k (omega arith) (omega arith) e) ∙ and-false (f a)
+]
+
+at-range : (n j : ℕ) → j < n → get_or (range_with_len 0 n) j 0 ≡ j
+at-range n j h = get_or-range_with_len 0 n j 0 h ∙ (let e : 0 + j ≡ j = omega arith in e)
+
+-- what `all` over a range answers
+pub every-answer : (n : ℕ) (f : ℕ → Bool) (b : Bool)
+    → MatchBool b (AllWithin (λ j. f j ≡ true) (range_with_len 0 n) 0 (length (range_with_len 0 n)))
+    ((k : ℕ) × (k < length (range_with_len 0 n)) × HoldsAt (λ j. f j ≡ false) (range_with_len 0 n) k)
+    → b ≡ every (count 0 n) f
+every-answer n f true h = sym (every-true 0 n f (λ j l m. subst (λ (x : ℕ). f x ≡ true) (at-range n j (omega arith)) (h j 0 (omega arith) (omega (arith, length-range_with_len 0 n)))))
+every-answer n f false (k, l, h) = let m : k < n = omega (arith, l, length-range_with_len 0 n) in
+    sym (every-false 0 n f k (omega arith) (omega arith) (subst (λ (x : ℕ). f x ≡ false) (at-range n k m) (h 0)))
 
 -- ---- the walk's test
 

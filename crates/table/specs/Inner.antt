@@ -1,6 +1,6 @@
 -- What the table's private functions promise each other. No public contract cites this.
 -- Assumes nothing.
-use Rattle.std.specs.Prelude.{Bool, true, false, List, ℕ, ◌+◌, ◌*◌, ◌≤◌, ◌<◌, length}
+use Rattle.std.specs.Prelude.{ℕ, ◌+◌, ◌*◌, ◌≤◌, ◌<◌}
 use Rattle.rules.specs.Limits.{most_sessions}
 
 -- ---- keeping

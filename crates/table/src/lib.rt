@@ -15,19 +15,11 @@ use formula::kinds::Node;
 use rules::kinds::Place;
 
 // Whether exactly the sessions marked 1 accept (is_equivalent in cm.rs). False where r is above the most sessions or a slice is shorter.
+#[tactic(auto, unfolding(crate::specs::Acceptance::agreeing))]
 pub fn agrees(r: usize, marks: &[u8], rows: &[u64]) -> bool
     ensures { result ≡ agreeing r marks.now rows.now }
 {
-    if rules::SESSIONS < r {
-        return false;
-    }
-    if marks.len() < r {
-        return false;
-    }
-    if rows.len() < r {
-        return false;
-    }
-    tests::all_agree(r, marks, rows)
+    r <= rules::SESSIONS && r <= marks.len() && r <= rows.len() && tests::all_agree(r, marks, rows)
 }
 
 // Writes a formula at a place: its node and its matrix. False where a slice has no such place.

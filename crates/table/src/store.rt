@@ -20,29 +20,14 @@ pub(crate) fn fits(
 ) -> bool
     ensures { Tested (FitsAt r place.0 rows codes lefts rights sizes matrices) result }
 {
-    if rules::SESSIONS < r {
-        return false;
-    }
-    if rows < r {
-        return false;
-    }
     let at = place.0 as usize;
-    if codes <= at {
-        return false;
-    }
-    if lefts <= at {
-        return false;
-    }
-    if rights <= at {
-        return false;
-    }
-    if sizes <= at {
-        return false;
-    }
-    if matrices < at * r + r {
-        return false;
-    }
-    true
+    r <= rules::SESSIONS
+        && r <= rows
+        && at < codes
+        && at < lefts
+        && at < rights
+        && at < sizes
+        && at * r + r <= matrices
 }
 
 // Writes the rows from `from` on.
@@ -50,9 +35,5 @@ pub(crate) fn put(r: usize, matrices: &mut [u64], rows: &[u64], from: usize)
     requires { WordForEach r rows.now × (from + r ≤ length matrices.old) }
     ensures { matrices.new ≡ paste matrices.old from rows.now r }
 {
-    let mut j: usize = 0;
-    while j < r {
-        matrices[from + j] = rows[j];
-        j += 1;
-    }
+    matrices[from..from + r].copy_from_slice(&rows[..r]);
 }

@@ -19,13 +19,5 @@ pub(crate) fn all_agree(r: usize, marks: &[u8], rows: &[u64]) -> bool
     requires { WordForEach r marks.now × WordForEach r rows.now }
     ensures { result ≡ every (count 0 r) (agrees_at marks.now rows.now) }
 {
-    let mut j: usize = 0;
-    while j < r {
-        if agrees_at(rows[j], marks[j]) {
-            j += 1;
-        } else {
-            return false;
-        }
-    }
-    true
+    (0..r).all(|j| agrees_at(rows[j], marks[j]))
 }

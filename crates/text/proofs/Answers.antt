@@ -2,16 +2,20 @@
 -- Assumes nothing.
 use mathlib.Core.Path.{◌≡◌, refl, sym, ap, ◌∙◌, subst}
 use mathlib.Core.Logic.{inl, inr}
+use mathlib.Core.Bool.{true≢false}
 use mathlib.Core.List.{List, [], ◌∷◌, ◌++◌, head-eq_of_cons-eq}
 use Prim.Native.Nat.{ℕ, ◌+◌, ◌≤◌, ◌<◌}
 use native.Mathlib.Omega.{arith}
 use lib.Dec.{lit<}
 use lib.ListN.{length, take, drop}
 use lib.Seq.{sets, sets-eq}
-use Rattle.rules.specs.Refusals.{Decided}
-use Rattle.rules.proofs.Refusals.{decided-none, decided-early}
-use Rattle.names.specs.declared.NamesAnswer.{NamesAnswer}
-use Rattle.names.specs.declared.NamesAnswer.TheVariants.{Names, Broken as NamesBroken}
+use Rattle.rules.specs.Refusals.{Decided, refusal_number}
+use Rattle.rules.proofs.Refusals.{decided-none, refused-early, refusal-positive}
+use Rattle.std.specs.Prelude.{Result, Ok, Err, IsErr, IsErrAnd}
+use Rattle.rules.specs.declared.refusal.Refusal.{Refusal}
+use Rattle.reading.specs.declared.Broken.{Broken}
+use Rattle.text.specs.declared.PrintError.{PrintError}
+use Rattle.text.specs.declared.PrintError.TheVariants as error
 use Rattle.reading.specs.Reading.{Got, got, bad, broken}
 use Rattle.names.specs.Names.{whole_names, listed, names_in, GoodNames}
 use Rattle.rules.specs.Answers.{Said, over}
@@ -23,33 +27,42 @@ use Rattle.formula.specs.Formula.{Formula}
 use Rattle.formula.specs.Nodes.{Node, Spells, codes}
 use Rattle.formula.specs.Rule.{broken_list}
 use Rattle.text.specs.Text.{text, most_text}
-use Rattle.text.specs.Print.{short_text_room, PrintAnswer, PrintsBy, Prints}
+use Rattle.text.specs.Print.{said_printed, short_text_room, PrintAnswer, PrintsBy, Prints}
 use Rattle.text.specs.Inner.{Passed, Printable, TextWritten}
 use Rattle.formula.proofs.Faults.{whole-fits}
 use Rattle.text.proofs.Printing.{formula-of, text-bound}
 
 -- ---- the names
 
-module _ (file : List ℕ) (r : NamesAnswer) (e : said_names r ≡ names_said file) where
-  pub names-good : {m : ℕ} → r ≡ Names m → GoodNames file × (m ≡ length (names_in file))
-  names-good {m} q = go (whole_names file) refl (ap said_names (sym q) ∙ e)
+module _ (file : List ℕ) where
+  pub names-good : (m : ℕ) → said_names (Ok m) ≡ names_said file → GoodNames file × (m ≡ length (names_in file))
+  names-good m e = go (whole_names file) refl e
     where
-      go : (g : Got (List (List ℕ))) → whole_names file ≡ g → said_names (Names m) ≡ said_of_names g → GoodNames file × (m ≡ length (names_in file))
+      go : (g : Got (List (List ℕ))) → whole_names file ≡ g → said_names (Ok m) ≡ said_of_names g → GoodNames file × (m ≡ length (names_in file))
       go (got names next) w h =
           let n : names_in file ≡ names = ap listed w in
           let z : m ≡ length names = head-eq_of_cons-eq (ap (λ (s : Said). s.values) h) in
           ((next, w ∙ ap (λ (l : List (List ℕ)). got l next) (sym n)), z ∙ ap length (sym n))
       go (bad o) w h = let z : ◌≡◌ {A = ℕ} 0 8 = ap (λ (s : Said). s.number) h in absurd (omega arith)
 
-  pub names-broken : {o : ℕ} → r ≡ NamesBroken o → whole_names file ≡ bad o
-  names-broken {o} q = go (whole_names file) refl (ap said_names (sym q) ∙ e)
+  pub names-broken : (o : Broken) → said_names (Err o) ≡ names_said file → whole_names file ≡ bad o.0
+  names-broken o e = go (whole_names file) refl e
     where
-      go : (g : Got (List (List ℕ))) → whole_names file ≡ g → said_names (NamesBroken o) ≡ said_of_names g → whole_names file ≡ bad o
+      go : (g : Got (List (List ℕ))) → whole_names file ≡ g → said_names (Err o) ≡ said_of_names g → whole_names file ≡ bad o.0
       go (got names next) w h = let z : ◌≡◌ {A = ℕ} 8 0 = ap (λ (s : Said). s.number) h in absurd (omega arith)
       go (bad p) w h = w ∙ ap bad (sym (head-eq_of_cons-eq (ap (λ (s : Said). s.values) h)))
 
-pub prints-broken : (file : List ℕ) (k : List Node) (root : Node) (old : List ℕ) {o : ℕ} → whole_names file ≡ bad o → Prints file k root old (broken o) old
-prints-broken file k root old {o} e = subst (λ (g : Got (List (List ℕ))). PrintsBy g k root old (broken o) old) (sym e) (refl, refl)
+-- ---- what `?` hands up
+
+handed : (a : Result ℕ PrintError) (error : PrintError) → IsErr a × IsErrAnd a (λ e. e ≡ error) → Err error ≡ a
+handed (Ok n) error h = absurd (true≢false (sym h.0))
+handed (Err e) error h = ap Err (sym h.1)
+
+pub prints-broken : (file : List ℕ) (k : List Node) (root : Node) (old : List ℕ) (o : Broken) (a : Result ℕ PrintError) → whole_names file ≡ bad o.0
+    → IsErr a × IsErrAnd a (λ e. e ≡ error.Broken o.0) → Prints file k root old (said_printed a) old
+prints-broken file k root old o a e h =
+    subst (λ (r : Result ℕ PrintError). Prints file k root old (said_printed r) old) (handed a (error.Broken o.0) h)
+    (subst (λ (g : Got (List (List ℕ))). PrintsBy g k root old (broken o.0) old) (sym e) (refl, refl))
 
 -- ---- the list and the room
 
@@ -61,18 +74,20 @@ module _ (file : List ℕ) (g : GoodNames file) (k : List Node) (root : Node) (o
     this : (b : ℕ) → Decided (broken_list m k root ∷ []) b → Decided (broken_list (length (names_in file)) k root ∷ []) b
     this b d = subst (λ (x : ℕ). Decided (broken_list x k root ∷ []) b) n d
 
-    pub prints-nine : (b : ℕ) → Decided (broken_list m k root ∷ []) b → (b ≡ 0 → ⊥) → Prints file k root old (record { number = b; values = [] }) old
-    prints-nine b d h = prints (record { number = b; values = [] }) old record {
-      number = decided-early (broken_list (length (names_in file)) k root ∷ []) (short_text_room (names_in file) k root old ∷ []) b (this b d) h;
-      refused = λ z. (refl, refl);
-      passed = λ z. absurd (h z);
-    }
+    pub prints-nine : (refusal : Refusal) (a : Result ℕ PrintError) → Decided (broken_list m k root ∷ []) (refusal_number refusal)
+        → IsErr a × IsErrAnd a (λ e. e ≡ error.Refused refusal) → Prints file k root old (said_printed a) old
+    prints-nine refusal a d h =
+        subst (λ (r : Result ℕ PrintError). Prints file k root old (said_printed r) old) (handed a (error.Refused refusal) h)
+        (prints (record { number = refusal_number refusal; values = [] }) old record {
+          number =
+              refused-early (broken_list (length (names_in file)) k root ∷ []) (short_text_room (names_in file) k root old ∷ []) refusal
+              (this (refusal_number refusal) d);
+          refused = λ z. (refl, refl);
+          passed = λ z. absurd (omega (arith, refusal-positive refusal));
+        })
 
-    pub passed-both : (b : ℕ) → Decided (broken_list m k root ∷ []) b → b ≡ 0 → Passed file k root
-    passed-both b d z = record {
-      good = g;
-      whole = (decided-none (broken_list (length (names_in file)) k root) [] (lit< tt, tt) (subst (Decided (broken_list (length (names_in file)) k root ∷ [])) z (this b d))).0;
-    }
+    pub passed-both : Decided (broken_list m k root ∷ []) 0 → Passed file k root
+    passed-both d = record { good = g; whole = (decided-none (broken_list (length (names_in file)) k root) [] (lit< tt, tt) (this 0 d)).0 }
 
 -- ---- the text, in a room of its own
 

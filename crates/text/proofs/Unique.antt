@@ -6,13 +6,15 @@ use Prim.Native.Nat.{ℕ}
 use native.Mathlib.Decide.{ℕ_discrete}
 use native.Mathlib.Omega.{arith}
 use lib.ListN.{length}
-use Rattle.rules.proofs.Refusals.{decided-unique}
+use Rattle.rules.proofs.Refusals.{decided-unique, refusal-one}
 use Rattle.reading.specs.Reading.{Got, got, bad}
 use Rattle.names.specs.Names.{whole_names}
 use Rattle.rules.specs.Answers.{Said, over}
+use Rattle.rules.specs.declared.refusal.Refusal.{Refusal}
 use Rattle.formula.specs.Nodes.{Node}
-use Rattle.text.specs.declared.Printed.{Printed}
-use Rattle.text.specs.declared.Printed.TheVariants.{Text, Broken, Refused as NotPrinted}
+use Rattle.std.specs.Prelude.{Result, Ok, Err}
+use Rattle.text.specs.declared.PrintError.{PrintError}
+use Rattle.text.specs.declared.PrintError.TheVariants.{Broken, Refused}
 use Rattle.text.specs.Text.{text}
 use Rattle.text.specs.Print.{said_printed, PrintAnswer, PrintsBy, Prints}
 use Rattle.formula.proofs.Spelled.{one-formula}
@@ -45,19 +47,19 @@ same_by : (g : Got (List (List ℕ))) (k : List Node) (root : Node) (old : List 
 same_by (bad o) k root old s r new later a b = (a.0 ∙ sym b.0, a.1 ∙ sym b.1)
 same_by (got names next) k root old s r new later a b = same-print names k root old s r new later a b
 
-printed-one : (p q : Printed) → said_printed p ≡ said_printed q → p ≡ q
-printed-one (Text n) (Text m) e = ap Text (head-eq_of_cons-eq (ap (λ (s : Said). s.values) e))
-printed-one (Text n) (Broken o) e = let z = ap (λ (s : Said). s.number) e in absurd (omega arith)
-printed-one (Text n) (NotPrinted m) e = absurd (nil≢cons (sym (ap (λ (s : Said). s.values) e)))
-printed-one (Broken o) (Text m) e = let z = ap (λ (s : Said). s.number) e in absurd (omega arith)
-printed-one (Broken o) (Broken u) e = ap Broken (head-eq_of_cons-eq (ap (λ (s : Said). s.values) e))
-printed-one (Broken o) (NotPrinted m) e = absurd (nil≢cons (sym (ap (λ (s : Said). s.values) e)))
-printed-one (NotPrinted n) (Text m) e = absurd (nil≢cons (ap (λ (s : Said). s.values) e))
-printed-one (NotPrinted n) (Broken o) e = absurd (nil≢cons (ap (λ (s : Said). s.values) e))
-printed-one (NotPrinted n) (NotPrinted m) e = ap NotPrinted (ap (λ (s : Said). s.number) e)
+printed-one : (p q : Result ℕ PrintError) → said_printed p ≡ said_printed q → p ≡ q
+printed-one (Ok n) (Ok m) e = ap Ok (head-eq_of_cons-eq (ap (λ (s : Said). s.values) e))
+printed-one (Ok n) (Err (Broken o)) e = let z = ap (λ (s : Said). s.number) e in absurd (omega arith)
+printed-one (Ok n) (Err (Refused m)) e = absurd (nil≢cons (sym (ap (λ (s : Said). s.values) e)))
+printed-one (Err (Broken o)) (Ok m) e = let z = ap (λ (s : Said). s.number) e in absurd (omega arith)
+printed-one (Err (Broken o)) (Err (Broken u)) e = ap (λ (o : ℕ). Err (Broken o)) (head-eq_of_cons-eq (ap (λ (s : Said). s.values) e))
+printed-one (Err (Broken o)) (Err (Refused m)) e = absurd (nil≢cons (sym (ap (λ (s : Said). s.values) e)))
+printed-one (Err (Refused n)) (Ok m) e = absurd (nil≢cons (ap (λ (s : Said). s.values) e))
+printed-one (Err (Refused n)) (Err (Broken o)) e = absurd (nil≢cons (ap (λ (s : Said). s.values) e))
+printed-one (Err (Refused n)) (Err (Refused m)) e = ap (λ (r : Refusal). Err (Refused r)) (refusal-one n m (ap (λ (s : Said). s.number) e))
 
 -- the answer, and what the lent room holds
-pub print-unique : (file : List ℕ) (k : List Node) (root : Node) (old : List ℕ) (p q : Printed) (new later : List ℕ)
+pub print-unique : (file : List ℕ) (k : List Node) (root : Node) (old : List ℕ) (p q : Result ℕ PrintError) (new later : List ℕ)
     → Prints file k root old (said_printed p) new → Prints file k root old (said_printed q) later → (p ≡ q) × (new ≡ later)
 print-unique file k root old p q new later a b =
     let e = same_by (whole_names file) k root old (said_printed p) (said_printed q) new later a b in

@@ -3,7 +3,6 @@
 
 mod text;
 
-ghost use Rattle.std.specs.Prelude.{◌≡◌};
 ghost use Rattle.formula.specs.Kinds.{node_of, nodes};
 ghost use Rattle.text.specs.Print.{said_printed, Prints};
 ghost use Rattle.text.specs.Inner.{Passed};
@@ -24,7 +23,10 @@ pub enum PrintError {
 }
 
 impl From<Broken> for PrintError {
-    ghost from_gives = { λ broken error. error ≡ PrintError.Broken broken.0 };
+    ghost use Rattle.std.specs.Prelude.{◌≡◌};
+    ghost use Rattle.text.specs.declared.PrintError.TheVariants.{Broken};
+
+    ghost from_gives = { λ broken error. error ≡ Broken broken.0 };
 
     fn from(broken: Broken) -> PrintError {
         PrintError::Broken(broken.0)
@@ -32,7 +34,10 @@ impl From<Broken> for PrintError {
 }
 
 impl From<Refusal> for PrintError {
-    ghost from_gives = { λ refusal error. error ≡ PrintError.Refused refusal };
+    ghost use Rattle.std.specs.Prelude.{◌≡◌};
+    ghost use Rattle.text.specs.declared.PrintError.TheVariants.{Refused};
+
+    ghost from_gives = { λ refusal error. error ≡ Refused refusal };
 
     fn from(refusal: Refusal) -> PrintError {
         PrintError::Refused(refusal)
@@ -56,7 +61,7 @@ fn print_passed(
     let mut whole = [0u8; LONGEST];
     let n = write(names, codes, lefts, rights, sizes, root, &mut whole, 0);
     if room.len() < n {
-        return Err(Refusal::Room.into());
+        return Err(PrintError::Refused(Refusal::Room));
     }
     Ok(writing::put(room, 0, &whole[..n]))
 }

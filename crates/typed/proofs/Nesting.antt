@@ -1,16 +1,26 @@
 -- Brackets counted byte by byte.
 -- Assumes nothing.
 use mathlib.Core.Path.{◌≡◌, refl, sym, ap, ◌∙◌}
-use mathlib.Core.Bool.{cond}
+use mathlib.Core.Bool.{Bool, true, false, cond}
 use mathlib.Core.List.{List, [], ◌∷◌, ◌++◌}
 use Prim.Native.Nat.{ℕ, ◌+◌, ◌≤◌, ◌<◌}
 use native.Mathlib.Omega.{arith}
 use native.Mathlib.Decide.{dec_le}
 use native.Mathlib.Numerals.{add-one}
+use mir.Val.{bool_byte}
 use lib.Dec.{eqb}
 use lib.ListN.{length, take, get_or}
 use lib.Seq.{take-suc, take_all}
 use Rattle.typed.specs.Words.{how_many, most_brackets, DeepAt, Deep}
+use Rattle.typed.specs.Inner.{One}
+
+-- a test as a number
+pub one_of : (b this r : ℕ) → r ≡ bool_byte (eqb b this) → One b this r
+one_of b this r e = go (eqb b this) refl
+  where
+    go : (t : Bool) → eqb b this ≡ t → One b this r
+    go true q = let z : r ≡ 1 = e ∙ ap bool_byte q in record { is = z ∙ sym (ap (λ (t : Bool). cond t 1 0) q); most = omega arith }
+    go false q = let z : r ≡ 0 = e ∙ ap bool_byte q in record { is = z ∙ sym (ap (λ (t : Bool). cond t 1 0) q); most = omega arith }
 
 many_more : (b : ℕ) (xs : List ℕ) (x : ℕ) → how_many b (xs ++ (x ∷ [])) ≡ how_many b xs + cond (eqb x b) 1 0
 unfolding how_many

@@ -6,8 +6,7 @@ use mathlib.Core.List.{List}
 use Prim.Native.Nat.{ℕ}
 use native.Mathlib.Omega.{arith}
 use native.Mathlib.Decide.{dec_lt}
-use Rattle.typed.specs.declared.unknown.Missing.{Missing}
-use Rattle.typed.specs.declared.unknown.Missing.TheVariants.{Nothing, At}
+use Rattle.std.proofs.Common.{Option, Some, None}
 use Rattle.typed.specs.Words.{FirstUnknown}
 use Rattle.typed.specs.Answers.{MissingIs, DeepIs}
 
@@ -17,11 +16,11 @@ first_one j k a b = elim (dec_lt j k) [
   | no h ↦ elim (dec_lt k j) [ yes g ↦ absurd (a.before k g b.here) | no g ↦ omega arith ]
 ]
 
-pub missing-unique : (names : List (List ℕ)) (text : List ℕ) (a b : Missing) → MissingIs names text a → MissingIs names text b → a ≡ b
-missing-unique names text Nothing Nothing p q = refl
-missing-unique names text Nothing (At k) p q = absurd (p k q.here)
-missing-unique names text (At j) Nothing p q = absurd (q j p.here)
-missing-unique names text (At j) (At k) p q = ap At (first_one j k p q)
+pub missing-unique : (names : List (List ℕ)) (text : List ℕ) (a b : Option ℕ) → MissingIs names text a → MissingIs names text b → a ≡ b
+missing-unique names text None None p q = refl
+missing-unique names text None (Some k) p q = absurd (p k q.here)
+missing-unique names text (Some j) None p q = absurd (q j p.here)
+missing-unique names text (Some j) (Some k) p q = ap Some (first_one j k p q)
 
 pub deep-unique : (text : List ℕ) (a b : Bool) → DeepIs text a → DeepIs text b → a ≡ b
 deep-unique text true true p q = refl

@@ -1,8 +1,8 @@
 -- Words that are known, and the words that a pass over the text meets.
 -- Assumes nothing.
-use mathlib.Core.Path.{◌≡◌, refl, sym, subst, ◌∙◌}
+use mathlib.Core.Path.{◌≡◌, sym, subst, ◌∙◌}
 use mathlib.Core.Logic.{inl, inr, ⊎_elim}
-use mathlib.Core.Bool.{Bool, true, false, not}
+use mathlib.Core.Bool.{Bool, true, false}
 use mathlib.Core.List.{List, Memᴰ}
 use Prim.Native.Nat.{ℕ, ◌+◌, ◌-◌, ◌≤◌, ◌<◌}
 use native.Mathlib.Omega.{arith}
@@ -13,27 +13,24 @@ use Rattle.reading.proofs.Lists.{true-false}
 use Rattle.names.specs.Names.{is_name_byte, same_bytes}
 use Rattle.names.specs.Reserved.{reserved}
 use Rattle.names.specs.Lookup.{find_from}
-use Rattle.names.specs.declared.lookup.FoundName.{FoundName}
-use Rattle.names.specs.declared.lookup.FoundName.TheVariants.{At as FoundAt, Nothing as Absent}
 use Rattle.names.proofs.Finding.{FoundIs, found-is, is-in, not-is-in}
-use Rattle.typed.specs.declared.unknown.Passed.{Passed}
-use Rattle.typed.specs.declared.unknown.Passed.TheVariants.{Unknown, To}
+use Rattle.std.proofs.Common.{Option, Some, None, is_some}
 use Rattle.typed.specs.Words.{WordAt, UnknownAt, FirstUnknown}
 use Rattle.typed.specs.Inner.{RunTo, KnownIs, Boundary, PassedIs}
 
 -- ---- known words
 
 module _ (names : List (List ℕ)) (w : List ℕ) where
-  pub known-reserved : {b : Bool} → b ≡ true → b ≡ is_in same_bytes w reserved → KnownIs names w true
-  known-reserved e q = inl (is-in w reserved (sym q ∙ e))
+  pub known-reserved : {b : Bool} → b ≡ true → b ≡ is_in same_bytes w reserved → KnownIs names w b
+  known-reserved e q = let k : KnownIs names w true = inl (is-in w reserved (sym q ∙ e)) in subst (KnownIs names w) (sym e) k
 
-  pub known-found : {f : FoundName} {k : ℕ} → f ≡ FoundAt k → f ≡ find_from 0 w names → KnownIs names w true
-  known-found {k = k} e q = let h : FoundIs w names 0 (FoundAt k) = subst (FoundIs w names 0) (sym q ∙ e) (found-is w names 0) in inr h.3
-
-  pub known-not : {b : Bool} {f : FoundName} → b ≡ false → b ≡ is_in same_bytes w reserved → f ≡ Absent → f ≡ find_from 0 w names → KnownIs names w false
-  known-not e q d p =
-      let h : FoundIs w names 0 Absent = subst (FoundIs w names 0) (sym p ∙ d) (found-is w names 0) in
-      (not-is-in w reserved (sym q ∙ e), h)
+  pub known-named : {b r : Bool} (f : Option ℕ) → b ≡ false → b ≡ is_in same_bytes w reserved → f ≡ find_from 0 w names → r ≡ is_some f → KnownIs names w r
+  known-named (Some k) e q p d =
+      let h : FoundIs w names 0 (Some k) = subst (FoundIs w names 0) (sym p) (found-is w names 0) in
+      rw d (inr h.3)
+  known-named None e q p d =
+      let h : FoundIs w names 0 None = subst (FoundIs w names 0) (sym p) (found-is w names 0) in
+      rw d (not-is-in w reserved (sym q ∙ e), h)
 
 -- ---- runs
 
@@ -49,26 +46,24 @@ pub record Running (text : List ℕ) (start i : ℕ) : Type 0 where
 pub run-start : (text : List ℕ) (start : ℕ) → start ≤ length text → Running text start start
 run-start text start h = record { forward = omega arith; within = h; bytes = λ j g l. absurd (omega arith) }
 
-not-not : (b : Bool) → not b ≡ false → b ≡ true
-not-not true e = refl
-not-not false e = absurd (true-false refl e)
-
-not-true : (b : Bool) → not b ≡ true → b ≡ false
-not-true true e = absurd (true-false e refl)
-not-true false e = refl
-
 module _ {text : List ℕ} {start i : ℕ} (r : Running text start i) where
-  pub run-here : not (is_name_byte (get_or text i 0)) ≡ true → RunTo text start i
-  run-here e = record { forward = r.forward; within = r.within; bytes = r.bytes; ends = not-true (is_name_byte (get_or text i 0)) e }
+  pub run-here : is_name_byte (get_or text i 0) ≡ false → RunTo text start i
+  run-here e = record { forward = r.forward; within = r.within; bytes = r.bytes; ends = e }
 
-  pub run-all : length text ≤ i → RunTo text start i
-  run-all h = record { forward = r.forward; within = r.within; bytes = r.bytes; ends = outside text i h }
+  pub run-all : length text ≤ i → RunTo text start (length text)
+  run-all h =
+      record {
+        forward = omega (arith, r.forward, r.within);
+        within = omega arith;
+        bytes = λ j g l. r.bytes j g (omega arith);
+        ends = outside text (length text) (omega arith);
+      }
 
-  pub run_more : i < length text → not (is_name_byte (get_or text i 0)) ≡ false → Running text start (i + 1)
+  pub run_more : i < length text → is_name_byte (get_or text i 0) ≡ true → Running text start (i + 1)
   run_more h e = record { forward = let f = r.forward in omega arith; within = omega arith; bytes = λ j g l. elim (dec_lt j i) [ yes m ↦ r.bytes j g m | no m ↦ here j (omega arith) ] }
     where
       here : (j : ℕ) → j ≡ i → is_name_byte (get_or text j 0) ≡ true
-      here j z = rw z (not-not (is_name_byte (get_or text i 0)) e)
+      here j z = rw z e
 
 module _ (text : List ℕ) where
   -- two words at one offset are one
@@ -130,14 +125,14 @@ module _ (names : List (List ℕ)) (text : List ℕ) where
   met_start = record { upto = omega arith; clean = λ j e b. absurd (omega arith); none = λ k h x. omega arith }
 
   module _ {i : ℕ} (m : Met names text i) where
-    pub met-on : {p : Passed} {next : ℕ} → p ≡ To next → PassedIs names text i p → (i < next) × (next ≤ length text) × Met names text next
+    pub met-on : {p : Option ℕ} {next : ℕ} → p ≡ Some next → PassedIs names text i p → (i < next) × (next ≤ length text) × Met names text next
     met-on {p} {next} e s =
-        let x : PassedIs names text i (To next) = subst (PassedIs names text i) e s in
+        let x : PassedIs names text i (Some next) = subst (PassedIs names text i) e s in
         (x.0, x.1, record { upto = x.1; clean = x.2; none = λ k h u. elim (dec_lt k i) [ yes g ↦ m.none k g u | no g ↦ x.3 k (omega arith) h u ] })
 
-    pub met-here : {p : Passed} → p ≡ Unknown → PassedIs names text i p → FirstUnknown names text i
+    pub met-here : {p : Option ℕ} → p ≡ None → PassedIs names text i p → FirstUnknown names text i
     met-here {p} e s =
-        let x : PassedIs names text i Unknown = subst (PassedIs names text i) e s in
+        let x : PassedIs names text i None = subst (PassedIs names text i) e s in
         record { here = x m.clean; before = m.none }
 
     pub met_all : length text ≤ i → (k : ℕ) → UnknownAt names text k → ⊥

@@ -8,10 +8,7 @@ const MOST_BRACKETS: usize = 64;
 fn one(b: u8, this: u8) -> usize
     ensures { One b this result }
 {
-    if b == this {
-        return 1;
-    }
-    0
+    usize::from(b == this)
 }
 
 // Whether more than 64 brackets are open somewhere.
@@ -20,15 +17,12 @@ pub fn deep(text: &[u8]) -> bool
 {
     let mut opened: usize = 0;
     let mut closed: usize = 0;
-    let mut i: usize = 0;
-    while i < text.len() {
-        let b = text[i];
+    for &b in text {
         opened += one(b, b'(');
         closed += one(b, b')');
         if MOST_BRACKETS + closed < opened {
             return true;
         }
-        i += 1;
     }
     false
 }

@@ -1,6 +1,5 @@
 // The first unknown name of a text.
-ghost use Rattle.std.specs.Prelude.{◌≡◌, not, ◌≤◌, ◌<◌, length};
-ghost use Rattle.names.specs.Names.{is_name_byte};
+ghost use Rattle.std.specs.Prelude.{◌≤◌, ◌<◌, length};
 ghost use Rattle.names.specs.Lookup.{names_by};
 ghost use Rattle.typed.specs.Answers.{MissingIs};
 ghost use Rattle.typed.specs.Inner.{RunTo, KnownIs, PassedIs};
@@ -9,29 +8,17 @@ use names::lookup::find;
 use spelling::letter::is_name_byte;
 use spelling::reserved::is_reserved;
 
-// No word goes on with this byte.
-fn is_end(b: u8) -> bool
-    ensures { result ≡ not (is_name_byte b) }
-{
-    if is_name_byte(b) {
-        return false;
-    }
-    true
-}
-
 // Where a run of a word's bytes ends.
 fn run_end(text: &[u8], start: usize) -> usize
     requires { start ≤ length text.now }
     ensures { RunTo text.now start result }
 {
-    let mut i = start;
-    while i < text.len() {
-        if is_end(text[i]) {
+    for i in start..text.len() {
+        if !is_name_byte(text[i]) {
             return i;
         }
-        i += 1;
     }
-    i
+    text.len()
 }
 
 // Whether a word is reserved, or one of the names.

@@ -3,7 +3,7 @@
 use mathlib.Core.Path.{◌≡◌, refl, sym, subst}
 use mathlib.Core.Logic.Iff
 use mathlib.Core.Logic.{◌↔◌, inl, inr, ⊎_elim}
-use mathlib.Core.Bool.{Bool, true, false, true≢false}
+use mathlib.Core.Bool.{Bool, true, false, true≢false, beq}
 use mathlib.Core.List.{List, [], ◌∷◌, map}
 use Prim.Native.Nat.{ℕ, zero, suc, ◌+◌, ◌*◌, ◌≤◌, ◌<◌}
 use native.Mathlib.Nat.{eq-or-lt_of_le, mul-le-mul_right, suc-mul, mul_comm}
@@ -16,8 +16,10 @@ use Rattle.words.specs.Word.{width, Wf}
 use Rattle.words.proofs.At.{not_at}
 use Rattle.sequence.specs.declared.CharSeq.{CharSeq}
 use Rattle.sequence.specs.Sequence.{SeqAccepts, Denotes}
-use Rattle.rules.specs.Refusals.{Decided, first_of}
-use Rattle.rules.proofs.Refusals.{Numbered, decided-none, decided-both}
+use Rattle.std.specs.Prelude.{Option, Result, Ok, IsErr, IsErrAnd}
+use Rattle.rules.specs.declared.refusal.Refusal.{Refusal}
+use Rattle.rules.specs.Refusals.{Decided, refusal_number}
+use Rattle.rules.proofs.Refusals.{decided-none, decided-later, refused-early, refusal-positive, handed-up}
 use Rattle.session.specs.Data.{data_rows}
 use Rattle.rules.specs.Limits.{most_sessions, most_propositions}
 use Rattle.formula.specs.Formula.{Formula, Holds, Separates}
@@ -27,6 +29,7 @@ use Rattle.session.specs.Recording.{Recording, mark_of, length_of, word_of}
 use Rattle.formula.specs.Recorded.{marked_trace, marked_traces}
 use Rattle.formula.specs.Rule.{Broken, broken_list}
 use Rattle.verdict.specs.Check.{said_verdict, check_rows, Agrees, VerdictSays, CheckAnswer}
+use Rattle.verdict.specs.Sequences.{SequenceAnswer}
 use Rattle.verdict.specs.declared.Verdict.{Verdict}
 use Rattle.verdict.specs.Inner.{trace_at, Ready, Evaluated, AgreesSeq, Checkable, FirstApart, VerdictOn}
 use Rattle.formula.proofs.Faults.{whole-fits}
@@ -34,15 +37,12 @@ use Rattle.formula.proofs.Spelled.{spelled}
 
 -- ---- a session's sequence
 
-module _ {mark : ℕ} {P : Type 0} where
-  pub marked-good : (a : Bool) → (a ≡ true) ↔ P → mark ≡ 1 → (a ≡ true) ↔ ((mark ≡ 1) ↔ P)
-  marked-good a e m = (λ h. (λ n. e.0 h, λ p. m), λ q. e.1 (q.0 m))
-
-  pub bad-accepts : P → (mark ≡ 1 → ⊥) → (false ≡ true) ↔ ((mark ≡ 1) ↔ P)
-  bad-accepts p n = (λ h. absurd (true≢false (sym h)), λ q. absurd (n (q.1 p)))
-
-  pub bad-rejects : (P → ⊥) → (mark ≡ 1 → ⊥) → (true ≡ true) ↔ ((mark ≡ 1) ↔ P)
-  bad-rejects p n = (λ h. (λ m. absurd (n m), λ q. absurd (p q)), λ q. refl)
+-- two tests that are equal say that one holds where the other does
+pub same-tests : (a b : Bool) {P Q : Type 0} → (a ≡ true) ↔ P → (b ≡ true) ↔ Q → (beq a b ≡ true) ↔ (P ↔ Q)
+same-tests true true p q = (λ h. (λ x. q.0 refl, λ y. p.0 refl), λ e. refl)
+same-tests true false p q = (λ h. absurd (true≢false (sym h)), λ e. absurd (true≢false (sym (q.1 (e.0 (p.0 refl))))))
+same-tests false true p q = (λ h. absurd (true≢false (sym h)), λ e. absurd (true≢false (sym (p.1 (e.1 (q.0 refl))))))
+same-tests false false p q = (λ h. (λ x. absurd (true≢false (sym (p.1 x))), λ y. absurd (true≢false (sym (q.1 y)))), λ e. refl)
 
 module _ (i : Recording) (k : List Node) (root : Node) where
   -- the formula's sequence at session j says whether the session agrees
@@ -111,21 +111,29 @@ pub next-from : {from : ℕ} (j m : ℕ) → from ≡ j * m → from + m ≡ (j 
 next-from {from} j m e = subst (λ (x : ℕ). from + m ≡ x * m) (sym (add-one j)) (omega (arith, suc-mul j m))
 
 module _ (i : Recording) (k : List Node) (root : Node) where
-  pub data-numbered : Numbered (data_rows i)
-  data-numbered = (lit< tt, (lit< tt, (lit< tt, (lit< tt, (lit< tt, tt)))))
+  -- the data have passed, so the list decides
+  pub decided-list : (n : ℕ) → Decided (data_rows i) 0 → Decided (broken_list i.propositions k root ∷ []) n → Decided (check_rows i k root) n
+  decided-list n p q = decided-later (data_rows i) (broken_list i.propositions k root ∷ []) n (lit< tt, (lit< tt, (lit< tt, (lit< tt, (lit< tt, tt))))) p q
 
-  pub decided-list : (a b : ℕ) → Decided (data_rows i) a → a ≡ 0
-      → Decided (broken_list i.propositions k root ∷ []) b → Decided (check_rows i k root) b
-  decided-list a b p e q =
-      subst (λ (x : ℕ). Decided (check_rows i k root) (first_of x b)) e
-      (decided-both (data_rows i) (broken_list i.propositions k root ∷ []) a b data-numbered p q)
+  -- and where they have not, they do
+  pub decided-data : (refusal : Refusal) → Decided (data_rows i) (refusal_number refusal) → Decided (check_rows i k root) (refusal_number refusal)
+  decided-data refusal p = refused-early (data_rows i) (broken_list i.propositions k root ∷ []) refusal p
 
   -- both tests passed
-  pub checkable : (a b : ℕ) → Decided (data_rows i) a → a ≡ 0
-      → Decided (broken_list i.propositions k root ∷ []) b → b ≡ 0 → Checkable i k root × (i.sessions ≤ most_sessions)
-  checkable a b p e q f =
-      passed i k root (subst (Decided (data_rows i)) e p)
-      (decided-none (broken_list i.propositions k root) [] (lit< tt, tt) (subst (Decided (broken_list i.propositions k root ∷ [])) f q)).0
+  pub checkable : Decided (data_rows i) 0 → Decided (broken_list i.propositions k root ∷ []) 0 → Checkable i k root × (i.sessions ≤ most_sessions)
+  checkable p q = passed i k root p (decided-none (broken_list i.propositions k root) [] (lit< tt, tt) q).0
+
+  -- a refusal, handed up by `?`
+  pub check-refused : (a : Result Verdict Refusal) (refusal : Refusal) → Decided (check_rows i k root) (refusal_number refusal)
+      → IsErr a × IsErrAnd a (λ e. e ≡ refusal) → CheckAnswer i k root (said_verdict a)
+  check-refused a refusal d h =
+      subst (λ (b : Result Verdict Refusal). CheckAnswer i k root (said_verdict b)) (sym (handed-up a refusal h))
+      (record { number = d; refused = λ n. refl; passed = λ z. absurd (omega (arith, refusal-positive refusal)) })
+
+  pub sequence-refused : (j : ℕ) (a : Result (Option CharSeq) Refusal) (refusal : Refusal) → Decided (check_rows i k root) (refusal_number refusal)
+      → IsErr a × IsErrAnd a (λ e. e ≡ refusal) → SequenceAnswer i k root j a
+  sequence-refused j a refusal d h =
+      subst (SequenceAnswer i k root j) (sym (handed-up a refusal h)) (record { number = d; carries = refusal-positive refusal })
 
 -- ---- separation, session by session
 
@@ -162,6 +170,6 @@ module _ (i : Recording) (k : List Node) (root : Node) (c : Checkable i k root) 
   accepts-formula h = let t = formula in (t.0, t.1, inl (all-agree i t.0 (λ g l. f.before t.0 t.1 g (omega arith)), refl))
 
   -- whatever the verdict, where no row is given
-  pub verdict-answers : Decided (check_rows i k root) 0 → (v : Verdict) → VerdictOn i.sessions j v → CheckAnswer i k root (said_verdict v)
+  pub verdict-answers : Decided (check_rows i k root) 0 → (v : Verdict) → VerdictOn i.sessions j v → CheckAnswer i k root (said_verdict (Ok v))
   verdict-answers d v (inl (h, e)) = subst (CheckAnswer i k root) (sym e) (record { number = d; refused = λ n. absurd (n refl); passed = λ z. names-session h })
   verdict-answers d v (inr (h, e)) = subst (CheckAnswer i k root) (sym e) (record { number = d; refused = λ n. absurd (n refl); passed = λ z. accepts-formula h })

@@ -11,7 +11,7 @@ use Rattle.words.specs.Word.{width}
 use Rattle.words.proofs.At.{means-unique}
 use Rattle.rules.specs.Refusals.{Decided}
 use Rattle.rules.specs.Limits.{most_sessions, most_room}
-use Rattle.rules.proofs.Refusals.{decided-unique}
+use Rattle.rules.proofs.Refusals.{decided-unique, refusal-one}
 use Rattle.sequence.specs.declared.CharSeq.{CharSeq}
 use Rattle.sequence.specs.Sequence.{seq, Denotes}
 use Rattle.session.specs.Data.{outside_numbers, too_long}
@@ -26,8 +26,8 @@ use Rattle.verdict.specs.Sequences.{SequenceOn, SequenceAnswer}
 use Rattle.formula.specs.Faultless.{Fits}
 use Rattle.verdict.specs.Inner.{Evaluated, Checkable}
 use Rattle.formula.specs.Faultless.Fits.{leaf, unary, binary}
-use Rattle.verdict.specs.declared.Sequenced.{Sequenced}
-use Rattle.verdict.specs.declared.Sequenced.TheVariants.{Sequence, NoSession, Refused}
+use Rattle.std.specs.Prelude.{Option, None, Some, Result, Ok, Err}
+use Rattle.rules.specs.declared.refusal.Refusal.{Refusal}
 use Rattle.formula.proofs.Faults.{whole-fits, fits_whole}
 use Rattle.formula.proofs.Spelled.{one-formula, spelled}
 
@@ -45,16 +45,16 @@ module _ (i : Recording) (k : List Node) (root : Node) (j : ℕ) where
       let d = subst (λ (u : Formula). Denotes (length_of i j) (Holds (marked_trace i j).trace u) t) e b.denotes in
       ap₂ seq (a.denotes.length ∙ sym d.length) (means-unique a.denotes.means d.means)
 
-  pub sequence-unique : (a b : Sequenced) → SequenceAnswer i k root j a → SequenceAnswer i k root j b → a ≡ b
-  sequence-unique (Sequence s) (Sequence t) p q = ap Sequence (one-sequence s t p.carries q.carries)
-  sequence-unique (Sequence s) NoSession p q = absurd (omega (arith, p.carries.there, q.carries))
-  sequence-unique (Sequence s) (Refused n) p q = absurd (omega (arith, decided-unique _ _ _ p.number q.number, q.carries))
-  sequence-unique NoSession (Sequence t) p q = absurd (omega (arith, p.carries, q.carries.there))
-  sequence-unique NoSession NoSession p q = refl
-  sequence-unique NoSession (Refused n) p q = absurd (omega (arith, decided-unique _ _ _ p.number q.number, q.carries))
-  sequence-unique (Refused n) (Sequence t) p q = absurd (omega (arith, decided-unique _ _ _ p.number q.number, p.carries))
-  sequence-unique (Refused n) NoSession p q = absurd (omega (arith, decided-unique _ _ _ p.number q.number, p.carries))
-  sequence-unique (Refused n) (Refused o) p q = ap Refused (decided-unique _ _ _ p.number q.number)
+  pub sequence-unique : (a b : Result (Option CharSeq) Refusal) → SequenceAnswer i k root j a → SequenceAnswer i k root j b → a ≡ b
+  sequence-unique (Ok (Some s)) (Ok (Some t)) p q = ap (λ (r : CharSeq). Ok (Some r)) (one-sequence s t p.carries q.carries)
+  sequence-unique (Ok (Some s)) (Ok None) p q = absurd (omega (arith, p.carries.there, q.carries))
+  sequence-unique (Ok (Some s)) (Err n) p q = absurd (omega (arith, decided-unique _ _ _ p.number q.number, q.carries))
+  sequence-unique (Ok None) (Ok (Some t)) p q = absurd (omega (arith, p.carries, q.carries.there))
+  sequence-unique (Ok None) (Ok None) p q = refl
+  sequence-unique (Ok None) (Err n) p q = absurd (omega (arith, decided-unique _ _ _ p.number q.number, q.carries))
+  sequence-unique (Err n) (Ok (Some t)) p q = absurd (omega (arith, decided-unique _ _ _ p.number q.number, p.carries))
+  sequence-unique (Err n) (Ok None) p q = absurd (omega (arith, decided-unique _ _ _ p.number q.number, p.carries))
+  sequence-unique (Err n) (Err o) p q = ap Err (refusal-one n o (decided-unique _ _ _ p.number q.number))
 
 -- ---- a listed node in the root's stead
 

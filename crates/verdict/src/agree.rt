@@ -12,14 +12,7 @@ use sequence::CharSeq;
 fn agrees(mark: u8, seq: CharSeq) -> bool
     ensures { AgreesSeq mark seq result }
 {
-    let accepts = seq.accepts();
-    if mark == 1 {
-        return accepts;
-    }
-    if accepts {
-        return false;
-    }
-    true
+    (mark == 1) == seq.accepts()
 }
 
 // The first session that disagrees with the root's formula, or r.
@@ -39,15 +32,10 @@ pub(crate) fn first_disagreeing(
     ensures { FirstApart (recording r m marks.now lengths.now words.now)
         (nodes codes.now lefts.now rights.now sizes.now) (node_of root) result }
 {
-    let mut j: usize = 0;
-    let mut from: usize = 0;
-    while j < r {
+    for j in 0..r {
         let length = lengths[j] as usize;
-        let seq = eval(length, words, from, codes, lefts, rights, sizes, root);
-        if agrees(marks[j], seq) {
-            from += m;
-            j += 1;
-        } else {
+        let seq = eval(length, words, j * m, codes, lefts, rights, sizes, root);
+        if !agrees(marks[j], seq) {
             return j;
         }
     }

@@ -9,17 +9,12 @@ ghost use Rattle.writing.specs.Writing.{Wrote, digit, digits, decimal};
 pub fn put(text: &mut [u8], at: usize, bytes: &[u8]) -> usize
     ensures { Wrote text.old at bytes.now text.new result }
 {
-    let mut i: usize = 0;
-    let mut p = at;
-    while i < bytes.len() {
-        if text.len() <= p {
-            return p;
-        }
-        text[p] = bytes[i];
-        p += 1;
-        i += 1;
+    if text.len() <= at {
+        return at;
     }
-    p
+    let n = bytes.len().min(text.len() - at);
+    text[at..at + n].copy_from_slice(&bytes[..n]);
+    at + n
 }
 
 // One digit.

@@ -8,12 +8,12 @@ pub returns-then-agrees : goal.returns-then-agrees
 returns-then-agrees c =
     record { filled = c.rows_of.result; made = c.rows_of.ensures; tests = (sym c.agrees.ensures ∙ c.if-agrees.true, refl) }
 
-pub returns-in_default : goal.returns-in_default
-returns-in_default c =
+pub returns-then-is_some : goal.returns-then-is_some
+returns-then-is_some c =
     record {
       filled = c.rows_of.result;
       made = c.rows_of.ensures;
-      tests = (sym c.agrees.ensures ∙ c.if-agrees.false, repeats c.known_at-known.result c.in_default.in_default-own.keys2 c.known_at-known.ensures, refl);
+      tests = (sym c.agrees.ensures ∙ c.if-agrees.false, repeats c.known_at.result (sym c.is_some.ensures ∙ c.if-is_some.true) c.known_at.ensures, refl);
     }
 
 pub returns-then-no_place : goal.returns-then-no_place
@@ -23,7 +23,7 @@ returns-then-no_place c =
       made = c.rows_of.ensures;
       tests = (
         sym c.agrees.ensures ∙ c.if-agrees.false,
-        fresh c.known_at-known.result c.in-New.in-New-own.keys1 c.known_at-known.ensures,
+        fresh c.known_at.result (sym c.is_some.ensures ∙ c.if-is_some.false) c.known_at.ensures,
         out-of-room _ _ _ c.if-no_place.true c.no_place.ensures,
         refl,
       );
@@ -42,7 +42,7 @@ returns c =
       made = c.rows_of.ensures;
       tests = (
         sym c.agrees.ensures ∙ c.if-agrees.false,
-        fresh c.known_at-known.result c.in-New.in-New-own.keys1 c.known_at-known.ensures,
+        fresh c.known_at.result (sym c.is_some.ensures ∙ c.if-is_some.false) c.known_at.ensures,
         w.0,
         w.1,
         (c.keep.result, c.keep.ensures),

@@ -1,35 +1,31 @@
 -- `tail_at` meets its contract: the settings byte by byte, and the end.
+use Rattle.std.proofs.lemmas.Result.{err_from_is_err_and}
 use Rattle.file.proofs.Sections.{tail-no-count, tail-no-mark, tail-no-bound, tail-mark-in, tail-bound-in, tail-extra, tail-whole}
 use Rattle.file.proofs.tail_at.Goals as goal
 
-pub bounds-file-a : goal.bounds-file-a
-bounds-file-a c =
-    tail-mark-in _ _ _ c.byte_within-count.ensures c.in-Read.is _ c.byte_within-mark.ensures c.in-Read-mark.is _
-    c.byte_within-bound.ensures c.in-Read-bound.is
+pub returns-in_err-count : goal.returns-in_err-count
+returns-in_err-count c =
+    let p = err_from_is_err_and c.from_residual.result c.from_residual.ensures.1 in
+    rw (p.1, p.2) (tail-no-count _ _ c.in_err-count.ensures)
 
-pub bounds-file-b : goal.bounds-file-b
-bounds-file-b c =
-    tail-bound-in _ _ _ c.byte_within-count.ensures c.in-Read.is _ c.byte_within-mark.ensures c.in-Read-mark.is _
-    c.byte_within-bound.ensures c.in-Read-bound.is
+pub returns-in_err-constants : goal.returns-in_err-constants
+returns-in_err-constants c =
+    let p = err_from_is_err_and c.from_residual-in_err-constants.result c.from_residual-in_err-constants.ensures.1 in
+    rw (p.1, p.2) (tail-no-mark _ _ c.in_ok-count.ensures c.in_err-constants.ensures)
 
-pub returns-then-next-file : goal.returns-then-next-file
-returns-then-next-file c =
-    tail-whole _ _ _ c.byte_within-count.ensures c.in-Read.is _ c.byte_within-mark.ensures c.in-Read-mark.is _
-    c.byte_within-bound.ensures c.in-Read-bound.is c.if-next-file.true
+pub returns-in_err-bound : goal.returns-in_err-bound
+returns-in_err-bound c =
+    let p = err_from_is_err_and c.from_residual-in_err-bound.result c.from_residual-in_err-bound.ensures.1 in
+    rw (p.1, p.2) (tail-no-bound _ _ c.in_ok-count.ensures c.in_ok-constants.ensures c.in_err-bound.ensures)
 
-pub returns-else-next-file : goal.returns-else-next-file
-returns-else-next-file c =
-    tail-extra _ _ _ c.byte_within-count.ensures c.in-Read.is _ c.byte_within-mark.ensures c.in-Read-mark.is _
-    c.byte_within-bound.ensures c.in-Read-bound.is c.if-next-file.false
+pub returns-then-bound-file : goal.returns-then-bound-file
+returns-then-bound-file c = tail-extra _ _ c.in_ok-count.ensures c.in_ok-constants.ensures c.in_ok-bound.ensures c.if-bound-file.true
 
-pub returns-in-Broken-bound : goal.returns-in-Broken-bound
-returns-in-Broken-bound c =
-    tail-no-bound _ _ _ c.byte_within-count.ensures c.in-Read.is _ c.byte_within-mark.ensures c.in-Read-mark.is _
-    c.byte_within-bound.ensures c.in-Broken-bound.is
+pub bounds-file-count : goal.bounds-file-count
+bounds-file-count c = tail-mark-in _ _ c.in_ok-count.ensures c.in_ok-constants.ensures c.in_ok-bound.ensures
 
-pub returns-in-Broken-mark : goal.returns-in-Broken-mark
-returns-in-Broken-mark c =
-    tail-no-mark _ _ _ c.byte_within-count.ensures c.in-Read.is _ c.byte_within-mark.ensures c.in-Broken-mark.is
+pub bounds-file-constants : goal.bounds-file-constants
+bounds-file-constants c = tail-bound-in _ _ c.in_ok-count.ensures c.in_ok-constants.ensures c.in_ok-bound.ensures
 
-pub returns-in-Broken : goal.returns-in-Broken
-returns-in-Broken c = tail-no-count _ _ _ c.byte_within-count.ensures c.in-Broken.is
+pub returns : goal.returns
+returns c = tail-whole _ _ c.in_ok-count.ensures c.in_ok-constants.ensures c.in_ok-bound.ensures c.if-bound-file.false

@@ -11,10 +11,7 @@ pub bounds-out-1-in-Differs : goal.bounds-out-1-in-Differs
 bounds-out-1-in-Differs c = simp length-set (omega arith)
 
 pub returns-in-Equal : goal.returns-in-Equal
-returns-in-Equal c = rw c.in-Equal.is (refl, refl)
+returns-in-Equal c = rw c.in-Equal.is refl
 
 pub returns-in-Differs : goal.returns-in-Differs
-returns-in-Differs c = rw c.in-Differs.is (refl, refl)
-
-pub returns-in-Refused : goal.returns-in-Refused
-returns-in-Refused c = rw c.in-Refused.is (refl, refl)
+returns-in-Differs c = rw c.in-Differs.is refl

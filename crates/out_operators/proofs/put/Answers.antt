@@ -5,10 +5,10 @@ use native.Mathlib.Omega.{arith}
 use Rattle.out_operators.proofs.put.Goals as goal
 
 pub returns-then-out-lt-OUT_WORDS : goal.returns-then-out-lt-OUT_WORDS
-returns-then-out-lt-OUT_WORDS c = rw c.in-Sequence.is (inl (omega arith, refl, refl))
+returns-then-out-lt-OUT_WORDS c = rw c.in-Ok.is (inl (omega arith, refl, refl))
 
 pub returns-else-out-lt-OUT_WORDS : goal.returns-else-out-lt-OUT_WORDS
-returns-else-out-lt-OUT_WORDS c = rw c.in-Sequence.is (inr (omega arith, refl, refl))
+returns-else-out-lt-OUT_WORDS c = rw c.in-Ok.is (inr (omega arith, refl, refl))
 
-pub returns-in-Refused : goal.returns-in-Refused
-returns-in-Refused c = rw c.in-Refused.is (refl, refl)
+pub returns-in-Err : goal.returns-in-Err
+returns-in-Err c = rw c.in-Err.is (c.from.ensures, refl)

@@ -45,4 +45,4 @@ returns c =
     let a = c.args in
     reported (recording a.r a.m a.marks.now a.lengths.now a.words.now) (nodes a.codes.now a.lefts.now a.rights.now a.sizes.now) (node_of a.root)
     a.text.now c.requires
-    c.put_sessions-n.ensures c.if-text-n.false c.put-length.ensures
+    c.put_sessions-n.ensures c.if-text-n.false c.put.ensures

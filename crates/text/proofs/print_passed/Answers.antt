@@ -33,4 +33,4 @@ returns c =
     let a = c.args in
     prints-text a.names.now (nodes a.codes.now a.lefts.now a.rights.now a.sizes.now) (node_of a.root) a.room.now c.requires refl
     c.write-n.ensures c.if-room-n.false
-    c.put-length.ensures
+    c.put.ensures

@@ -1,46 +1,31 @@
 -- `check` meets its contract: the rows one after the other, and then the sessions one after the other.
-use mathlib.Core.Path.{refl, subst}
-use mathlib.Core.List.{[], ◌∷◌}
 use native.Mathlib.Omega.{arith}
-use Rattle.rules.specs.Refusals.{Decided}
-use Rattle.session.specs.Data.{data_rows}
 use Rattle.formula.specs.Kinds.{node_of, nodes}
-use Rattle.formula.specs.Rule.{broken_list}
 use Rattle.session.specs.Recording.{recording}
-use Rattle.rules.proofs.Refusals.{decided-early}
-use Rattle.verdict.proofs.Checking.{decided-list, checkable, verdict-answers}
+use Rattle.verdict.proofs.Checking.{decided-data, decided-list, checkable, check-refused, verdict-answers}
 use Rattle.verdict.proofs.check.Goals as goal
 
-pub returns-then-data-ne0 : goal.returns-then-data-ne0
-returns-then-data-ne0 c =
+pub returns-in_err-test : goal.returns-in_err-test
+returns-in_err-test c =
     let a = c.args in
-    record {
-      number =
-          decided-early (data_rows (recording a.r a.m a.marks.now a.lengths.now a.words.now))
-          (broken_list a.m (nodes a.codes.now a.lefts.now a.rights.now a.sizes.now) (node_of a.root) ∷ []) c.test-data.result c.test-data.ensures
-          c.if-data-ne0.true;
-      refused = λ n. refl;
-      passed = λ e. absurd (c.if-data-ne0.true e);
-    }
+    let i = recording a.r a.m a.marks.now a.lengths.now a.words.now in
+    let k = nodes a.codes.now a.lefts.now a.rights.now a.sizes.now in
+    let e = c.in_err-test in
+    check-refused i k (node_of a.root) _ e.field-0.0 (decided-data i k (node_of a.root) e.field-0.0 e.ensures) c.from_residual.ensures
 
-pub returns-then-broken-ne0 : goal.returns-then-broken-ne0
-returns-then-broken-ne0 c =
+pub returns-in_err-check : goal.returns-in_err-check
+returns-in_err-check c =
     let a = c.args in
-    record {
-      number =
-          decided-list (recording a.r a.m a.marks.now a.lengths.now a.words.now) (nodes a.codes.now a.lefts.now a.rights.now a.sizes.now)
-          (node_of a.root) c.test-data.result c.refusal-broken.result c.test-data.ensures c.if-data-ne0.false
-          c.refusal-broken.ensures;
-      refused = λ n. refl;
-      passed = λ e. absurd (c.if-broken-ne0.true e);
-    }
+    let i = recording a.r a.m a.marks.now a.lengths.now a.words.now in
+    let k = nodes a.codes.now a.lefts.now a.rights.now a.sizes.now in
+    let e = c.in_err-check in
+    check-refused i k (node_of a.root) _ e.field-0.0 (decided-list i k (node_of a.root) _ c.in_ok-test.ensures e.ensures) c.from_residual-in_err-check.ensures
 
 pub first_disagreeing-first-requires : goal.first_disagreeing-first-requires
 first_disagreeing-first-requires c =
     let a = c.args in
     (checkable (recording a.r a.m a.marks.now a.lengths.now a.words.now) (nodes a.codes.now a.lefts.now a.rights.now a.sizes.now) (node_of a.root)
-    c.test-data.result c.refusal-broken.result c.test-data.ensures c.if-data-ne0.false c.refusal-broken.ensures
-    c.if-broken-ne0.false).0
+    c.in_ok-test.ensures c.in_ok-check.ensures).0
 
 pub verdict_on-requires : goal.verdict_on-requires
 verdict_on-requires c =
@@ -49,7 +34,7 @@ verdict_on-requires c =
     omega (
       arith,
       (checkable (recording a.r a.m a.marks.now a.lengths.now a.words.now) (nodes a.codes.now a.lefts.now a.rights.now a.sizes.now)
-          (node_of a.root) c.test-data.result c.refusal-broken.result c.test-data.ensures c.if-data-ne0.false c.refusal-broken.ensures c.if-broken-ne0.false).1,
+          (node_of a.root) c.in_ok-test.ensures c.in_ok-check.ensures).1,
     )
 
 pub returns : goal.returns
@@ -58,7 +43,5 @@ returns c =
     let i = recording a.r a.m a.marks.now a.lengths.now a.words.now in
     let k = nodes a.codes.now a.lefts.now a.rights.now a.sizes.now in
     let root = node_of a.root in
-    let good = (checkable i k root c.test-data.result c.refusal-broken.result c.test-data.ensures c.if-data-ne0.false c.refusal-broken.ensures c.if-broken-ne0.false).0 in
-    let none = subst (Decided (broken_list a.m k root ∷ [])) c.if-broken-ne0.false c.refusal-broken.ensures in
-    verdict-answers i k root good c.first_disagreeing-first.ensures (decided-list i k root c.test-data.result 0 c.test-data.ensures c.if-data-ne0.false none)
-    c.verdict_on.result c.verdict_on.ensures
+    verdict-answers i k root (checkable i k root c.in_ok-test.ensures c.in_ok-check.ensures).0 c.first_disagreeing-first.ensures
+    (decided-list i k root 0 c.in_ok-test.ensures c.in_ok-check.ensures) c.verdict_on.result c.verdict_on.ensures

@@ -1,17 +1,16 @@
--- The goals of `compare_at` that the search leaves.
-use mathlib.Core.Path.{refl}
+-- `compare_at` meets its contract: the row at the place that is found differs, and no row before it.
+use mathlib.Core.Path.{◌≡◌, refl}
 use native.Mathlib.Omega.{arith}
-use borrow.Author.Count.{below_more}
+use lib.ListN.{get_or}
+use borrow.Author.Rules.{rules}
+use borrow.Author.Tests.{tests}
+use Rattle.std.proofs.lemmas.Iterator.{IsFirst-from_position, YieldsList-from_range}
+use Rattle.comparison.proofs.Differences.{first-from_range}
 use Rattle.comparison.proofs.comparing.compare_at.Goals as goal
 
-pub loop-j-init : goal.loop-j-init
-loop-j-init c = (omega arith, λ t h. absurd (omega arith))
-
-pub returns-then-rows-j : goal.returns-then-rows-j
-returns-then-rows-j c = (omega arith, c.loop-j.invariant.1, c.if-rows-j.true)
-
-pub loop-j-preserved : goal.loop-j-preserved
-loop-j-preserved c = (omega arith, below_more _ _ c.loop-j.invariant.1 c.if-rows-j.false)
-
-pub returns : goal.returns
-returns c = (refl, λ t h. c.loop-j.invariant.1 t (omega arith))
+pub returns-in-Some : goal.returns-in-Some
+returns-in-Some c =
+    let a = c.args in
+    first-from_range a.r c.in-Some.j (λ j. get_or a.rows.now j 0 ≡ get_or a.x.now j 0 → ⊥) (λ j. get_or a.rows.now j 0 ≡ get_or a.x.now j 0)
+    (rw c.in-Some.is at (IsFirst-from_position _ _ c.position.result (λ j. get_or a.rows.now j 0 ≡ get_or a.x.now j 0 → ⊥) (λ j. get_or a.rows.now j 0 ≡ get_or a.x.now j 0)
+    c.position.ensures.ran (YieldsList-from_range 0 a.r a.r refl (omega arith)) (λ x q k. search (rules, tests)) (λ x q k. search (rules, tests))))

@@ -15,9 +15,6 @@ offset_bounds-to-k c = omega (arith, c.requires.0, c.well_formed)
 pub bounds-to-k : goal.bounds-to-k
 bounds-to-k c = omega (arith, c.loop-i.invariant.long, c.requires.0)
 
-pub overflow_add-p : goal.overflow_add-p
-overflow_add-p c = omega (arith, c.loop-i.invariant.room)
-
 pub loop-i-preserved : goal.loop-i-preserved
 loop-i-preserved c = words-turn _ _ _ _ _ c.loop-i.invariant c.loop-i-test.true _ (c.word_from.ensures.0 (omega (arith, c.loop-i.invariant.room)))
 

@@ -1,8 +1,8 @@
--- `refusal` meets its contract: the count, then each listed node, then the root.
+-- `check` meets its contract: the count, then each listed node, then the root.
 use mathlib.Core.Path.{sym, ◌∙◌}
 use Rattle.formula.proofs.Listed.{length-nodes}
 use Rattle.formula.proofs.Tests.{too-many, one-fails, all_pass}
-use Rattle.formula.proofs.nodes.refusal.Goals as goal
+use Rattle.formula.proofs.nodes.check.Goals as goal
 
 pub returns-then-n-gt-ROOM : goal.returns-then-n-gt-ROOM
 returns-then-n-gt-ROOM c =
@@ -15,8 +15,8 @@ returns-then-listed-rooted c =
     all_pass _ _ _ (length-nodes a.codes.now a.lefts.now a.rights.now a.sizes.now ∙ sym c.count-n.ensures)
     c.nodes_good-listed.result c.node_good-rooted.result c.if-n-gt-ROOM.false c.nodes_good-listed.ensures c.node_good-rooted.ensures c.if-listed-rooted.true
 
-pub returns : goal.returns
-returns c =
+pub returns-else-listed-rooted : goal.returns-else-listed-rooted
+returns-else-listed-rooted c =
     let a = c.args in
     one-fails _ _ _ (length-nodes a.codes.now a.lefts.now a.rights.now a.sizes.now ∙ sym c.count-n.ensures)
     c.nodes_good-listed.result c.node_good-rooted.result c.nodes_good-listed.ensures c.node_good-rooted.ensures c.if-listed-rooted.false

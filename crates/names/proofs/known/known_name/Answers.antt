@@ -16,30 +16,30 @@ cut file at n p e =
     let l : p + 1 + get_or file p 0 - (p + 1) ≡ get_or file p 0 = omega arith in
     rw (k, l) at e
 
-pub loop-j-init : goal.loop-j-init
-loop-j-init c = known_start _ _ _
+pub loop-init : goal.loop-init
+loop-init c = known_start _ _ _
 
 pub overflow_add-from : goal.overflow_add-from
-overflow_add-from c = omega (arith, known-room _ _ _ c.loop-j.invariant c.loop-j-test.true)
+overflow_add-from c = omega (arith, known-room _ _ _ c.loop.invariant c.loop-test.true)
 
 pub bounds-file-p : goal.bounds-file-p
-bounds-file-p c = omega (arith, known-room _ _ _ c.loop-j.invariant c.loop-j-test.true)
+bounds-file-p c = omega (arith, known-room _ _ _ c.loop.invariant c.loop-test.true)
 
 pub overflow_add-to : goal.overflow_add-to
-overflow_add-to c = omega (arith, known-room _ _ _ c.loop-j.invariant c.loop-j-test.true)
+overflow_add-to c = omega (arith, known-room _ _ _ c.loop.invariant c.loop-test.true)
 
-pub slice_bounds-same-end-in-loop-j : goal.slice_bounds-same-end-in-loop-j
-slice_bounds-same-end-in-loop-j c = omega (arith, known-room _ _ _ c.loop-j.invariant c.loop-j-test.true)
+pub slice_bounds-same-end-in-loop : goal.slice_bounds-same-end-in-loop
+slice_bounds-same-end-in-loop c = omega (arith, known-room _ _ _ c.loop.invariant c.loop-test.true)
 
 pub returns-then-same : goal.returns-then-same
 returns-then-same c =
     let a = c.args in
-    known-here _ _ _ c.loop-j.invariant c.loop-j-test.true (cut a.file.now a.at a.n c.loop-j.p (sym c.same.ensures ∙ c.if-same.true))
+    known-here _ _ _ c.loop.invariant c.loop-test.true (cut a.file.now a.at a.n c.loop.p (sym c.same.ensures ∙ c.if-same.true))
 
-pub loop-j-preserved : goal.loop-j-preserved
-loop-j-preserved c =
+pub loop-preserved : goal.loop-preserved
+loop-preserved c =
     let a = c.args in
-    known-turn _ _ _ c.loop-j.invariant c.loop-j-test.true (cut a.file.now a.at a.n c.loop-j.p (sym c.same.ensures ∙ c.if-same.false))
+    known-turn _ _ _ c.loop.invariant c.loop-test.true (cut a.file.now a.at a.n c.loop.p (sym c.same.ensures ∙ c.if-same.false))
 
 pub returns : goal.returns
-returns c = known-end _ _ _ c.loop-j.invariant c.loop-j-test.false
+returns c = known-end _ _ _ c.loop.invariant c.loop-test.false

@@ -8,10 +8,10 @@ pub returns-then-file-at : goal.returns-then-file-at
 unfolding byte
 returns-then-file-at c = simp (le-ltb _ _ c.if-file-at.true)
 
-pub returns-then-fits_name : goal.returns-then-fits_name
+pub returns-then-not-fits_name : goal.returns-then-not-fits_name
 unfolding byte
-returns-then-fits_name c = simp (lt-ltb _ _ c.if-file-at.false, sym c.fits_name.ensures ∙ c.if-fits_name.true)
+returns-then-not-fits_name c = simp (lt-ltb _ _ c.if-file-at.false, sym c.fits_name.ensures ∙ c.if-not-fits_name.true)
 
-pub returns-else-fits_name : goal.returns-else-fits_name
+pub returns : goal.returns
 unfolding byte
-returns-else-fits_name c = simp (lt-ltb _ _ c.if-file-at.false, sym c.fits_name.ensures ∙ c.if-fits_name.false)
+returns c = simp (lt-ltb _ _ c.if-file-at.false, sym c.fits_name.ensures ∙ c.if-not-fits_name.false)

@@ -1,15 +1,15 @@
--- The goals of `seen_code` that the search leaves.
-use Rattle.sections.proofs.Walks.{among-start, among-turn, among-here, among-end}
+-- `seen_code` meets its contract: the library looks for the code as the rule does.
+use mathlib.Core.Path.{◌≡◌, ap, ◌∙◌}
+use Prim.Native.Nat.{ℕ, ◌+◌, ◌-◌}
+use native.Mathlib.Omega.{arith}
+use lib.Dec.{eqb}
+use lib.ListN.{take, drop}
+use Rattle.reading.specs.Reading.{is_in}
+use Rattle.sections.proofs.CodeLaws.{any_is_in}
 use Rattle.sections.proofs.codes.seen_code.Goals as goal
 
-pub loop-i-init : goal.loop-i-init
-loop-i-init c = among-start _ _ _ _
-
-pub returns-then-file-from : goal.returns-then-file-from
-returns-then-file-from c = among-here _ _ _ _ c.loop-i.invariant c.loop-i-test.true c.requires c.if-file-from.true
-
-pub loop-i-preserved : goal.loop-i-preserved
-loop-i-preserved c = among-turn _ _ _ _ c.loop-i.invariant c.loop-i-test.true c.requires c.if-file-from.false
-
 pub returns : goal.returns
-returns c = among-end _ _ _ _ c.loop-i.invariant c.loop-i-test.false
+returns c =
+    let a = c.args in
+    let k : a.from + a.count - a.from ≡ a.count = omega arith in
+    c.contains.ensures.value ∙ any_is_in a.c _ ∙ ap (λ (n : ℕ). is_in eqb a.c (take n (drop a.from a.file.now))) k

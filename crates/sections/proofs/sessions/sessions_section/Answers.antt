@@ -1,9 +1,12 @@
 -- `sessions_section` meets its contract: a section after its count.
+use Rattle.std.proofs.lemmas.Result.{err_from_is_err_and}
 use Rattle.reading.proofs.Steps.{section-read, section-broken}
 use Rattle.sections.proofs.sessions.sessions_section.Goals as goal
 
-pub returns-in-Read : goal.returns-in-Read
-returns-in-Read c = section-read _ _ 1 32 _ _ c.byte_within-c.ensures _ c.in-Read.is c.sessions_from.ensures
+pub returns-in_err-count : goal.returns-in_err-count
+returns-in_err-count c =
+    let p = err_from_is_err_and c.from_residual.result c.from_residual.ensures.1 in
+    rw (p.1, p.2) (section-broken _ _ 1 32 _ c.in_err-count.ensures)
 
-pub returns-in-Broken : goal.returns-in-Broken
-returns-in-Broken c = section-broken _ _ 1 32 _ _ c.byte_within-c.ensures c.in-Broken.is
+pub returns : goal.returns
+returns c = section-read _ _ 1 32 _ _ c.in_ok-count.ensures c.sessions_from.ensures

@@ -7,23 +7,23 @@ use mathlib.Core.Path.{sym, ◌∙◌}
 use Rattle.sections.specs.Sections.{eight_bytes}
 use Rattle.sections.proofs.sessions.word_step.Goals as goal
 
-pub returns-then-left-lt8 : goal.returns-then-left-lt8
+pub returns-then-bytes_left-lt8 : goal.returns-then-bytes_left-lt8
 unfolding eight_bytes
-returns-then-left-lt8 c =
+returns-then-bytes_left-lt8 c =
     let a = c.args in
-    let short : length a.file.now < a.at + 8 = omega (arith, c.bytes_left-left.ensures) in
+    let short : length a.file.now < a.at + 8 = omega (arith, c.bytes_left.ensures) in
     simp (lt-leb _ _ short)
 
-pub returns-then-is_clear : goal.returns-then-is_clear
+pub returns-then-not-is_clear : goal.returns-then-not-is_clear
 unfolding eight_bytes
-returns-then-is_clear c =
+returns-then-not-is_clear c =
     let a = c.args in
-    let long : a.at + 8 ≤ length a.file.now = omega (arith, c.bytes_left-left.ensures) in
-    simp (le-leb _ _ long, sym c.word_at-w.ensures, sym c.is_clear.ensures ∙ c.if-is_clear.true)
+    let long : a.at + 8 ≤ length a.file.now = omega (arith, c.bytes_left.ensures) in
+    simp (le-leb _ _ long, sym c.word_at.ensures, sym c.is_clear.ensures ∙ c.if-not-is_clear.true)
 
-pub returns-else-is_clear : goal.returns-else-is_clear
+pub returns : goal.returns
 unfolding eight_bytes
-returns-else-is_clear c =
+returns c =
     let a = c.args in
-    let long : a.at + 8 ≤ length a.file.now = omega (arith, c.bytes_left-left.ensures) in
-    simp (le-leb _ _ long, sym c.word_at-w.ensures, sym c.is_clear.ensures ∙ c.if-is_clear.false)
+    let long : a.at + 8 ≤ length a.file.now = omega (arith, c.bytes_left.ensures) in
+    simp (le-leb _ _ long, sym c.word_at.ensures, sym c.is_clear.ensures ∙ c.if-not-is_clear.false)

@@ -1,18 +1,19 @@
 -- `put_first` meets its contract: the case decides.
 use mathlib.Core.Path.{sym, subst}
-use Rattle.summary.specs.declared.values.First.{First}
+use Prim.Native.Nat.{ℕ}
+use Rattle.std.specs.Prelude.{Option}
 use Rattle.summary.specs.Line.{first_text}
 use Rattle.writing.specs.Writing.{Wrote}
 use Rattle.summary.proofs.line.put_first.Goals as goal
 
-pub returns-in-Never : goal.returns-in-Never
-returns-in-Never c =
+pub returns-in-None : goal.returns-in-None
+returns-in-None c =
     let a = c.args in
     let w = c.put in
-    subst (λ (f : First). Wrote a.text.now a.at (first_text f) w.new.text w.result) (sym c.in-Never.is) w.ensures
+    subst (λ (f : Option ℕ). Wrote a.text.now a.at (first_text f) w.new.text w.result) (sym c.in-None.is) w.ensures
 
-pub returns-in-Snapshot : goal.returns-in-Snapshot
-returns-in-Snapshot c =
+pub returns-in-Some : goal.returns-in-Some
+returns-in-Some c =
     let a = c.args in
     let w = c.put_decimal in
-    subst (λ (f : First). Wrote a.text.now a.at (first_text f) w.new.text w.result) (sym c.in-Snapshot.is) w.ensures
+    subst (λ (f : Option ℕ). Wrote a.text.now a.at (first_text f) w.new.text w.result) (sym c.in-Some.is) w.ensures

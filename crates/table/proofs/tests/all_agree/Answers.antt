@@ -1,32 +1,17 @@
--- The goals of `all_agree` that the search leaves.
-use mathlib.Core.Path.{sym, ap, ◌∙◌}
-use mathlib.Core.Bool.{Bool, ◌&&◌}
-use Prim.Native.Nat.{◌+◌, ◌-◌}
+-- `all_agree` meets its contract: `all` over the sessions says of every one that it agrees, or finds one that doesn't.
+use mathlib.Core.Bool.{true, false}
+use mathlib.Core.Path.{◌≡◌, refl}
 use native.Mathlib.Omega.{arith}
-use Rattle.rules.specs.Lists.{count}
-use Rattle.walk.specs.Input.{every}
+use borrow.Author.Rules.{rules}
+use borrow.Author.Tests.{tests}
+use Rattle.std.proofs.lemmas.Iterator.{cases_from_all, YieldsList-from_range}
 use Rattle.table.specs.Acceptance.{agrees_at}
-use Rattle.table.proofs.Acceptance.{every-start, every-turn, every-end}
+use Rattle.table.proofs.Acceptance.{every-answer}
 use Rattle.table.proofs.tests.all_agree.Goals as goal
 
-pub loop-j-init : goal.loop-j-init
-loop-j-init c = (omega arith, every-start _ _)
-
-pub loop-j-preserved : goal.loop-j-preserved
-loop-j-preserved c =
-    let a = c.args in
-    let v = c.loop-j in (
-      omega arith,
-      v.invariant.1 ∙ every-turn v.j a.r (agrees_at a.marks.now a.rows.now) c.loop-j-test.true
-          ∙ ap (λ (b : Bool). b && every (count (v.j + 1) (a.r - (v.j + 1))) (agrees_at a.marks.now a.rows.now)) (sym c.agrees_at.ensures ∙ c.if-agrees_at.true),
-    )
-
-pub returns-else-agrees_at : goal.returns-else-agrees_at
-returns-else-agrees_at c =
-    let a = c.args in
-    let v = c.loop-j in
-    sym (v.invariant.1 ∙ every-turn v.j a.r (agrees_at a.marks.now a.rows.now) c.loop-j-test.true
-    ∙ ap (λ (b : Bool). b && every (count (v.j + 1) (a.r - (v.j + 1))) (agrees_at a.marks.now a.rows.now)) (sym c.agrees_at.ensures ∙ c.if-agrees_at.false))
-
 pub returns : goal.returns
-returns c = sym (c.loop-j.invariant.1 ∙ every-end _ _ _ c.loop-j-test.false)
+returns c =
+    let a = c.args in
+    let f = agrees_at a.marks.now a.rows.now in
+    every-answer a.r f c.all.result
+    (cases_from_all _ _ _ (λ j. f j ≡ true) (λ j. f j ≡ false) c.all.ensures.ran (YieldsList-from_range 0 a.r a.r refl (omega arith)) (λ x q k. search (rules, tests)) (λ x q k. search (rules, tests)))

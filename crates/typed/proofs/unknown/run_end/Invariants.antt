@@ -1,11 +1,6 @@
 -- `run_end` meets its contract: byte by byte.
-use Prim.Native.Nat.{◌-◌}
-use lib.ListN.{length}
 use Rattle.typed.proofs.Unknowns.{Running}
 use Rattle.typed.proofs.unknown.run_end.Given as goal
 
 abbrev pub invariant-loop-i : goal.invariant-loop-i
 invariant-loop-i l = Running l.text l.start l.i
-
-abbrev pub decreases-loop-i : goal.decreases-loop-i
-decreases-loop-i l = length l.text - l.i

@@ -10,18 +10,18 @@ loop-i-init c = met_start (names_by c.args.names.now) c.args.text.now
 pub returns-in_default : goal.returns-in_default
 returns-in_default c =
     let l = c.loop-i in
-    met-here (names_by c.args.names.now) c.args.text.now l.invariant c.in_default.is c.pass-p.ensures
+    met-here (names_by c.args.names.now) c.args.text.now l.invariant c.in_default.is c.pass.ensures
 
 pub loop-i-smaller : goal.loop-i-smaller
 loop-i-smaller c =
     let l = c.loop-i in
-    let x = met-on (names_by c.args.names.now) c.args.text.now l.invariant c.in-To.is c.pass-p.ensures in
+    let x = met-on (names_by c.args.names.now) c.args.text.now l.invariant c.in-Some.is c.pass.ensures in
     omega (arith, x.0, x.1)
 
 pub loop-i-preserved : goal.loop-i-preserved
 loop-i-preserved c =
     let l = c.loop-i in
-    (met-on (names_by c.args.names.now) c.args.text.now l.invariant c.in-To.is c.pass-p.ensures).2
+    (met-on (names_by c.args.names.now) c.args.text.now l.invariant c.in-Some.is c.pass.ensures).2
 
 pub returns : goal.returns
 returns c =
