@@ -121,7 +121,8 @@ module _ (file : List ℕ) (bytes : Bytes file) (l : Lent) (wide : Wide l) (a : 
     where
       go : (w : Got Parts) → whole_file file ≡ w → whole_file file ≡ bad o
       go (bad o') i =
-          let x : said_read (Err (Broken o)) ≡ record { number = 8; values = o' ∷ [] } = ap said_read (sym q) ∙ ap (λ (x : After). x.answer) e ∙ ap (λ (g : Got Parts). (outcome g l).answer) i in
+          let x : said_read (Err (Broken o)) ≡ record { number = 8; values = o' ∷ [] } =
+          ap said_read (sym q) ∙ ap (λ (x : After). x.answer) e ∙ ap (λ (g : Got Parts). (outcome g l).answer) i in
           let v = values x in
           let h : o ≡ o' = cc v in
           i ∙ ap bad (sym h)
@@ -166,14 +167,6 @@ module _ (file : List ℕ) (bytes : Bytes file) (l : Lent) (wide : Wide l) (a : 
   pub handed : {k : Numbers} → a ≡ Ok k → Handed k.sessions k.propositions k.names k.unary k.binary k.constants k.bound
   handed {k} q = go (whole_file file) refl
     where
-      r = k.sessions
-      m = k.propositions
-      n = k.names
-      u = k.unary
-      b = k.binary
-      constants = k.constants
-      bound = k.bound
-
       go : (w : Got Parts) → whole_file file ≡ w → Handed k.sessions k.propositions k.names k.unary k.binary k.constants k.bound
       go (bad o') i =
           let x : said_read (Ok k) ≡ record { number = 8; values = o' ∷ [] } = ap said_read (sym q) ∙ ap (λ (x : After). x.answer) e ∙ ap (λ
@@ -185,18 +178,18 @@ module _ (file : List ℕ) (bytes : Bytes file) (l : Lent) (wide : Wide l) (a : 
           let y : read_after (said_read a) marks lengths words unary binary ≡ handed_out p l = all-handed p next g i in
           let x : said_read (Ok k) ≡ (handed_out p l).answer = ap said_read (sym q) ∙ ap (λ (x : After). x.answer) y in
           let v = values x in
-          let hr : r ≡ length p.sessions = cc v in
-          let hm : m ≡ length p.names = cc v in
-          let hn : n ≡ length (section name_bytes p.names) = cc v in
-          let hu : u ≡ length p.unary = cc v in
-          let hb : b ≡ length p.binary = cc v in
-          let hc : constants ≡ p.constants = cc v in
-          let hd : bound ≡ p.bound = cc v in
-          let hw : m * r ≡ length (words_of p) = ap (λ (z : ℕ). z * r) hm ∙ ap (λ (z : ℕ). length p.names * z) hr ∙ sym (length-all-words (length p.names)
+          let hr : k.sessions ≡ length p.sessions = cc v in
+          let hm : k.propositions ≡ length p.names = cc v in
+          let hn : k.names ≡ length (section name_bytes p.names) = cc v in
+          let hu : k.unary ≡ length p.unary = cc v in
+          let hb : k.binary ≡ length p.binary = cc v in
+          let hc : k.constants ≡ p.constants = cc v in
+          let hd : k.bound ≡ p.bound = cc v in
+          let hw : k.propositions * k.sessions ≡ length (words_of p) = ap (λ (z : ℕ). z * k.sessions) hm ∙ ap (λ (z : ℕ). length p.names * z) hr ∙ sym (length-all-words (length p.names)
           p.sessions [] g.sessions) in
-          let f : take n file ≡ take (length (section name_bytes p.names)) (file_bytes p) = ap (λ (z : ℕ). take z file) hn ∙ ap (take (length (section name_bytes
+          let f : take k.names file ≡ take (length (section name_bytes p.names)) (file_bytes p) = ap (λ (z : ℕ). take z file) hn ∙ ap (take (length (section name_bytes
           p.names))) (sym t.1) in
-          let nin : n ≤ length file = omega (arith, hn, ap length t.1, front-room p) in
+          let nin : k.names ≤ length file = omega (arith, hn, ap length t.1, front-room p) in
           record {
             parts = p;
             next = next;
@@ -208,13 +201,13 @@ module _ (file : List ℕ) (bytes : Bytes file) (l : Lent) (wide : Wide l) (a : 
             size = hd;
             small = (let z = words-few p g l wide in omega (arith, hw, length-all-words (length p.names) p.sessions [] g.sessions));
             names_in = nin;
-            names-long = sym (length-take-le n file nin);
+            names-long = sym (length-take-le k.names file nin);
             front-is = ap whole_names f ∙ front-is-names p g ∙ ap (got p.names) (sym hn);
-            all-marks = part (marks_of p) l.marks marks r (ap (λ (x : After). x.left.marks) y) (hr ∙ sym (length-map p.sessions (λ s. s.mark)));
-            all-lengths = part (lengths_of p) l.lengths lengths r (ap (λ (x : After). x.left.lengths) y) (hr ∙ sym (length-map p.sessions (λ s. s.length)));
-            all_words = part (words_of p) l.words words (m * r) (ap (λ (x : After). x.left.words) y) hw;
-            all-unary = part p.unary l.unary unary u (ap (λ (x : After). x.left.unary) y) hu;
-            all-binary = part p.binary l.binary binary b (ap (λ (x : After). x.left.binary) y) hb;
+            all-marks = part (marks_of p) l.marks marks k.sessions (ap (λ (x : After). x.left.marks) y) (hr ∙ sym (length-map p.sessions (λ s. s.mark)));
+            all-lengths = part (lengths_of p) l.lengths lengths k.sessions (ap (λ (x : After). x.left.lengths) y) (hr ∙ sym (length-map p.sessions (λ s. s.length)));
+            all_words = part (words_of p) l.words words (k.propositions * k.sessions) (ap (λ (x : After). x.left.words) y) hw;
+            all-unary = part p.unary l.unary unary k.unary (ap (λ (x : After). x.left.unary) y) hu;
+            all-binary = part p.binary l.binary binary k.binary (ap (λ (x : After). x.left.binary) y) hb;
           }
 
   -- as a search is given it

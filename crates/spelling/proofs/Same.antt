@@ -27,15 +27,15 @@ same-eq (x ∷ xs) (y ∷ ys) e =
     rw (p, q)
 
 -- the library's comparison is the rule's
-pub equal-is : (xs ys : List ℕ) → pointwise eqb xs ys ≡ same_bytes xs ys
-equal-is [] [] = refl
-equal-is [] (y ∷ ys) = refl
-equal-is (x ∷ xs) [] = refl
-equal-is (x ∷ xs) (y ∷ ys) = ap (λ (b : Bool). eqb x y && b) (equal-is xs ys)
+pub equal_is : (xs ys : List ℕ) → pointwise eqb xs ys ≡ same_bytes xs ys
+equal_is [] [] = refl
+equal_is [] (y ∷ ys) = refl
+equal_is (x ∷ xs) [] = refl
+equal_is (x ∷ xs) (y ∷ ys) = ap (λ (b : Bool). eqb x y && b) (equal_is xs ys)
 
 -- and so is its search for a name among words
 pub any_is_in : (name : List ℕ) (words : List (List ℕ)) → list_any (λ w. pointwise eqb w name) words ≡ is_in same_bytes name words
 any_is_in name [] = refl
 any_is_in name (w ∷ ws) =
-    ap (λ (b : Bool). b || list_any (λ w. pointwise eqb w name) ws) (nat_list_eq_equiv.symm w name ∙ equal-is name w)
+    ap (λ (b : Bool). b || list_any (λ w. pointwise eqb w name) ws) (nat_list_eq_equiv.symm w name ∙ equal_is name w)
     ∙ ap (λ (b : Bool). same_bytes name w || b) (any_is_in name ws)
