@@ -16,7 +16,7 @@ use Rattle.walk.specs.Cut.{Cut, more, over}
 use Rattle.walk.specs.Kept.{begun, go_on}
 use Rattle.checks.specs.Promises.{RoomThere}
 use Rattle.table.specs.Slices.{Cols}
-use Rattle.slices.specs.declared.Resumed.TheVariants.{Goes}
+use Rattle.std.specs.Prelude.{Ok}
 use Rattle.state.specs.declared.State.{State}
 use Rattle.turns.specs.Standing.{state_at}
 use Rattle.turns.specs.Turns.{StateIn}
@@ -67,7 +67,7 @@ module _ (i : Input) (t : Cols) (budget : ℕ) (words old : List ℕ) (t' : Cols
   abbrev after : State
   after = (d.passed refl).0
 
-  called : Called i t budget (state_read words) (Goes after) t'
+  called : Called i t budget (state_read words) (Ok after) t'
   called = (d.passed refl).1
 
   read_back : state_read words' ≡ record { size = after.size; at = after.at; counts = after.counts; end = end_read after.end; root = after.root }
