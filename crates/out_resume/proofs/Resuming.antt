@@ -1,31 +1,29 @@
 -- The search in slices at the boundary: with no session lent the core's tests refuse at 3 at the latest, and rows that are not given may stand in a list.
 -- Assumes nothing.
-use mathlib.Core.Path.{◌≡◌, refl, sym, ap, ◌∙◌, subst}
-use mathlib.Core.Bool.{Bool, cond}
+use mathlib.Core.Path.{◌≡◌, refl, sym, ap, subst}
 use mathlib.Core.Logic.{inl, inr}
-use mathlib.Core.List.{List, [], ◌∷◌}
+use mathlib.Core.List.{List, []}
+use Rattle.std.specs.Prelude.{Ok, Err}
 use Prim.Native.Nat.{ℕ, ◌≤◌, ◌<◌}
 use native.Mathlib.Nat.{lt_of_not-le}
 use native.Mathlib.Omega.{arith}
-use borrow.Author.Tests.{eq-eqb, ne_eqb}
-use lib.Dec.{eqb}
-use lib.ListN.{length, set, length-set}
+use lib.ListN.{length, set}
 use Rattle.rules.specs.Limits.{most_budget}
-use Rattle.rules.specs.Refusals.{Decided}
+use Rattle.rules.specs.declared.refusal.Refusal.{Refusal}
+use Rattle.rules.specs.Refusals.{Decided, refusal_number}
 use Rattle.rules.proofs.Refusals.{decided-unique, decided-not}
 use Rattle.walk.specs.Input.{Input, input_of}
 use Rattle.checks.specs.Refusals.{search_rows}
 use Rattle.table.specs.Slices.{Cols, cols}
-use Rattle.slices.specs.declared.Resumed.{Resumed}
-use Rattle.slices.specs.declared.Resumed.TheVariants.{Goes, Refused}
 use Rattle.state.specs.declared.State.{State}
+use Rattle.state.specs.declared.End.{End}
 use Rattle.slices.specs.Slices as core
 use Rattle.slices.specs.Resume.{Called}
-use Rattle.out.specs.Out.{long_words, OutWord, word_from, written}
+use Rattle.out.specs.Out.{long_words, written}
 use Rattle.state_words.specs.Words.{state_words, state_read}
 use Rattle.state_words.specs.Written.{state_short, StateDone}
-use Rattle.out_resume.specs.Resume.{found_words, end_words, told_words, out_resume_rows, ResumeDone}
-use Rattle.out_resume.specs.Inner.{ResumeUnanswered, ResumePut}
+use Rattle.out_resume.specs.Resume.{words_at, told_words, out_resume_rows, ResumeDone}
+use Rattle.out_resume.specs.Inner.{ResumeUnanswered}
 
 -- ---- `out` or the state is too short
 
@@ -104,24 +102,25 @@ module _ (i : Input) (t : Cols) (budget : ℕ) (state old : List ℕ) (h : long_
   answered-rows k (inr (p, inr (q, inl b))) = inr (p, inr (q, inl b))
   answered-rows k (inr (p, inr (q, inr (b, d)))) = inr (p, inr (q, inr (b, inr (λ g. omega arith, inr (λ g. omega arith, d)))))
 
-  by_answer : (a : Resumed) (u : Cols) → Called i t budget (state_read state) a u → (k : ℕ) (state' new : List ℕ) → ResumePut a state old k state' new
-      → ResumeDone i t budget state old k u state' new
-  by_answer (Goes after) u c k state' new (e, n, s, w) =
-      rw e (record { number = answered-rows 0 c.decided; refused = λ f. absurd (f refl); passed = λ _. (after, c, n, s, w) })
-  by_answer (Refused m) u c k state' new (e, s, w) =
-      rw e (record { number = answered-rows m c.decided; refused = λ _. (c.outcome.1, s, w); passed = λ z. absurd (omega (arith, c.outcome.0)) })
+  -- a refusal writes nothing
+  pub resume-refused : (from : State) → from ≡ state_read state → (u : Cols) (refusal : Refusal) → Called i t budget from (Err refusal) u
+      → ResumeDone i t budget state old (refusal_number refusal) u state old
+  resume-refused from e u refusal c =
+      let d = subst (λ (s : State). Called i t budget s (Err refusal) u) e c in
+      record {
+        number = answered-rows (refusal_number refusal) d.decided;
+        refused = λ _. (d.outcome.1, refl, refl);
+        passed = λ z. absurd (omega (arith, d.outcome.0));
+      }
 
-  pub resume-long : (from : State) → from ≡ state_read state → (a : Resumed) (u : Cols) → Called i t budget from a u → (k : ℕ) (state' new : List ℕ)
-      → ResumePut a state old k state' new → ResumeDone i t budget state old k u state' new
-  resume-long from e a u c k state' new p = by_answer a u (subst (λ (s : State). Called i t budget s a u) e c) k state' new p
-
--- the state is put, and long enough
-pub put-goes : (after : State) (state old : List ℕ) (k : ℕ) (state' new : List ℕ) → state_words ≤ length state → StateDone after state k state'
-    → new ≡ written (told_words after) old → ResumePut (Goes after) state old k state' new
-put-goes after state old k state' new h d e =
-    let z : k ≡ 0 = decided-unique _ k 0 d.number (decided-not (state_short state) (λ g. omega arith)) in
-    let p = d.passed z in
-    (z, p.0, p.1, e)
+  -- and else the state is put, since there is room for it
+  pub resume-long : (from : State) → from ≡ state_read state → (u : Cols) (after : State) → Called i t budget from (Ok after) u → (k : ℕ) (state' new : List ℕ)
+      → StateDone after state k state' → new ≡ written (told_words after) old → ResumeDone i t budget state old k u state' new
+  resume-long from e u after c k state' new d w =
+      let z : k ≡ 0 = decided-unique _ k 0 d.number (decided-not (state_short state) (λ g. omega arith)) in
+      let (n, s) = d.passed z in
+      let called = subst (λ (x : State). Called i t budget x (Ok after) u) e c in
+      rw z (record { number = answered-rows 0 called.decided; refused = λ f. absurd (f refl); passed = λ _. (after, called, n, s, w) })
 
 -- ---- what a state tells, by its end
 
@@ -130,39 +129,5 @@ module _ (s : State) (old : List ℕ) where
   abbrev counted : List ℕ
   counted = set (set (set old 2 s.counts.tried) 3 s.counts.kept) 8 s.counts.dropped
 
-  pub counted-long : length counted ≡ length old
-  counted-long =
-      length-set (set (set old 2 s.counts.tried) 3 s.counts.kept) 8 s.counts.dropped
-      ∙ length-set (set old 2 s.counts.tried) 3 s.counts.kept
-      ∙ length-set old 2 s.counts.tried
-
-  told : (ws : List OutWord) → end_words s ≡ ws → written ws counted ≡ written (told_words s) old
-  told ws e = ap (λ (x : List OutWord). written x counted) (sym e)
-
-  module _ (not_found : s.end ≡ 1 → ⊥) where
-    after-found : end_words s ≡ cond (eqb s.end 2) (word_from 0 2 ∷ []) (cond (eqb s.end 3) (word_from 0 3 ∷ word_from 1 s.size ∷ []) (word_from 0 4 ∷ []))
-    after-found = ap (λ (b : Bool). cond b (found_words s.root)
-        (cond (eqb s.end 2) (word_from 0 2 ∷ []) (cond (eqb s.end 3) (word_from 0 3 ∷ word_from 1 s.size ∷ []) (word_from 0 4 ∷ []))))
-        (ne_eqb s.end 1 not_found)
-
-    pub told_none : s.end ≡ 2 → set counted 0 2 ≡ written (told_words s) old
-    told_none e = told (word_from 0 2 ∷ []) (after-found ∙ ap
-        (λ (b : Bool). cond b (word_from 0 2 ∷ []) (cond (eqb s.end 3) (word_from 0 3 ∷ word_from 1 s.size ∷ []) (word_from 0 4 ∷ [])))
-        (eq-eqb s.end 2 e))
-
-    module _ (not_None : s.end ≡ 2 → ⊥) where
-      after_none : end_words s ≡ cond (eqb s.end 3) (word_from 0 3 ∷ word_from 1 s.size ∷ []) (word_from 0 4 ∷ [])
-      after_none = after-found ∙ ap (λ (b : Bool). cond b (word_from 0 2 ∷ []) (cond (eqb s.end 3) (word_from 0 3 ∷ word_from 1 s.size ∷ []) (word_from 0 4 ∷ []))) (ne_eqb s.end 2 not_None)
-
-      pub told-full : s.end ≡ 3 → set (set counted 0 3) 1 s.size ≡ written (told_words s) old
-      told-full e = told (word_from 0 3 ∷ word_from 1 s.size ∷ []) (after_none ∙ ap (λ (b : Bool). cond b (word_from 0 3 ∷ word_from 1 s.size ∷ []) (word_from 0 4 ∷ [])) (eq-eqb s.end 3 e))
-
-      pub told_more : (s.end ≡ 3 → ⊥) → set counted 0 4 ≡ written (told_words s) old
-      told_more f = told (word_from 0 4 ∷ []) (after_none ∙ ap (λ (b : Bool). cond b (word_from 0 3 ∷ word_from 1 s.size ∷ []) (word_from 0 4 ∷ [])) (ne_eqb s.end 3 f))
-
-  pub told-found : s.end ≡ 1 → written (found_words s.root) counted ≡ written (told_words s) old
-  told-found e =
-      told (found_words s.root)
-      (ap (λ (b : Bool). cond b (found_words s.root)
-      (cond (eqb s.end 2) (word_from 0 2 ∷ []) (cond (eqb s.end 3) (word_from 0 3 ∷ word_from 1 s.size ∷ []) (word_from 0 4 ∷ []))))
-      (eq-eqb s.end 1 e))
+  pub told_at : (end : End) → s.end ≡ end → written (words_at end s) counted ≡ written (told_words s) old
+  told_at end e = ap (λ (x : End). written (words_at x s) counted) (sym e)

@@ -1,6 +1,6 @@
 -- scarfpylon_resume: what it returns and leaves in the lent slices, in the state's words and in `out`, for every input.
 -- Assumes nothing.
-use Rattle.std.specs.Prelude.{◌≡◌, List, [], ◌∷◌, ◌++◌, ℕ, Ok}
+use Rattle.std.specs.Prelude.{◌≡◌, List, [], ◌∷◌, ℕ, Ok}
 use Rattle.rules.specs.Refusals.{Row, Decided}
 use Rattle.formula.specs.declared.kinds.Node.{Node}
 use Rattle.walk.specs.Input.{Input}

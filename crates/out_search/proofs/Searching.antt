@@ -1,19 +1,21 @@
 -- The search at the boundary: with no session lent the core's tests refuse at 3 at the latest, and a row that is not given may stand in a list.
 -- Assumes nothing.
-use mathlib.Core.Path.{◌≡◌, refl}
+use mathlib.Core.Path.{◌≡◌, refl, subst}
 use mathlib.Core.Logic.{inl, inr}
 use mathlib.Core.List.{List, []}
+use Rattle.std.specs.Prelude.{Ok, Err}
 use Prim.Native.Nat.{ℕ, ◌≤◌, ◌<◌}
 use native.Mathlib.Nat.{lt_of_not-le}
 use native.Mathlib.Omega.{arith}
 use lib.ListN.{length}
-use Rattle.rules.specs.Refusals.{Decided}
+use Rattle.rules.specs.declared.refusal.Refusal.{Refusal}
+use Rattle.rules.specs.Refusals.{Decided, refusal_number}
 use Rattle.walk.specs.Input.{Input, input_of}
 use Rattle.search.specs.declared.SearchAnswer.{SearchAnswer}
-use Rattle.search.specs.declared.SearchAnswer.TheVariants.{Found, None, Full, Refused}
 use Rattle.table.specs.Slices.{Cols, cols}
 use Rattle.checks.specs.Refusals as core
-use Rattle.search.specs.Search.{said_search, Searched}
+use Rattle.search.specs.Search.{Searched}
+use Rattle.search.proofs.Promises.{answered_zero}
 use Rattle.out.specs.Out.{long_words, written}
 use Rattle.out_search.specs.Search.{search_words, out_search_rows, SearchDone}
 use Rattle.out_search.specs.Inner.{SearchUnanswered}
@@ -59,15 +61,16 @@ module _ (i : Input) (t : Cols) (old : List ℕ) (h : long_words ≤ length old)
   answered-rows k (inr (p, inl q)) = inr (p, inl q)
   answered-rows k (inr (p, inr (q, d))) = inr (p, inr (q, inr (λ g. omega arith, d)))
 
-  module _ (u : Cols) (new : List ℕ) where
-    abbrev Does : SearchAnswer → Type 0
-    Does a = Searched i t a u → new ≡ written (search_words a) old → SearchDone i t old (said_search a).number u new
+  pub search-refused : (u : Cols) (refusal : Refusal) → Searched i t (Err refusal) u → SearchDone i t old (refusal_number refusal) u old
+  search-refused u refusal s = record {
+    number = answered-rows (refusal_number refusal) s.decided;
+    refused = λ _. (s.outcome.1, refl);
+    passed = λ e. absurd (omega (arith, s.outcome.0, e));
+  }
 
-    answered : (a : SearchAnswer) → (said_search a).number ≡ 0 → Does a
-    answered a z s e = record { number = answered-rows (said_search a).number s.decided; refused = λ f. absurd (f z); passed = λ _. (a, s, e) }
-
-    pub search-long : (a : SearchAnswer) → Does a
-    search-long (Found root n) s e = answered (Found root n) refl s e
-    search-long (None n) s e = answered (None n) refl s e
-    search-long (Full size n) s e = answered (Full size n) refl s e
-    search-long (Refused k) s e = record { number = answered-rows k s.decided; refused = λ _. (s.outcome.1, e); passed = λ _. (Refused k, s, e) }
+  pub search-long : (u : Cols) (new : List ℕ) (a : SearchAnswer) → Searched i t (Ok a) u → new ≡ written (search_words a) old → SearchDone i t old 0 u new
+  search-long u new a s e = record {
+    number = answered-rows 0 (subst (Decided (core.search_rows i t)) (answered_zero a) s.decided);
+    refused = λ f. absurd (f refl);
+    passed = λ _. (a, s, e);
+  }

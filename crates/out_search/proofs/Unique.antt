@@ -1,6 +1,7 @@
 -- Uniqueness: any two results that the contract of `search` allows for the same input are equal, number, lent slices and `out`.
 -- Assumes nothing.
 use mathlib.Core.Path.{◌≡◌, sym, ap, ◌∙◌}
+use Rattle.std.specs.Prelude.{Ok}
 use mathlib.Core.List.{List}
 use Prim.Native.Nat.{ℕ}
 use native.Mathlib.Decide.{ℕ_discrete}
@@ -20,8 +21,9 @@ search-done-unique i t old k l u v x y p q =
       | yes e ↦
           let a = p.passed e in
           let b = q.passed (sym n ∙ e) in
-          let s = search-unique i t a.0 b.0 u v a.1 b.1 in
-          (n, s.1, a.2 ∙ ap (λ (w : SearchAnswer). written (search_words w) old) s.0 ∙ sym b.2)
+          let s = search-unique i t (Ok a.0) (Ok b.0) u v a.1 b.1 in
+          let same : a.0 ≡ b.0 = cc s.0 in
+          (n, s.1, a.2 ∙ ap (λ (w : SearchAnswer). written (search_words w) old) same ∙ sym b.2)
       | no e ↦
           let a = p.refused e in
           let b = q.refused (λ z. e (n ∙ z)) in

@@ -1,49 +1,17 @@
 -- `tell` meets its contract: the counts, and what the end tells.
 use mathlib.Core.Path.{◌∙◌}
-use native.Mathlib.Omega.{arith}
-use lib.ListN.{length-set}
-use Rattle.out_resume.proofs.Resuming.{counted-long, told-found, told_none, told-full, told_more}
+use Rattle.state.specs.declared.End.{End}
+use Rattle.out_resume.proofs.Resuming.{told_at}
 use Rattle.out_resume.proofs.tell.Goals as goal
 
-pub bounds-out-3 : goal.bounds-out-3
-bounds-out-3 c = simp length-set (omega arith)
+pub returns-in-Found : goal.returns-in-Found
+returns-in-Found c = c.tell_found.ensures ∙ told_at _ _ End.Found c.in-Found.is
 
-pub bounds-out-8 : goal.bounds-out-8
-bounds-out-8 c = simp length-set (omega arith)
+pub returns-in-None : goal.returns-in-None
+returns-in-None c = told_at _ _ End.None c.in-None.is
 
-pub shape_of-out-then-after-eq1 : goal.shape_of-out-then-after-eq1
-shape_of-out-then-after-eq1 c =
-    c.tell_found.auto.out ∙ counted-long c.args.after
-    c.args.out.now
+pub returns-in-Full : goal.returns-in-Full
+returns-in-Full c = told_at _ _ End.Full c.in-Full.is
 
-pub returns-then-after-eq1 : goal.returns-then-after-eq1
-returns-then-after-eq1 c =
-    c.tell_found.ensures ∙ told-found c.args.after
-    c.args.out.now c.if-after-eq1.true
-
-pub bounds-out-0 : goal.bounds-out-0
-bounds-out-0 c = simp length-set (omega arith)
-
-pub returns-then-after-eq2 : goal.returns-then-after-eq2
-returns-then-after-eq2 c = told_none c.args.after c.args.out.now c.if-after-eq1.false c.if-after-eq2.true
-
-pub bounds-out-0-then-after-eq3 : goal.bounds-out-0-then-after-eq3
-bounds-out-0-then-after-eq3 c = simp length-set (omega arith)
-
-pub bounds-out-1 : goal.bounds-out-1
-bounds-out-1 c = simp length-set (omega arith)
-
-pub returns-then-after-eq3 : goal.returns-then-after-eq3
-returns-then-after-eq3 c =
-    told-full c.args.after
-    c.args.out.now c.if-after-eq1.false
-    c.if-after-eq2.false c.if-after-eq3.true
-
-pub bounds-out-0-2 : goal.bounds-out-0-2
-bounds-out-0-2 c = simp length-set (omega arith)
-
-pub returns : goal.returns
-returns c =
-    told_more c.args.after
-    c.args.out.now c.if-after-eq1.false
-    c.if-after-eq2.false c.if-after-eq3.false
+pub returns-in-More : goal.returns-in-More
+returns-in-More c = told_at _ _ End.More c.in-More.is

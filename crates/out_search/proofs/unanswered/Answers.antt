@@ -2,5 +2,8 @@
 use Rattle.out_search.proofs.Searching.{unanswered}
 use Rattle.out_search.proofs.unanswered.Goals as goal
 
-pub returns : goal.returns
-returns c = unanswered _ _ _ _ _ _ c.refusal.ensures
+pub returns-in-Ok : goal.returns-in-Ok
+returns-in-Ok c = unanswered _ _ _ _ _ _ c.in-Ok.ensures
+
+pub returns-in-Err : goal.returns-in-Err
+returns-in-Err c = rw c.from.ensures (unanswered _ _ _ _ _ _ c.in-Err.ensures)
