@@ -10,6 +10,7 @@ fn fill_bytes(to: &mut [u8], file: &[u8], at: usize, stride: usize, n: usize)
     requires { (1 ≤ stride) × (n ≤ length to.old) × (at + n * stride ≤ length file.now) }
     ensures { to.new ≡ sets to.old 0 (strided stride n (drop at file.now)) }
 {
+    // `to.iter_mut().take(n).zip(file[at..].iter().step_by(stride))` is one line, but has four parts for these two steps.
     let mut p = at;
     for i in 0..n {
         to[i] = file[p];
@@ -32,6 +33,7 @@ fn fill_words(to: &mut [u64], file: &[u8], at: usize, m: usize, n: usize)
     requires { (m * n ≤ length to.old) × (at + n * (2 + 8 * m) ≤ length file.now) }
     ensures { to.new ≡ sets to.old 0 (session_words m n (drop at file.now)) }
 {
+    // The place and the offset go on by steps of their own, so no one range gives both.
     let mut k: usize = 0;
     let mut p = at;
     for _ in 0..n {

@@ -1,5 +1,5 @@
 -- Uniqueness: any two results that a public operation's contract allows for the same input are equal.
--- For `Proposition::from_left`, `Proposition::to_left` and `nodes::count` the contract is the number itself; for `nodes::refusal` it is `decided-unique`.
+-- For `Proposition::from_left`, `Proposition::to_left` and `nodes::count` the contract is the number itself; for `nodes::check` it is `decided-unique`.
 -- Assumes nothing.
 use mathlib.Core.Path.{◌≡◌, ap}
 use Prim.Native.Nat.{ℕ}

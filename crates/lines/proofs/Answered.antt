@@ -2,11 +2,14 @@
 -- Assumes nothing.
 use mathlib.Core.Path.{◌≡◌, refl, sym, ap, ◌∙◌, subst}
 use mathlib.Core.List.{List, ◌++◌, map}
-use Prim.Native.Nat.{ℕ, ◌+◌, ◌≤◌}
+use Prim.Native.Nat.{ℕ, ◌≤◌}
 use native.Mathlib.Omega.{arith}
 use lib.ListN.{length, take, drop, length-append, length-map}
 use lib.Seq.{length-take-le}
 use Rattle.file.specs.Format.{Parts, Good}
+use Rattle.std.specs.Prelude.{Ok, Err}
+use Rattle.rules.specs.declared.refusal.Refusal.{Refusal}
+use Rattle.rules.specs.Refusals.{refusal_number}
 use Rattle.rules.specs.Answers.{over}
 use Rattle.formula.specs.Nodes.{Spells, codes}
 use Rattle.formula.specs.Nodes as walk
@@ -20,10 +23,9 @@ use Rattle.text.specs.Text.{text}
 use Rattle.text.proofs.Promises.{text_in}
 use Rattle.writing.specs.Writing.{Wrote, newline}
 use Rattle.counting.specs.declared.Counts.{Counts}
-use Rattle.search.specs.declared.SearchAnswer.{SearchAnswer}
-use Rattle.search.specs.declared.SearchAnswer.TheVariants.{Found, None, Full, Refused}
+use Rattle.search.specs.declared.SearchAnswer.TheVariants.{Found, None, Full}
 use Rattle.search.specs.Table.{Cols}
-use Rattle.search.specs.Search.{tally_of, Searched}
+use Rattle.search.specs.Search.{Answer, tally_of, Searched}
 use Rattle.line.specs.Line.{found_line, none_line, full_line, refused_line}
 use Rattle.lines.specs.Bench.{file_input}
 use Rattle.lines.specs.Inner.{Showable, ShownBy, Given, LinesWritten}
@@ -90,13 +92,13 @@ module _ {p : Parts} {g : Good p} {room : ℕ} {t : Cols} {roomy : Roomy t} {u :
   pub nodes-many : length lent ≡ n
   nodes-many = ap length kept-nodes ∙ length-map this.table (λ c. c.node) ∙ this.as_many
 
-module _ (file : List ℕ) (i : Input) (p : Parts) (g : Given file i p) (t : Cols) (roomy : Roomy t) (u : Cols) (a : SearchAnswer) (w : Searched i t a u) where
-  moved : (b : SearchAnswer) → a ≡ b → Searched (file_input p i.room) t b u
-  moved b e = subst (λ (c : SearchAnswer). Searched (file_input p i.room) t c u) e (subst (λ (j : Input). Searched j t a u) g.same w)
+module _ (file : List ℕ) (i : Input) (p : Parts) (g : Given file i p) (t : Cols) (roomy : Roomy t) (u : Cols) (a : Answer) (w : Searched i t a u) where
+  moved : (b : Answer) → a ≡ b → Searched (file_input p i.room) t b u
+  moved b e = subst (λ (c : Answer). Searched (file_input p i.room) t c u) e (subst (λ (j : Input). Searched j t a u) g.same w)
 
-  module _ {root : Node} {c : Counts} (e : a ≡ Found root c) where
+  module _ {root : Node} {c : Counts} (e : a ≡ Ok (Found root c)) where
     pub this : FoundAt p g.good i.room t roomy u root c
-    this = found_at p g.good i.room t roomy u root c (moved (Found root c) e)
+    this = found_at p g.good i.room t roomy u root c (moved (Ok (Found root c)) e)
 
     unbroken : Broken (length p.names) (lent this) (node_of root) → ⊥
     unbroken = subst (λ (k : List walk.Node). Broken (length p.names) k (node_of root) → ⊥) (sym (kept-nodes this)) this.whole
@@ -143,28 +145,29 @@ module _ (file : List ℕ) (i : Input) (p : Parts) (g : Given file i p) (t : Col
           );
         }
 
-  pub none-returns : {n : Counts} → a ≡ None n → {old new : List ℕ} {r : ℕ} → 512 ≤ length old → Wrote old 0 (none_line n.tried n.kept n.dropped) new r → LinesWritten p
+  pub none-returns : {n : Counts} → a ≡ Ok (None n) → {old new : List ℕ} {r : ℕ} → 512 ≤ length old → Wrote old 0 (none_line n.tried n.kept n.dropped) new r → LinesWritten p
       i.room old r new
   none-returns {n} e h v = record {
     lines = none_line n.tried n.kept n.dropped;
-    says = none-says p g.good i.room t roomy u n (moved (None n) e);
+    says = none-says p g.good i.room t roomy u n (moved (Ok (None n)) e);
     wrote = v;
     fits = omega (arith, none-short n.tried n.kept n.dropped);
   }
 
-  pub full-returns : {size : ℕ} {n : Counts} → a ≡ Full size n → {old new : List ℕ} {r : ℕ} → 512 ≤ length old → Wrote old 0 (full_line size n.tried n.kept
+  pub full-returns : {size : ℕ} {n : Counts} → a ≡ Ok (Full size n) → {old new : List ℕ} {r : ℕ} → 512 ≤ length old → Wrote old 0 (full_line size n.tried n.kept
       n.dropped) new r → LinesWritten p i.room old r new
   full-returns {size} {n} e h v = record {
     lines = full_line size n.tried n.kept n.dropped;
-    says = full-says p g.good i.room t roomy u size n (moved (Full size n) e);
+    says = full-says p g.good i.room t roomy u size n (moved (Ok (Full size n)) e);
     wrote = v;
     fits = omega (arith, full-short size n.tried n.kept n.dropped);
   }
 
-  pub refused-returns : {n : ℕ} → a ≡ Refused n → {old new : List ℕ} {r : ℕ} → 512 ≤ length old → Wrote old 0 (refused_line n) new r → LinesWritten p i.room old r new
+  pub refused-returns : {n : Refusal} → a ≡ Err n → {old new : List ℕ} {r : ℕ} → 512 ≤ length old
+      → Wrote old 0 (refused_line (refusal_number n)) new r → LinesWritten p i.room old r new
   refused-returns {n} e h v = record {
-    lines = refused_line n;
-    says = refused_says p g.good i.room t roomy u n (moved (Refused n) e);
+    lines = refused_line (refusal_number n);
+    says = refused_says p g.good i.room t roomy u n (moved (Err n) e);
     wrote = v;
-    fits = omega (arith, refused-short n);
+    fits = omega (arith, refused-short (refusal_number n));
   }

@@ -6,11 +6,14 @@ use mathlib.Core.List.{List, [], append-nil}
 use Prim.Native.Nat.{ℕ, ◌*◌, ◌≤◌}
 use native.Mathlib.Nat.{mul-le-mul}
 use native.Mathlib.Omega.{arith}
+use lib.Dec.{lit<}
 use lib.ListN.{length, replicate, length-replicate}
 use Rattle.rules.specs.Limits.{most_room, Outside}
-use Rattle.rules.specs.Refusals.{Decided}
-use Rattle.rules.proofs.Refusals.{decided-unique}
-use Rattle.session.specs.Data.{data_rows}
+use Rattle.std.specs.Prelude.{Ok, Err}
+use Rattle.rules.specs.declared.refusal.Refusal.{Refusal}
+use Rattle.rules.specs.Refusals.{Decided, refusal_number}
+use Rattle.rules.proofs.Refusals.{decided-unique, decided-none}
+use Rattle.session.specs.Data.{data_rows, outside_numbers}
 use Rattle.session.specs.Recording.{recording}
 use Rattle.file.specs.Format.{Parts, Good}
 use Rattle.file.specs.Reading.{marks_of, lengths_of, words_of}
@@ -25,11 +28,11 @@ use Rattle.formula.specs.declared.kinds.Node.{Node}
 use Rattle.formula.specs.Kinds.{node_of}
 use Rattle.formula.specs.Rule.{Broken}
 use Rattle.counting.specs.declared.Counts.{Counts}
-use Rattle.search.specs.declared.SearchAnswer.TheVariants.{Found, None, Full, Refused}
+use Rattle.search.specs.declared.SearchAnswer.TheVariants.{Found, None, Full}
 use Rattle.search.specs.Table.{Cols, cols, table_over}
 use Rattle.checks.specs.Refusals.{search_rows}
 use Rattle.search.specs.Search.{tally_of, walk_said, Searched}
-use Rattle.checks.proofs.Decide.{is-two, is_zero, settings-fine, room-fine, codes-fine}
+use Rattle.checks.proofs.Decide.{is-two, is_zero}
 use Rattle.checks.proofs.Passing.{passes-whole}
 use Rattle.search.proofs.Promises.{found-end, none_end, full-end}
 use Rattle.line.specs.Line.{none_line, full_line, refused_line}
@@ -66,30 +69,30 @@ module _ (p : Parts) (g : Good p) (room : ℕ) (t : Cols) (roomy : Roomy t) wher
   pub data-pass : Decided (data_rows (recording (length p.sessions) (length p.names) (marks_of p) (lengths_of p) (words_of p))) 0
   data-pass = simp append-nil at (handed-out-passes p g [] [] [])
 
+  numbers-fine : (outside_numbers (length p.sessions) (length p.names)).given → ⊥
+  numbers-fine = (decided-none _ _ (lit< tt, (lit< tt, (lit< tt, (lit< tt, (lit< tt, tt))))) data-pass).0
+
   pub in-room : 1 ≤ room → room ≤ most_room → Decided (search_rows (file_input p room) t) 0
   in-room a b =
-      is_zero (file_input p room) t 0 data-pass (λ q. omega arith)
-      (settings-fine (file_input p room) (g.some_bound, g.low_bound, a, b, g.constants)) (λ q. omega arith)
-      (room-fine (file_input p room) t (
+      is_zero (file_input p room) t numbers-fine (g.some_bound, g.low_bound, a, b, g.constants) (
         omega (arith, roomy.codes),
         omega (arith, roomy.lefts),
         omega (arith, roomy.rights),
         omega (arith, roomy.sizes),
         (let h : room * length p.sessions ≤ 4096 * 32 = mul-le-mul b g.few_sessions in omega (arith, roomy.matrices)),
-      ))
-      refl
-      (codes-fine (file_input p room) (record { in_group = unary-pass p g; once = unary-once p g }) (record { in_group = binary-pass p g; once = binary-once p g }))
+      )
+      data-pass (record { in_group = unary-pass p g; once = unary-once p g }) (record { in_group = binary-pass p g; once = binary-once p g })
 
   out-room : Outside 1 most_room room → Decided (search_rows i t) 2
   unfolding i
-  out-room o = is-two (file_input p room) t 0 data-pass (λ q. omega arith) (inr (inl o))
+  out-room o = is-two (file_input p room) t numbers-fine (inr (inl o))
 
   module _ (u : Cols) where
     -- an answer that is no refusal is of a good room
     not-outside : (n : ℕ) → Decided (search_rows i t) n → n ≡ 0 → Outside 1 most_room room → ⊥
     not-outside n d z o = let e = decided-unique (search_rows i t) n 2 d (out-room o) in omega arith
 
-    pub none-says : (n : Counts) → Searched (file_input p room) t (None n) u → GoodSays p room (none_line n.tried n.kept n.dropped)
+    pub none-says : (n : Counts) → Searched (file_input p room) t (Ok (None n)) u → GoodSays p room (none_line n.tried n.kept n.dropped)
     unfolding i
     none-says n w = record {
       searched = λ a b.
@@ -99,7 +102,7 @@ module _ (p : Parts) (g : Good p) (room : ℕ) (t : Cols) (roomy : Roomy t) wher
       outside = λ o. absurd (not-outside 0 w.decided refl o);
     }
 
-    pub full-says : (size : ℕ) (n : Counts) → Searched (file_input p room) t (Full size n) u → GoodSays p room (full_line size n.tried n.kept n.dropped)
+    pub full-says : (size : ℕ) (n : Counts) → Searched (file_input p room) t (Ok (Full size n)) u → GoodSays p room (full_line size n.tried n.kept n.dropped)
     unfolding i
     full-says size n w = record {
       searched = λ a b.
@@ -109,11 +112,11 @@ module _ (p : Parts) (g : Good p) (room : ℕ) (t : Cols) (roomy : Roomy t) wher
       outside = λ o. absurd (not-outside 0 w.decided refl o);
     }
 
-    pub refused_says : (n : ℕ) → Searched (file_input p room) t (Refused n) u → GoodSays p room (refused_line n)
+    pub refused_says : (n : Refusal) → Searched (file_input p room) t (Err n) u → GoodSays p room (refused_line (refusal_number n))
     unfolding i
     refused_says n w = record {
-      searched = λ a b. (let z = decided-unique (search_rows (file_input p room) t) n 0 w.decided (in-room a b) in absurd (omega (arith, w.outcome.0)));
-      outside = λ o. ap refused_line (decided-unique (search_rows (file_input p room) t) n 2 w.decided (out-room o));
+      searched = λ a b. (let z = decided-unique (search_rows (file_input p room) t) (refusal_number n) 0 w.decided (in-room a b) in absurd (omega (arith, w.outcome.0)));
+      outside = λ o. ap refused_line (decided-unique (search_rows (file_input p room) t) (refusal_number n) 2 w.decided (out-room o));
     }
 
     -- what is known where a formula is found
@@ -126,7 +129,7 @@ module _ (p : Parts) (g : Good p) (room : ℕ) (t : Cols) (roomy : Roomy t) wher
       pub whole : Broken (length p.names) (table_nodes table) (node_of root) → ⊥
       pub inside : Outside 1 most_room room → ⊥
 
-    pub found_at : (root : Node) (n : Counts) → Searched (file_input p room) t (Found root n) u → FoundAt root n
+    pub found_at : (root : Node) (n : Counts) → Searched (file_input p room) t (Ok (Found root n)) u → FoundAt root n
     unfolding i
     found_at root n w =
         let ok = ((passes-whole (file_input p room) t).0 w.decided).0 in

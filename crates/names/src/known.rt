@@ -12,6 +12,7 @@ pub(crate) fn known_name(file: &[u8], at: usize, n: usize, count: usize) -> bool
     ensures { result ≡ is_in same_bytes (take n (drop at file.now)) (names_from file.now count 1) }
 {
     let end = at + n;
+    // No `any`: where a name starts is known only from the one before it.
     let mut p: usize = 1;
     for _ in 0..count {
         let from = p + 1;

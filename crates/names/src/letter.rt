@@ -39,6 +39,7 @@ fn letter_at(file: &[u8], at: usize, i: usize) -> Result<Read, Broken>
 pub(crate) fn letters_from(file: &[u8], at: usize, n: usize) -> Result<Read, Broken>
     ensures { result ≡ step_of length (each_item letter n [] file.now at) }
 {
+    // A `for`, and no `try_fold`: a closure would only hand on the offset that is in `p` here.
     let mut p = at;
     for i in 0..n {
         p = letter_at(file, p, i)?.next;

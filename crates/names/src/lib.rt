@@ -40,6 +40,7 @@ fn names_from(file: &[u8], count: usize) -> Result<Read, Broken>
     requires { 1 ≤ length file.now }
     ensures { result ≡ step_of length (each_item name count [] file.now 1) }
 {
+    // A `for`, and no `try_fold`: a closure would only hand on the offset that is in `p` here.
     let mut p: usize = 1;
     for i in 0..count {
         p = name_at(file, p, i)?.next;

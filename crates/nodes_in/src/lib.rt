@@ -20,7 +20,7 @@ pub const SEEN: usize = rules::ROOM + 1;
 pub fn count_of(length: usize) -> usize
     ensures { result ≡ min length seen }
 {
-    if length < SEEN { length } else { SEEN }
+    length.min(SEEN)
 }
 
 // The first `count` nodes, field by field.
@@ -35,14 +35,12 @@ fn unpack(
     requires { (count ≤ length list) × (length codes.old ≡ length list) × (length lefts.old ≡ length list) × (length rights.old ≡ length list) × (length sizes.old ≡ length list) }
     ensures { FieldsFilled list count codes.new lefts.new rights.new sizes.new }
 {
-    let mut i: usize = 0;
-    while i < count {
+    for i in 0..count {
         let node = list[i];
         codes[i] = node.code;
         lefts[i] = node.left.0;
         rights[i] = node.right.0;
         sizes[i] = node.size;
-        i += 1;
     }
 }
 

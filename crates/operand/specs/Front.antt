@@ -22,7 +22,8 @@ pub record Ran (text : List ℕ) (start i r : ℕ) : Type 0 where
 
 -- behind `X[`: 33 is `!`, 93 is `]`
 abbrev pub Strong : List ℕ → ℕ → Result Awaited Stop → Type 0
-Strong text at (Ok (PrefixOperator next code)) = (at < next) × ((d : ℕ) → ScanPasses text (rest 33 (93 ∷ []) (pre strong_next) d) at (pre strong_next ∷ []) (ready d) next) × (code ≡ unary_code strong_next)
+Strong text at (Ok (PrefixOperator next code)) = (at < next) × ((d : ℕ) → ScanPasses text (rest 33 (93 ∷ []) (pre strong_next) d) at (pre strong_next ∷ []) (ready d) next) ×
+    (code ≡ unary_code strong_next)
 Strong text at (Ok (Open next)) = ⊥
 Strong text at (Ok (LeafWord next start)) = ⊥
 Strong text at (Err stop) = (d : ℕ) → Stops text (rest 33 (93 ∷ []) (pre strong_next) d) at stop.0

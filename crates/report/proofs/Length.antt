@@ -12,7 +12,7 @@ use native.Mathlib.Decide.{dec_lt}
 use native.Mathlib.Omega.{arith}
 use lib.Dec.{ltb}
 use lib.ListN.{length, length-append}
-use borrow.Author.Tests.{lt-ltb, le-ltb}
+use borrow.Author.Tests.{lt-ltb}
 use Rattle.words.specs.Ltlf.{Reading}
 use Rattle.words.specs.Word.{width}
 use Rattle.rules.specs.Limits.{most_size, most_room, most_sessions}

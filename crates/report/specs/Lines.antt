@@ -1,6 +1,6 @@
 -- The report's text: its lines, each as `summary` spells it.
 -- Assumes nothing.
-use Rattle.std.specs.Prelude.{◌≡◌, List, [], ◌∷◌, ◌++◌, ℕ, zero, suc, length}
+use Rattle.std.specs.Prelude.{◌≡◌, List, [], ◌++◌, ℕ, zero, suc, length}
 use Rattle.session.specs.Recording.{Recording, length_of}
 use Rattle.formula.specs.Formula.{Formula, Holds}
 use Rattle.formula.specs.Nodes.{Node, node_at, Spells, codes}

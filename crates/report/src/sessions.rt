@@ -100,13 +100,11 @@ fn put_places(
         text.new result }
 {
     let n = count(codes, lefts, rights, sizes) as u16;
-    let mut p: u16 = 0;
     let mut b = at;
-    while p < n {
+    for p in 0..n {
         b = put_listed(
             r, m, marks, lengths, words, codes, lefts, rights, sizes, under, on, p, text, b,
         );
-        p += 1;
     }
     b
 }
@@ -167,9 +165,8 @@ pub(crate) fn put_sessions(
         text.new result }
 {
     let n = r as u8;
-    let mut j: u8 = 0;
     let mut a: usize = 0;
-    while j < n {
+    for j in 0..n {
         a = put_session(
             r,
             m,
@@ -186,7 +183,6 @@ pub(crate) fn put_sessions(
             text,
             a,
         );
-        j += 1;
     }
     a
 }

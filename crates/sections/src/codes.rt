@@ -38,6 +38,7 @@ fn codes_from(file: &[u8], from: usize, count: usize, unary: bool) -> Result<Rea
     requires { from ≤ length file.now }
     ensures { result ≡ step_of length (each_item (code (group_of unary)) count [] file.now from) }
 {
+    // A `for`, and no `try_fold`: a closure would only hand on the offset that is in `p` here.
     let mut p = from;
     for i in 0..count {
         p = code_at(file, from, i, unary)?.next;

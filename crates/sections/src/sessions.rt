@@ -42,6 +42,7 @@ fn words_from(file: &[u8], at: usize, n: usize, m: usize) -> Result<Read, Broken
     requires { n ≤ width }
     ensures { result ≡ step_of length (each_item (λ _. eight_bytes n) m [] file.now at) }
 {
+    // A `for`, and no `try_fold`: a closure would only hand on the offset that is in `p` here.
     let mut p = at;
     for _ in 0..m {
         p = word_step(file, p, n)?.next;
@@ -61,6 +62,7 @@ fn session_at(file: &[u8], at: usize, m: usize) -> Result<Read, Broken>
 fn sessions_from(file: &[u8], at: usize, m: usize, count: usize) -> Result<Read, Broken>
     ensures { result ≡ step_of length (each_item (λ _. session m) count [] file.now at) }
 {
+    // A `for`, and no `try_fold`: a closure would only hand on the offset that is in `p` here.
     let mut p = at;
     for _ in 0..count {
         p = session_at(file, p, m)?.next;

@@ -8,8 +8,9 @@ use Rattle.reading.specs.Reading.{Got, got, section}
 use Rattle.names.specs.Names.{name_bytes}
 use Rattle.names.proofs.Theorems.{names-accepts}
 use Rattle.session.specs.Recording.{Recording, recording}
-use Rattle.file.specs.declared.ReadAnswer.{ReadAnswer}
-use Rattle.file.specs.declared.ReadAnswer.TheVariants.{Broken}
+use Rattle.file.specs.declared.Parts.{Parts as Numbers}
+use Rattle.file.specs.declared.ReadError.{ReadError}
+use Rattle.file.specs.declared.ReadError.TheVariants.{Broken}
 use Rattle.file.specs.Format.{Parts}
 use Rattle.file.specs.Reading.{said_read, Lent, read_after, marks_of, lengths_of, read_of}
 use Rattle.file.proofs.Numbers.{Bytes}
@@ -50,7 +51,7 @@ module _ (typed names : List ℕ) (i : Recording) {left : Columns} {old new : Li
 pub unread-wrote : (typed : List ℕ) {p q : ParseError} {old new : List ℕ} {r : ℕ} → p ≡ q → Wrote old 0 (unread_lines typed q) new r → Wrote old 0 (unread_lines typed p) new r
 unread-wrote typed {p} {q} {old} {new} {r} e x = subst (λ (z : ParseError). Wrote old 0 (unread_lines typed z) new r) (sym e) x
 
-module _ (file : List ℕ) (bytes : Bytes file) (l : Lent) (wide : Wide l) (a : ReadAnswer) (marks lengths words unary binary : List ℕ)
+module _ (file : List ℕ) (bytes : Bytes file) (l : Lent) (wide : Wide l) (a : Result Numbers ReadError) (marks lengths words unary binary : List ℕ)
     (e : read_after (said_read a) marks lengths words unary binary ≡ read_of file l) (typed : List ℕ) {old new : List ℕ} {k : ℕ} where
   -- a good file's names and sessions are those that the reader and the check are handed
   pub good-said : {r m n u b constants bound : ℕ} → Handed file bytes l wide a marks lengths words unary binary e r m n u b constants bound
@@ -73,7 +74,7 @@ module _ (file : List ℕ) (bytes : Bytes file) (l : Lent) (wide : Wide l) (a : 
         wrote = wrote;
       }
 
-  pub broken-said : {o : ℕ} → a ≡ Broken o → Wrote old 0 (refused_at_line 8 o) new k → TypedLinesOf typed file old new k
+  pub broken-said : {o : ℕ} → a ≡ Err (Broken o) → Wrote old 0 (refused_at_line 8 o) new k → TypedLinesOf typed file old new k
   broken-said {o} q w = record {
     lines = refused_at_line 8 o;
     says = subst (λ (g : Got Parts). FileSays g typed (refused_at_line 8 o)) (sym (broken-at file bytes l wide a marks lengths words unary binary e q)) refl;

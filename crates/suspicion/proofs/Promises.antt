@@ -107,7 +107,7 @@ module _ (p : Parts) (g : Good p) (text : List ℕ) where
         let whole : NodesBroken (length p.names) k root → ⊥ =
         subst (λ (m : ℕ). NodesBroken (length p.names) (first_nodes m left) (node_at (first_nodes m left) (m - 1)) → ⊥) (sym (head-eq_of_cons-eq this.taken.values))
         (read-good roomy t this.taken.nodes (length p.names) is-typed.named this.small) in
-        decided-list (recording_of p) k root 0 0 (simp append-nil at (handed-out-passes p g [] [] [])) refl (inr (whole, refl))
+        decided-list (recording_of p) k root 0 (simp append-nil at (handed-out-passes p g [] [] [])) (inr (whole, refl))
 
   -- ---- what is answered
 
@@ -120,7 +120,8 @@ module _ (p : Parts) (g : Good p) (text : List ℕ) where
         is-disagrees (t left n a) s.0 e (is-typed left n a)
         (said-disagrees (recording_of p) (t left n a) s.0 (checked left n a (recording_of p) (Ok (Disagrees s)) c refl))
     verdict n a (Err refusal) c e =
-        let z : refusal_number refusal ≡ 0 = decided-unique (check_rows (recording_of p) (first_nodes n left) (node_at (first_nodes n left) (n - 1))) (refusal_number refusal) 0 c.number (taken left n a) in
+        let rows = check_rows (recording_of p) (k left n a) (root left n a) in
+        let z : refusal_number refusal ≡ 0 = decided-unique rows (refusal_number refusal) 0 c.number (taken left n a) in
         absurd (none_said (recording_of p) (t left n a) (checked left n a (recording_of p) (Err refusal) c z))
 
     no_names : {o : ℕ} → whole_names front ≡ bad o → ⊥

@@ -48,6 +48,7 @@ fn pass(names: &[u8], text: &[u8], i: usize) -> Option<usize>
 pub fn unknown(names: &[u8], text: &[u8]) -> Option<usize>
     ensures { MissingIs (names_by names.now) text.now result }
 {
+    // A `while`, since each turn goes on from where the last one ended: no index is counted.
     let mut i: usize = 0;
     while i < text.len() {
         let Some(next) = pass(names, text, i) else {

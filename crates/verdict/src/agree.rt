@@ -15,7 +15,8 @@ fn agrees(mark: u8, seq: CharSeq) -> bool
     (mark == 1) == seq.accepts()
 }
 
-// The first session that disagrees with the root's formula, or r.
+// The first session that disagrees with the root's formula, or r: a number and no Option, since the definition that the edit `always_names_session_0`
+// and two more change tells the two cases apart by whether it is below r.
 pub(crate) fn first_disagreeing(
     r: usize,
     m: usize,

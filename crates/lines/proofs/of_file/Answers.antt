@@ -1,10 +1,10 @@
 -- `of_file` meets its contract: the reader hands out a good file's parts, there is room for all of them, and the search has its lines.
 use mathlib.Core.Path.{◌≡◌, ap, ◌∙◌}
-use Prim.Native.Nat.{ℕ}
 use native.Mathlib.Omega.{arith}
 use Rattle.std.proofs.Common.{Ok, Err}
 use Rattle.file.specs.declared.Parts.{Parts as Numbers}
 use Rattle.file.specs.declared.ReadError.{ReadError}
+use Rattle.file.specs.declared.ReadError.TheVariants.{Broken, Room}
 use Rattle.file.specs.Reading.{Lent, lent, said_read, read_after, read_of}
 use Rattle.file.proofs.Numbers.{Bytes}
 use Rattle.lines.proofs.Handed.{blank, blank-wide, Handed, handed, given_by, good-lines, broken-lines, never-room}
@@ -100,13 +100,15 @@ returns-in-Ok c =
 pub returns-in-Err-Broken : goal.returns-in-Err-Broken
 returns-in-Err-Broken c =
     let d = (goal.at.returns-in-Err-Broken c).After-read-read in
+    let f : c.in-Err-Broken.field-0 ≡ Broken c.in-Err-Broken.at = rw c.in-Err-Broken.is at c.in-Err-Broken.field-0-is in
     broken-lines c.args.file.now (bytes d) blank blank-wide
     c.read-read.result (left d).marks (left d).lengths (left d).words (left d).unary (left d).binary
-    (ran d) c.args.room (c.in-Err-Broken.is ∙ ap (λ (e : ReadError). Err e) (rw c.in-Err-Broken.is at c.in-Err-Broken.field-0-is)) (omega arith) c.broken.ensures
+    (ran d) c.args.room (c.in-Err-Broken.is ∙ ap (λ (e : ReadError). Err e) f) (omega arith) c.broken.ensures
 
 pub returns-in-Err-Room : goal.returns-in-Err-Room
 returns-in-Err-Room c =
     let d = (goal.at.returns-in-Err-Room c).After-read-read in
+    let f : c.in-Err-Room.field-0 ≡ Room = rw c.in-Err-Room.is at c.in-Err-Room.field-0-is in
     absurd (never-room c.args.file.now (bytes d) blank blank-wide
     c.read-read.result (left d).marks (left d).lengths (left d).words (left d).unary (left d).binary (ran d)
-    (c.in-Err-Room.is ∙ ap (λ (e : ReadError). Err e) (rw c.in-Err-Room.is at c.in-Err-Room.field-0-is)))
+    (c.in-Err-Room.is ∙ ap (λ (e : ReadError). Err e) f))

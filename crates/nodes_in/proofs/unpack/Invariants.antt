@@ -1,10 +1,6 @@
 -- `unpack` meets its contract: after i turns the first i fields are the nodes'.
-use Prim.Native.Nat.{◌≤◌, ◌-◌}
 use Rattle.nodes_in.specs.Arrays.{FieldsFilled}
 use Rattle.nodes_in.proofs.unpack.Given as goal
 
 abbrev pub invariant-loop-i : goal.invariant-loop-i
-invariant-loop-i l = (l.i ≤ l.count) × FieldsFilled l.list l.i l.codes l.lefts l.rights l.sizes
-
-abbrev pub decreases-loop-i : goal.decreases-loop-i
-decreases-loop-i l = l.count - l.i
+invariant-loop-i l = FieldsFilled l.list l.i l.codes l.lefts l.rights l.sizes

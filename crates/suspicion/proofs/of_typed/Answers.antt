@@ -1,8 +1,10 @@
 -- `of_typed` meets its contract: the reader of files hands out a good file's parts, and what is typed has its lines over them.
-use mathlib.Core.Path.{◌≡◌}
-use Prim.Native.Nat.{ℕ}
+use mathlib.Core.Path.{◌≡◌, ap, ◌∙◌}
 use native.Mathlib.Omega.{arith}
-use Rattle.file.specs.declared.ReadAnswer.TheVariants.{Parts}
+use Rattle.std.proofs.Common.{Ok, Err}
+use Rattle.file.specs.declared.Parts.{Parts as Numbers}
+use Rattle.file.specs.declared.ReadError.{ReadError}
+use Rattle.file.specs.declared.ReadError.TheVariants.{Broken, Room}
 use Rattle.file.specs.Reading.{Lent, lent, said_read, read_after, read_of}
 use Rattle.file.proofs.Numbers.{Bytes}
 use Rattle.lines.proofs.Handed.{blank, blank-wide, Handed, handed, never-room}
@@ -25,60 +27,63 @@ unfolding blank left
 ran d = d.read-read.ensures
 
 -- a good file's parts, and where they are
-here : (d : After-read-read) (r m n u b constants bound : ℕ) → d.read-read.result ≡ Parts r m n u b constants bound
+here : (d : After-read-read) {k : Numbers} → d.read-read.result ≡ Ok k
     → Handed d.args.file.now (bytes d) blank blank-wide
-    d.read-read.result (left d).marks (left d).lengths (left d).words (left d).unary (left d).binary (ran d) r m n u b constants bound
-here d r m n u b constants bound e =
+    d.read-read.result (left d).marks (left d).lengths (left d).words (left d).unary (left d).binary (ran d) k.sessions k.propositions k.names k.unary k.binary k.constants k.bound
+here d e =
     handed d.args.file.now (bytes d) blank blank-wide
     d.read-read.result (left d).marks (left d).lengths (left d).words (left d).unary (left d).binary (ran d) e
 
 pub slice_bounds-judged-end : goal.slice_bounds-judged-end
-slice_bounds-judged-end c = (here (goal.at.slice_bounds-judged-end c).After-read-read _ _ _ _ _ _ _ c.in-Parts.is).names-long
+slice_bounds-judged-end c = (here (goal.at.slice_bounds-judged-end c).After-read-read c.in-Ok.is).names-long
 
 pub slice_bounds-marks-end : goal.slice_bounds-marks-end
 unfolding left
-slice_bounds-marks-end c = (here (goal.at.slice_bounds-marks-end c).After-read-read _ _ _ _ _ _ _ c.in-Parts.is).all-marks.there
+slice_bounds-marks-end c = (here (goal.at.slice_bounds-marks-end c).After-read-read c.in-Ok.is).all-marks.there
 
-pub slice_bounds-judged-end-in-Parts : goal.slice_bounds-judged-end-in-Parts
+pub slice_bounds-judged-end-in-Ok : goal.slice_bounds-judged-end-in-Ok
 unfolding left
-slice_bounds-judged-end-in-Parts c = (here (goal.at.slice_bounds-judged-end-in-Parts c).After-read-read _ _ _ _ _ _ _ c.in-Parts.is).all-marks.long
+slice_bounds-judged-end-in-Ok c = (here (goal.at.slice_bounds-judged-end-in-Ok c).After-read-read c.in-Ok.is).all-marks.long
 
 pub slice_bounds-lengths-end : goal.slice_bounds-lengths-end
 unfolding left
-slice_bounds-lengths-end c = (here (goal.at.slice_bounds-lengths-end c).After-read-read _ _ _ _ _ _ _ c.in-Parts.is).all-lengths.there
+slice_bounds-lengths-end c = (here (goal.at.slice_bounds-lengths-end c).After-read-read c.in-Ok.is).all-lengths.there
 
-pub slice_bounds-judged-end-in-Parts-2 : goal.slice_bounds-judged-end-in-Parts-2
+pub slice_bounds-judged-end-in-Ok-2 : goal.slice_bounds-judged-end-in-Ok-2
 unfolding left
-slice_bounds-judged-end-in-Parts-2 c = (here (goal.at.slice_bounds-judged-end-in-Parts-2 c).After-read-read _ _ _ _ _ _ _ c.in-Parts.is).all-lengths.long
+slice_bounds-judged-end-in-Ok-2 c = (here (goal.at.slice_bounds-judged-end-in-Ok-2 c).After-read-read c.in-Ok.is).all-lengths.long
 
 pub overflow_mul-words : goal.overflow_mul-words
-overflow_mul-words c = omega (arith, (here (goal.at.overflow_mul-words c).After-read-read _ _ _ _ _ _ _ c.in-Parts.is).small)
+overflow_mul-words c = omega (arith, (here (goal.at.overflow_mul-words c).After-read-read c.in-Ok.is).small)
 
 pub slice_bounds-words-end : goal.slice_bounds-words-end
 unfolding left
-slice_bounds-words-end c = (here (goal.at.slice_bounds-words-end c).After-read-read _ _ _ _ _ _ _ c.in-Parts.is).all_words.there
+slice_bounds-words-end c = (here (goal.at.slice_bounds-words-end c).After-read-read c.in-Ok.is).all_words.there
 
-pub slice_bounds-judged-end-in-Parts-3 : goal.slice_bounds-judged-end-in-Parts-3
+pub slice_bounds-judged-end-in-Ok-3 : goal.slice_bounds-judged-end-in-Ok-3
 unfolding left
-slice_bounds-judged-end-in-Parts-3 c = (here (goal.at.slice_bounds-judged-end-in-Parts-3 c).After-read-read _ _ _ _ _ _ _ c.in-Parts.is).all_words.long
+slice_bounds-judged-end-in-Ok-3 c = (here (goal.at.slice_bounds-judged-end-in-Ok-3 c).After-read-read c.in-Ok.is).all_words.long
 
-pub returns-in-Parts : goal.returns-in-Parts
+pub returns-in-Ok : goal.returns-in-Ok
 unfolding left
-returns-in-Parts c =
-    let d = (goal.at.returns-in-Parts c).After-read-read in
+returns-in-Ok c =
+    let d = (goal.at.returns-in-Ok c).After-read-read in
     good-said c.args.file.now (bytes d) blank blank-wide
     c.read-read.result (left d).marks (left d).lengths (left d).words (left d).unary (left d).binary
-    (ran d) c.args.typed.now (here d _ _ _ _ _ _ _ c.in-Parts.is) c.judged.ensures
+    (ran d) c.args.typed.now (here d c.in-Ok.is) c.judged.ensures
 
-pub returns-in-Broken : goal.returns-in-Broken
-returns-in-Broken c =
-    let d = (goal.at.returns-in-Broken c).After-read-read in
+pub returns-in-Err-Broken : goal.returns-in-Err-Broken
+returns-in-Err-Broken c =
+    let d = (goal.at.returns-in-Err-Broken c).After-read-read in
+    let f : c.in-Err-Broken.field-0 ≡ Broken c.in-Err-Broken.at = rw c.in-Err-Broken.is at c.in-Err-Broken.field-0-is in
     broken-said c.args.file.now (bytes d) blank blank-wide
     c.read-read.result (left d).marks (left d).lengths (left d).words (left d).unary (left d).binary
-    (ran d) c.args.typed.now c.in-Broken.is c.refused_at.ensures
+    (ran d) c.args.typed.now (c.in-Err-Broken.is ∙ ap (λ (e : ReadError). Err e) f) c.refused_at.ensures
 
-pub returns-in-Room : goal.returns-in-Room
-returns-in-Room c =
-    let d = (goal.at.returns-in-Room c).After-read-read in
+pub returns-in-Err-Room : goal.returns-in-Err-Room
+returns-in-Err-Room c =
+    let d = (goal.at.returns-in-Err-Room c).After-read-read in
+    let f : c.in-Err-Room.field-0 ≡ Room = rw c.in-Err-Room.is at c.in-Err-Room.field-0-is in
     absurd (never-room c.args.file.now (bytes d) blank blank-wide
-    c.read-read.result (left d).marks (left d).lengths (left d).words (left d).unary (left d).binary (ran d) c.in-Room.is)
+    c.read-read.result (left d).marks (left d).lengths (left d).words (left d).unary (left d).binary (ran d)
+    (c.in-Err-Room.is ∙ ap (λ (e : ReadError). Err e) f))

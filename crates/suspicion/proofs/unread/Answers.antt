@@ -24,4 +24,4 @@ returns-in-Unknown c =
 
 pub returns-in-Refused : goal.returns-in-Refused
 returns-in-Refused c =
-    unread-wrote c.args.typed.now c.in-Refused.is c.refused.ensures
+    unread-wrote c.args.typed.now c.in-Refused.is (rw c.from.ensures at c.refused.ensures)

@@ -31,17 +31,6 @@ put_listed-b-requires c =
     let t = c.loop-p-test.true in
     (p.0, p.1, omega (arith, e, p.2), omega (arith, e, p.2))
 
-pub overflow_add-p : goal.overflow_add-p
-overflow_add-p c =
-    let a = c.args in
-    let e = c.count-n.ensures ∙ sym (length-nodes a.codes.now a.lefts.now a.rights.now a.sizes.now) in
-    omega (
-      arith,
-      e,
-      c.requires.3,
-      c.loop-p-test.true,
-    )
-
 pub loop-p-preserved : goal.loop-p-preserved
 loop-p-preserved c =
     let a = c.args in

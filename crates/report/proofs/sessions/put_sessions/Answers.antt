@@ -28,16 +28,6 @@ loop-j-init c =
 pub put_session-a-requires : goal.put_session-a-requires
 put_session-a-requires c = let p = c.requires in (p.0, omega arith, p.1)
 
-pub overflow_add-j : goal.overflow_add-j
-overflow_add-j c =
-    let a = c.args in
-    omega (
-      arith,
-      passed-sessions (recording a.r a.m a.marks.now a.lengths.now a.words.now) (nodes a.codes.now a.lefts.now a.rights.now a.sizes.now)
-          (node_of a.root) c.requires.0,
-      c.loop-j-test.true,
-    )
-
 pub loop-j-preserved : goal.loop-j-preserved
 loop-j-preserved c =
     let a = c.args in
