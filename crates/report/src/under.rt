@@ -59,9 +59,8 @@ pub(crate) fn places_under(
 {
     let mut marks = [0u8; rules::ROOM];
     mark_children(&mut marks, root);
-    let mut q = count(codes, lefts, rights, sizes);
-    while 0 < q {
-        q -= 1;
+    let n = count(codes, lefts, rights, sizes);
+    for q in (0..n).rev() {
         mark_below(codes, lefts, rights, sizes, q, &mut marks);
     }
     marks

@@ -10,7 +10,7 @@ use Rattle.report.proofs.under.places_under.Goals as goal
 pub loop-q-init : goal.loop-q-init
 loop-q-init c =
     let a = c.args in
-    let e = c.count-q.ensures ∙ sym (length-nodes a.codes.now a.lefts.now a.rights.now a.sizes.now) in (
+    let e = c.count-n.ensures ∙ sym (length-nodes a.codes.now a.lefts.now a.rights.now a.sizes.now) in (
       omega (arith, e),
       start-room (nodes a.codes.now a.lefts.now a.rights.now a.sizes.now) (node_of a.root) c.requires most_room _
           (few-places (nodes a.codes.now a.lefts.now a.rights.now a.sizes.now) (node_of a.root) c.requires) c.mark_children.ensures,

@@ -10,6 +10,3 @@ use Rattle.report.proofs.under.places_under.Given as goal
 abbrev pub invariant-loop-q : goal.invariant-loop-q
 invariant-loop-q l = (l.q ≤ length (nodes l.codes l.lefts l.rights l.sizes)) × (length l.marks ≡ most_room)
     × Passed (nodes l.codes l.lefts l.rights l.sizes) (Top (nodes l.codes l.lefts l.rights l.sizes) l.initial.marks) l.q l.marks
-
-abbrev pub decreases-loop-q : goal.decreases-loop-q
-decreases-loop-q l = l.q
