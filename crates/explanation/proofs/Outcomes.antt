@@ -1,22 +1,20 @@
 -- From what the bench's function, the report, the search and the reader answer to the output.
 -- Assumes nothing.
 use mathlib.Core.Path.{◌≡◌, refl, sym, ap, ◌∙◌, subst}
-use mathlib.Core.Logic.{inl, inr}
 use mathlib.Core.List.{List, [], ◌∷◌, ◌++◌, head-eq_of_cons-eq, nil≢cons}
 use Prim.Native.Nat.{ℕ, ◌+◌, ◌≤◌}
 use native.Mathlib.Omega.{arith}
 use lib.ListN.{length, take, drop}
 use lib.Dec.{lit<}
 use lib.Seq.{sets-eq}
-use denote.Enum.Declared.{tag_of}
-use types.Run.{OneOf}
 use Rattle.rules.specs.Answers.{Said}
-use Rattle.rules.specs.Refusals.{Decided}
+use Rattle.rules.specs.declared.refusal.Refusal.{Refusal}
+use Rattle.rules.specs.Refusals.{Decided, refusal_number}
 use Rattle.rules.proofs.Refusals.{decided-unique, decided-both, decided-not}
 use Rattle.session.specs.Recording.{Recording, recording}
 use Rattle.session.specs.Data.{data_rows}
 use Rattle.reading.specs.Reading.{Got, bad}
-use Rattle.std.proofs.Common.{Result, Err}
+use Rattle.std.proofs.Common.{Result, Ok, Err}
 use Rattle.file.specs.declared.Parts.{Parts as Numbers}
 use Rattle.file.specs.declared.ReadError.{ReadError}
 use Rattle.file.specs.declared.ReadError.TheVariants.{Broken as FileBroken, Room}
@@ -34,18 +32,14 @@ use Rattle.walk.specs.Input.{Input, search}
 use Rattle.walk.specs.Kept.{Table, table_nodes}
 use Rattle.writing.specs.Writing.{Wrote}
 use Rattle.counting.specs.declared.Counts.{Counts}
-use Rattle.search.specs.declared.SearchAnswer.{SearchAnswer}
-use Rattle.search.specs.declared.SearchAnswer.TheVariants.{Found, None, Full, Refused}
-use Rattle.search.specs.contracts.SearchAnswer.{the_type as search-type}
+use Rattle.search.specs.declared.SearchAnswer.TheVariants.{Found, None, Full}
 use Rattle.search.specs.Table.{Cols}
-use Rattle.search.specs.Search.{tally_of, walk_said, Searched}
+use Rattle.search.specs.Search.{Answer, tally_of, walk_said, Searched}
 use Rattle.checks.specs.Refusals.{search_rows}
 use Rattle.lines.specs.Bench.{bench_room, file_input, Says, LinesOf}
 use Rattle.lines.proofs.Searching.{Roomy, FoundAt, found_at, data-pass, in-room}
 use Rattle.lines.proofs.Answered.{lent, kept-nodes, part-is}
 use Rattle.lines.proofs.Handed.{Wide, Handed, broken-at, never-room, same, input}
-use Rattle.report.specs.declared.Reported.{Reported}
-use Rattle.report.specs.declared.Reported.TheVariants.{Text, Refused as NotReported}
 use Rattle.report.specs.Lines.{ReportText}
 use Rattle.report.specs.Report.{said_report, short_text, report_rows, Reports}
 use Rattle.report.proofs.Length.{report-fits, longest-is}
@@ -62,10 +56,10 @@ bench-stands {file} {line} {later} {old} {new} {r} {n} w v =
 
 -- ---- the report
 
-module _ (i : Recording) (k : List Node) (root : Node) {old new : List ℕ} {a : Reported} (w : Reports i k root old (said_report a) new) where
-  pub report-stands : {n : ℕ} → Decided (check_rows i k root) 0 → 15562 ≤ length old → a ≡ Text n → Stands (ReportOf i k root) old n new
+module _ (i : Recording) (k : List Node) (root : Node) {old new : List ℕ} {a : Result ℕ Refusal} (w : Reports i k root old (said_report a) new) where
+  pub report-stands : {n : ℕ} → Decided (check_rows i k root) 0 → 15562 ≤ length old → a ≡ Ok n → Stands (ReportOf i k root) old n new
   report-stands {n} d h e =
-      let v = subst (λ (b : Reported). Reports i k root old (said_report b) new) e w in
+      let v = subst (λ (b : Result ℕ Refusal). Reports i k root old (said_report b) new) e w in
       let (out, text, long, holds) = v.passed refl in
       let fits = report-fits i k root out d text in
       let same : n ≡ length out = head-eq_of_cons-eq long in
@@ -80,15 +74,15 @@ module _ (i : Recording) (k : List Node) (root : Node) {old new : List ℕ} {a :
       }
 
   -- what has passed the check is reported where there is room for the longest
-  pub not-refused : {n : ℕ} → Decided (check_rows i k root) 0 → 15562 ≤ length old → a ≡ NotReported n → ⊥
+  pub not-refused : {n : Refusal} → Decided (check_rows i k root) 0 → 15562 ≤ length old → a ≡ Err n → ⊥
   not-refused {n} d h e =
-      let v = subst (λ (b : Reported). Reports i k root old (said_report b) new) e w in
+      let v = subst (λ (b : Result ℕ Refusal). Reports i k root old (said_report b) new) e w in
       let fits : (short_text i k root old).given → ⊥ = λ (out, text, short). omega (arith, report-fits i k root out d text, longest-is) in
       let zero : Decided (report_rows i k root old) 0 =
       decided-both (check_rows i k root) (short_text i k root old ∷ []) 0 0 (lit< tt, (lit< tt, (lit< tt, (lit< tt, (lit< tt, (lit< tt, tt)))))) d
       (decided-not (short_text i k root old) fits) in
-      let (out, text, long, holds) = v.passed (decided-unique (report_rows i k root old) n 0 v.number zero) in
-      nil≢cons long
+      let (out, text, long, holds) = v.passed (decided-unique (report_rows i k root old) (refusal_number n) 0 v.number zero) in
+      nil≢cons {x = length out} long
 
 -- ---- the search's answers
 
@@ -96,16 +90,16 @@ values : {a b : Said} → a ≡ b → a.values ≡ b.values
 values e = ap (λ (x : Said). x.values) e
 
 module _ (j : Input) (t u : Cols) where
-  none-finds : {c : Counts} → Searched j t (None c) u → (root : Node) (k : Table) → Finds j root k → ⊥
+  none-finds : {c : Counts} → Searched j t (Ok (None c)) u → (root : Node) (k : Table) → Finds j root k → ⊥
   none-finds w root k (n, e) = let v = values (w.outcome.0 ∙ ap walk_said e) in let z : ◌≡◌ {A = ℕ} 0 1 = cc v in omega arith
 
-  full-finds : {s : ℕ} {c : Counts} → Searched j t (Full s c) u → (root : Node) (k : Table) → Finds j root k → ⊥
+  full-finds : {s : ℕ} {c : Counts} → Searched j t (Ok (Full s c)) u → (root : Node) (k : Table) → Finds j root k → ⊥
   full-finds w root k (n, e) = let v = values (w.outcome.0 ∙ ap walk_said e) in let z : ◌≡◌ {A = ℕ} 0 1 = cc v in omega arith
 
-module _ (file : List ℕ) (j : Input) (p : Parts) (g : Good p) (s : j ≡ file_input p bench_room) (t : Cols) (roomy : Roomy t) (u : Cols) (a : SearchAnswer)
+module _ (file : List ℕ) (j : Input) (p : Parts) (g : Good p) (s : j ≡ file_input p bench_room) (t : Cols) (roomy : Roomy t) (u : Cols) (a : Answer)
     (w : Searched j t a u) where
-  moved : (b : SearchAnswer) → a ≡ b → Searched (file_input p bench_room) t b u
-  moved b e = subst (λ (c : SearchAnswer). Searched (file_input p bench_room) t c u) e (subst (λ (i : Input). Searched i t a u) s w)
+  moved : (b : Answer) → a ≡ b → Searched (file_input p bench_room) t b u
+  moved b e = subst (λ (c : Answer). Searched (file_input p bench_room) t c u) e (subst (λ (i : Input). Searched i t a u) s w)
 
   -- what the bench says is said where nothing is found
   other : {old new : List ℕ} {n : ℕ} → ((root : Node) (k : Table) → Finds j root k → ⊥) → Stands (BenchSays file) old n new → Stands (ToldOf file j) old n new
@@ -116,22 +110,21 @@ module _ (file : List ℕ) (j : Input) (p : Parts) (g : Good p) (s : j ≡ file_
   }
 
   -- none of the other answers is a formula found; a good file's search with the bench's room is not refused
-  pub unfound-stands : {old new : List ℕ} {n : ℕ} → OneOf (1 ∷ 2 ∷ 3 ∷ []) (tag_of search-type a) → Stands (BenchSays file) old n new → Stands (ToldOf file j) old n new
-  unfound-stands {old} {new} {n} k b = go a refl k
-    where
-      go : (x : SearchAnswer) → a ≡ x → OneOf (1 ∷ 2 ∷ 3 ∷ []) (tag_of search-type x) → Stands (ToldOf file j) old n new
-      go (Found root c) e (inl q) = absurd (omega (arith, q))
-      go (Found root c) e (inr (inl q)) = absurd (omega (arith, q))
-      go (Found root c) e (inr (inr q)) = absurd (omega (arith, q))
-      go (None c) e q = other (none-finds j t u (subst (λ (x : SearchAnswer). Searched j t x u) e w)) b
-      go (Full z c) e q = other (full-finds j t u (subst (λ (x : SearchAnswer). Searched j t x u) e w)) b
-      go (Refused z) e q =
-          let v = moved (Refused z) e in
-          let d = decided-unique (search_rows (file_input p bench_room) t) z 0 v.decided (in-room p g bench_room t roomy (omega arith) (omega arith)) in
-          absurd (omega (arith, v.outcome.0))
+  pub none-stands : {c : Counts} {old new : List ℕ} {n : ℕ} → a ≡ Ok (None c) → Stands (BenchSays file) old n new → Stands (ToldOf file j) old n new
+  none-stands e b = other (none-finds j t u (subst (λ (x : Answer). Searched j t x u) e w)) b
 
-  pub this : {root : declared.Node} {c : Counts} → a ≡ Found root c → FoundAt p g bench_room t roomy u root c
-  this {root} {c} e = found_at p g bench_room t roomy u root c (moved (Found root c) e)
+  pub full-stands : {s : ℕ} {c : Counts} {old new : List ℕ} {n : ℕ} → a ≡ Ok (Full s c) → Stands (BenchSays file) old n new → Stands (ToldOf file j) old n new
+  full-stands e b = other (full-finds j t u (subst (λ (x : Answer). Searched j t x u) e w)) b
+
+  pub never-refused : {refusal : Refusal} → a ≡ Err refusal → ⊥
+  never-refused {refusal} e =
+      let v = moved (Err refusal) e in
+      let d = decided-unique (search_rows (file_input p bench_room) t) (refusal_number refusal) 0 v.decided
+      (in-room p g bench_room t roomy (omega arith) (omega arith)) in
+      omega (arith, v.outcome.0)
+
+  pub this : {root : declared.Node} {c : Counts} → a ≡ Ok (Found root c) → FoundAt p g bench_room t roomy u root c
+  this {root} {c} e = found_at p g bench_room t roomy u root c (moved (Ok (Found root c)) e)
 
 module _ (file : List ℕ) (j : Input) (p : Parts) (g : Good p) (s : j ≡ file_input p bench_room) {t : Cols} {roomy : Roomy t} {u : Cols} {root : declared.Node} {c : Counts}
     (this : FoundAt p g bench_room t roomy u root c) where
@@ -182,11 +175,11 @@ module _ (file : List ℕ) (bytes : Bytes file) (l : Lent) (wide : Wide l) (a : 
 
   -- any other answer than a good file's parts is that of a broken file: there is always room
   pub broken-explained : {why : ReadError} → a ≡ Err why → Stands (BenchSays file) old x new → ExplanationOf file old x new
-  broken-explained {FileBroken o} q v =
+  broken-explained {why = FileBroken o} q v =
       let is : whole_file file ≡ bad o = broken-at file bytes l wide a marks lengths words unary binary e q in
       record {
         output = v.output;
         explains = subst (λ (g : Got Parts). Explains g v.output) (sym is) (subst (λ (g : Got Parts). Says g bench_room v.output) is v.said);
         wrote = v.wrote;
       }
-  broken-explained {Room} q v = absurd (never-room file bytes l wide a marks lengths words unary binary e q)
+  broken-explained {why = Room} q v = absurd (never-room file bytes l wide a marks lengths words unary binary e q)

@@ -1,6 +1,5 @@
 -- `of_file` meets its contract: the reader hands out a good file's parts, and a broken one has the bench's line.
 use mathlib.Core.Path.{◌≡◌}
-use Prim.Native.Nat.{ℕ}
 use native.Mathlib.Omega.{arith}
 use Rattle.std.proofs.Common.{Ok}
 use Rattle.file.specs.declared.Parts.{Parts as Numbers}

@@ -4,15 +4,15 @@ use Rattle.session.specs.Recording.{recording}
 use Rattle.explanation.proofs.Outcomes.{report-stands, not-refused}
 use Rattle.explanation.proofs.reported.Goals as goal
 
-pub returns-in-Text : goal.returns-in-Text
-returns-in-Text c =
+pub returns-in-Ok : goal.returns-in-Ok
+returns-in-Ok c =
     let a = c.args in report-stands
     (recording a.r a.m a.marks.now a.lengths.now a.words.now) (nodes a.codes.now a.lefts.now a.rights.now a.sizes.now) (node_of a.root)
     c.report-said.ensures c.requires.0 c.requires.1
-    c.in-Text.is
+    c.in-Ok.is
 
-pub returns-in-Refused : goal.returns-in-Refused
-returns-in-Refused c =
+pub returns-in-Err : goal.returns-in-Err
+returns-in-Err c =
     let a = c.args in absurd (not-refused
     (recording a.r a.m a.marks.now a.lengths.now a.words.now) (nodes a.codes.now a.lefts.now a.rights.now a.sizes.now) (node_of a.root)
-    c.report-said.ensures c.requires.0 c.requires.1 c.in-Refused.is)
+    c.report-said.ensures c.requires.0 c.requires.1 c.in-Err.is)
