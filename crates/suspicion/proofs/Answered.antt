@@ -1,7 +1,7 @@
 -- From the answers of the readers and the check to the lines that are written.
 -- Assumes nothing.
 use mathlib.Core.Path.{◌≡◌, refl, sym, ap, ◌∙◌, subst}
-use mathlib.Core.List.{List, [], ◌∷◌}
+use mathlib.Core.List.{List}
 use Prim.Native.Nat.{ℕ, ◌*◌, ◌-◌}
 use lib.ListN.{length, take}
 use Rattle.reading.specs.Reading.{Got, got, section}

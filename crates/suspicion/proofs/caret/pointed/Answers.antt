@@ -1,10 +1,6 @@
 -- `pointed` meets its contract: what was typed, the line with the caret, and the refusal, one after the other.
-use mathlib.Core.Path.{sym}
 use mathlib.Core.List.{◌++◌}
-use Prim.Native.Nat.{ℕ}
-use native.Mathlib.Omega.{arith}
-use lib.ListN.{replicate, length-replicate}
-use lib.Seq.{length-take-le}
+use lib.ListN.{replicate}
 use Rattle.writing.proofs.Writing.{wrote-both}
 use Rattle.line.specs.Line.{refused_at_line}
 use Rattle.writing.specs.Writing.{newline}
