@@ -75,8 +75,7 @@ fn in_slices(
     let mut sizes = [9u8; 200];
     let mut matrices = [9u64; 400];
     let mut state = fresh();
-    let mut turn: u64 = 0;
-    while turn < 100000 {
+    for turn in 1u64..100001 {
         let answer = resume(
             r,
             m,
@@ -96,7 +95,6 @@ fn in_slices(
             &mut sizes,
             &mut matrices,
         );
-        turn += 1;
         let Ok(after) = answer else {
             return say_refused(to);
         };
