@@ -10,19 +10,24 @@ use native.Mathlib.Omega.{arith}
 use lib.ListN.{length}
 use Rattle.rules.specs.Refusals.{Decided}
 use Rattle.rules.proofs.Refusals.{decided-unique}
+use Rattle.walk.specs.Walk.{found, none, full}
 use Rattle.walk.specs.Input.{Input}
+use Rattle.walk.specs.Cut.{Cut, more, over}
+use Rattle.walk.specs.Kept.{begun, go_on}
 use Rattle.checks.specs.Promises.{RoomThere}
 use Rattle.table.specs.Slices.{Cols}
 use Rattle.std.specs.Prelude.{Ok}
 use Rattle.state.specs.declared.State.{State}
+use Rattle.state.specs.Ends.{end_number, Ours}
+use Rattle.turns.specs.Standing.{state_at}
 use Rattle.turns.specs.Turns.{StateIn}
 use Rattle.slices.specs.Slices.{fresh_state, StandsAt}
 use Rattle.slices.specs.Resume.{Called}
 use Rattle.slices.proofs.Slicing.{fresh-stands, call-stands, stands-unique, grown-by-budget, end-repeats}
 use Rattle.out.specs.Out.{written}
-use Rattle.state_words.specs.Words.{state_words, state_read}
+use Rattle.state_words.specs.Words.{state_words, state_read, end_read}
 use Rattle.state_words.specs.Written.{state_short, state_over, StateDone}
-use Rattle.state_words.proofs.Back.{state-comes-back}
+use Rattle.state_words.proofs.Back.{comes_back, state-comes-back}
 use Rattle.out_resume.specs.Resume.{told_words, out_resume_rows, ResumeDone}
 use Rattle.out_resume.specs.Promises.{WordsStand, FreshWordsStand, WordsMeant, ResumeMeans, ResumeUnique, EndWordsRepeat, ResumeSafe, NumberUnique}
 
@@ -42,7 +47,7 @@ fresh-long old new d = long-enough old (λ g. go g d.number)
 pub fresh-words-stand : FreshWordsStand
 fresh-words-stand i ok t old new d =
     let p = d.passed refl in
-    let e : state_read new ≡ fresh_state = ap state_read p.1 ∙ state-comes-back fresh_state old (fresh-long old new d) p.0 in
+    let e : state_read new ≡ fresh_state = ap state_read p.1 ∙ state-comes-back fresh_state old (fresh-long old new d) tt p.0 in
     subst (λ (s : State). StandsAt i t 0 s t) (sym e) (fresh-stands i ok t)
 
 -- ---- a call that answers
@@ -66,13 +71,18 @@ module _ (i : Input) (t : Cols) (budget : ℕ) (words old : List ℕ) (t' : Cols
   called : Called i t budget (state_read words) (Ok after) t'
   called = (d.passed refl).1
 
-  same-state : state_read words' ≡ after
-  same-state = let p = d.passed refl in ap state_read p.3 ∙ state-comes-back after words words_long p.2
+  read_back : state_read words' ≡ record { size = after.size; at = after.at; counts = after.counts; end = end_read (end_number after.end); root = after.root }
+  read_back = let p = d.passed refl in ap state_read p.3 ∙ comes_back after words words_long p.2
+
+  passes_on : StateIn i (record { size = after.size; at = after.at; counts = after.counts; end = end_read (end_number after.end); root = after.root })
+  passes_on =
+      let p = called.outcome.passes in
+      record { kept_in = p.kept_in; kept-tried = p.kept-tried; size_in = p.size_in; left_in = p.left_in; right-in = p.right-in; operator-in = p.operator-in }
 
   safe : StateIn i (state_read words') × ((state_read words').counts.tried ≤ (state_read words).counts.tried + budget)
   safe = (
-    subst (λ (s : State). StateIn i s) (sym same-state) called.outcome.passes,
-    subst (λ (s : State). s.counts.tried ≤ (state_read words).counts.tried + budget) (sym same-state) called.outcome.spends,
+    subst (λ (s : State). StateIn i s) (sym read_back) passes_on,
+    subst (λ (s : State). s.counts.tried ≤ (state_read words).counts.tried + budget) (sym read_back) called.outcome.spends,
   )
 
   -- where the words stand at a count
@@ -80,6 +90,18 @@ module _ (i : Input) (t : Cols) (budget : ℕ) (words old : List ℕ) (t' : Cols
   module _ (t₀ : Cols) (n : ℕ) (r : RoomThere i t₀) (w : WordsStand i t₀ n words t) where
     after-stands : StandsAt i t₀ (n + budget) after t'
     after-stands = call-stands i t₀ t budget n (state_read words) after t' r w called
+
+    end-ours : (c : Cut (List ℕ)) → Ours (state_at i c).end
+    end-ours (more s j k m) = tt
+    end-ours (over (found root) k m) = tt
+    end-ours (over none k m) = tt
+    end-ours (over (full s) k m) = tt
+
+    same-state : state_read words' ≡ after
+    same-state =
+        let p = d.passed refl in
+        let o : Ours after.end = subst (λ (s : State). Ours s.end) (sym after-stands.is) (end-ours (go_on i (n + budget) (begun i))) in
+        ap state_read p.3 ∙ state-comes-back after words words_long o p.2
 
     words-stand : WordsStand i t₀ (n + budget) words' t'
     words-stand = subst (λ (s : State). StandsAt i t₀ (n + budget) s t') (sym same-state) after-stands
@@ -103,7 +125,7 @@ resume-means i t₀ t budget n words old t' words' new r w d = means i t budget 
 pub end-words-repeat : EndWordsRepeat
 end-words-repeat i t₀ t budget n words old t' words' new r w h d =
     let e = end-repeats i t₀ t budget n (state_read words) (after i t budget words old t' words' new d) t' r w h (called i t budget words old t' words' new d) in
-    (same-state i t budget words old t' words' new d ∙ e.0, e.1)
+    (same-state i t budget words old t' words' new d t₀ n r w ∙ e.0, e.1)
 
 -- ---- two results
 

@@ -21,6 +21,7 @@ found_words root =
 -- ".. with case 4 MORE": 2 is NONE, and 3 is FULL with its size
 abbrev pub words_at : End → State → List OutWord
 words_at End.More s = word_from 0 4 ∷ []
+words_at (End.Other n) s = word_from 0 4 ∷ []
 words_at End.Found s = found_words s.root
 words_at End.None s = word_from 0 2 ∷ []
 words_at End.Full s = word_from 0 3 ∷ word_from 1 s.size ∷ []

@@ -130,5 +130,6 @@ fn tell(after: State, out: &mut [u64])
             out[1] = after.size as u64;
         }
         End::More => out[0] = 4,
+        End::Other(_) => out[0] = 4,
     }
 }

@@ -14,6 +14,7 @@ answer_at End.Found st = Found st.root st.counts
 answer_at End.Full st = Full st.size st.counts
 answer_at End.None st = None st.counts
 answer_at End.More st = None st.counts
+answer_at (End.Other n) st = None st.counts
 
 abbrev pub end_of : State → SearchAnswer
 end_of st = answer_at st.end st

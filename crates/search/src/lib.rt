@@ -36,6 +36,7 @@ fn end_of(state: State) -> SearchAnswer
             counts,
         },
         End::None | End::More => SearchAnswer::None(counts),
+        End::Other(_) => SearchAnswer::None(counts),
     }
 }
 

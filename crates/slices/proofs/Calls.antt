@@ -101,6 +101,7 @@ more_or_not End.More = inl refl
 more_or_not End.Found = inr (λ e. cc)
 more_or_not End.None = inr (λ e. cc)
 more_or_not End.Full = inr (λ e. cc)
+more_or_not (End.Other n) = inr (λ e. cc)
 
 module _ (i : Input) (t : Cols) (ok : Passes i) (budget : ℕ) (state : State) where
   -- where it has ended it stays

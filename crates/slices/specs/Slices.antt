@@ -37,6 +37,7 @@ said_at End.More st = more_said st.counts
 said_at End.Found st = found_said (node_of st.root) st.counts
 said_at End.None st = none_said st.counts
 said_at End.Full st = full_said st.size st.counts
+said_at (End.Other n) st = more_said st.counts
 
 abbrev pub state_said : State → Said
 state_said st = said_at st.end st

@@ -12,12 +12,14 @@ not_more End.More h = absurd (h refl)
 not_more End.Found h = refl
 not_more End.None h = refl
 not_more End.Full h = refl
+not_more (End.Other n) h = refl
 
 pub dec_more : (e : End) → Dec (e ≡ End.More)
 dec_more End.More = yes refl
 dec_more End.Found = no (λ h. false≢true (ap more_to_try h))
 dec_more End.None = no (λ h. false≢true (ap more_to_try h))
 dec_more End.Full = no (λ h. false≢true (ap more_to_try h))
+dec_more (End.Other n) = no (λ h. false≢true (ap more_to_try h))
 
 -- after an end that is none there is no more to try
 pub not_on : {e : End} → more_to_try e ≡ false → e ≡ End.More → ⊥

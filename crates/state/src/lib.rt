@@ -8,13 +8,14 @@ use counting::Counts;
 use formula::kinds::Node;
 use split::Cursor;
 
-// Whether the walk has more to try, or how it ended.
+// Whether the walk has more to try, or how it ended. A state that a caller makes up may have any other number there: it stands for an ended walk.
 #[derive(Clone, Copy, Debug, PartialEq, Eq)]
 pub enum End {
     More,
     Found,
     None,
     Full,
+    Other(u64),
 }
 
 impl From<End> for u64 {
@@ -29,6 +30,7 @@ impl From<End> for u64 {
             End::Found => 1,
             End::None => 2,
             End::Full => 3,
+            End::Other(number) => number,
         }
     }
 }

@@ -1,6 +1,6 @@
 -- A state comes back from its words: each word that is written in order is read at its place, and what is read of it is what was written.
 -- Assumes nothing.
-use mathlib.Core.Path.{◌≡◌, refl, sym, ap, ◌∙◌}
+use mathlib.Core.Path.{◌≡◌, refl, ap, ◌∙◌}
 use mathlib.Core.Bool.{Bool, true, false}
 use mathlib.Core.List.{List, [], ◌∷◌}
 use Prim.Native.Nat.{ℕ, zero, suc, ◌+◌, ◌%◌, ◌≤◌, ◌<◌}
@@ -10,7 +10,7 @@ use lib.ListN.{length, get_or, set, length-set}
 use lib.Seq.{get_or-set_same, get_or-set_other}
 use Rattle.state.specs.declared.State.{State}
 use Rattle.state.specs.declared.End.{End}
-use Rattle.state.specs.Ends.{end_number}
+use Rattle.state.specs.Ends.{end_number, Ours}
 use Rattle.out.specs.Out.{written, in_order}
 use Rattle.state_words.specs.Words.{state_words, mark, marked, end_read, words_of_state, state_read, Narrow}
 use Rattle.state_words.specs.Written.{state_over}
@@ -38,11 +38,12 @@ marked-back : (b : Bool) → marked (mark b) ≡ b
 marked-back true = refl
 marked-back false = refl
 
-end_back : (e : End) → end_read (end_number e) ≡ e
-end_back End.More = refl
-end_back End.Found = refl
-end_back End.None = refl
-end_back End.Full = refl
+end_back : (e : End) → Ours e → end_read (end_number e) ≡ e
+end_back End.More o = refl
+end_back End.Found o = refl
+end_back End.None o = refl
+end_back End.Full o = refl
+end_back (End.Other n) o = absurd o
 
 low-8 : (n : ℕ) → n < 256 → n % 256 ≡ n
 low-8 n h = omega arith
@@ -54,8 +55,9 @@ module _ (s : State) (words : List ℕ) (h : state_words ≤ length words) where
   at : (j : ℕ) → j < 16 → get_or (state_over s words) (0 + j) 0 ≡ get_or (words_of_state s) j 0
   at j l = stands-there (words_of_state s) 0 words j h l
 
-pub state-comes-back : StateComesBack
-state-comes-back s words h n =
+pub comes_back : (s : State) (words : List ℕ) → state_words ≤ length words → Narrow s.root → state_read (state_over s words)
+    ≡ record { size = s.size; at = s.at; counts = s.counts; end = end_read (end_number s.end); root = s.root }
+comes_back s words h n =
     rw (
       at s words h 0 (lit< tt),
       at s words h 1 (lit< tt),
@@ -72,9 +74,11 @@ state-comes-back s words h n =
       at s words h 12 (lit< tt),
       at s words h 13 (lit< tt),
       marked-back s.at.second,
-      end_back s.end,
       low-8 s.root.code n.code,
       low-16 s.root.left.0 n.left,
       low-16 s.root.right.0 n.right,
       low-8 s.root.size n.size,
     )
+
+pub state-comes-back : StateComesBack
+state-comes-back s words h o n = rw (comes_back s words h n, end_back s.end o)

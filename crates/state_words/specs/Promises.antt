@@ -2,9 +2,10 @@
 -- Assumes nothing.
 use Rattle.std.specs.Prelude.{◌≡◌, List, ℕ, ◌≤◌, length}
 use Rattle.state.specs.declared.State.{State}
+use Rattle.state.specs.Ends.{Ours}
 use Rattle.state_words.specs.Words.{state_words, state_read, Narrow}
 use Rattle.state_words.specs.Written.{state_over}
 
--- a state comes back from its words as it was
+-- a state whose end a walk comes to comes back from its words as it was
 abbrev pub StateComesBack : Type 0
-StateComesBack = (s : State) (words : List ℕ) → state_words ≤ length words → Narrow s.root → state_read (state_over s words) ≡ s
+StateComesBack = (s : State) (words : List ℕ) → state_words ≤ length words → Ours s.end → Narrow s.root → state_read (state_over s words) ≡ s

@@ -15,3 +15,6 @@ returns-in-Full c = told_at _ _ End.Full c.in-Full.is
 
 pub returns-in-More : goal.returns-in-More
 returns-in-More c = told_at _ _ End.More c.in-More.is
+
+pub returns-in-Other : goal.returns-in-Other
+returns-in-Other c = told_at _ _ (End.Other _) c.in-Other.is
