@@ -105,7 +105,7 @@ pub read_prefix-returns-in_err-operand-in-Operator : goal.read_prefix-returns-in
 read_prefix-returns-in_err-operand-in-Operator t c =
     let p = err_from_is_err_and c.from_residual-in_err-operand-in-Operator.result c.from_residual-in_err-operand-in-Operator.ensures.1 in
     rw (p.1, p.2) (prefix-operator-refused c.args.names.now c.args.text.now c.args.place c.args.scratch.now c.args.scratch.now c.args.at
-        (c.in_ok-next.ensures.0 c.requires.within) c.in-Operator.is c.in_err-operand-in-Operator.ensures)
+    (c.in_ok-next.ensures.0 c.requires.within) c.in-Operator.is c.in_err-operand-in-Operator.ensures)
 
 pub read_prefix-put_one-requires : goal.read_prefix-put_one-requires
 read_prefix-put_one-requires t c =
@@ -133,7 +133,7 @@ read_prefix-put-requires t c =
 pub read_prefix-returns-in_ok-operand-in-Operator : goal.read_prefix-returns-in_ok-operand-in-Operator
 read_prefix-returns-in_ok-operand-in-Operator t c =
     prefix-operator c.args.names.now c.args.text.now c.args.place c.args.scratch.now _ c.args.at (c.in_ok-next.ensures.0 c.requires.within) _ c.in-Operator.is
-        c.in_ok-operand-in-Operator.ensures c.put_one.ensures
+    c.in_ok-operand-in-Operator.ensures c.put_one.ensures
 
 pub read_prefix-returns-in-Open : goal.read_prefix-returns-in-Open
 read_prefix-returns-in-Open t c =

@@ -11,7 +11,7 @@ pub returns-in_err-n : goal.returns-in_err-n
 returns-in_err-n c =
     let p = err_from_is_err_and c.from_residual.result c.from_residual.ensures.1 in
     rw (p.1, p.2) (answer-refused c.args.names.now c.args.text.now (columns c.args.codes.now c.args.lefts.now c.args.rights.now c.args.sizes.now)
-        (replicate 4096 0) c.judge.new.scratch c.in_err-n.field-0.0
+    (replicate 4096 0) c.judge.new.scratch c.in_err-n.field-0.0
     c.in_err-n.ensures (omega (arith, length-replicate {A = ℕ} 4096 0)))
 
 pub returns-then-room-n : goal.returns-then-room-n
