@@ -108,7 +108,7 @@ fn searched(
             root,
             text,
         ),
-        // One arm for these three was tried; its proof didn't close, since where arms join nothing is known of which variant it is.
+        // Three arms that do the same: with one, by `_`, the proof didn't close, since it says nothing of which variant it is.
         Ok(SearchAnswer::None(_)) => bench(file, text),
         Ok(SearchAnswer::Full { .. }) => bench(file, text),
         Err(_) => bench(file, text),
