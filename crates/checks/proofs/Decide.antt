@@ -1,6 +1,6 @@
 -- The refusals in their order: the session's number for its data, with the search's own rows among them.
 -- Assumes nothing.
-use mathlib.Core.Path.{◌≡◌, refl, sym, subst}
+use mathlib.Core.Path.{◌≡◌, refl, sym, ap, subst}
 use mathlib.Core.Logic.{◌⊎◌, inl, inr, ⊎_elim}
 use mathlib.Core.Bool.{true, false}
 use mathlib.Core.List.{List, [], ◌∷◌, ◌++◌}
@@ -9,8 +9,11 @@ use native.Mathlib.Omega.{arith}
 use native.Mathlib.Decide.{dec_le}
 use lib.ListN.{length}
 use Rattle.rules.specs.Limits.{most_sessions, most_propositions}
-use Rattle.rules.specs.Refusals.{Row, Decided}
-use Rattle.rules.proofs.Refusals.{decided-early}
+use Rattle.std.specs.Prelude.{Result, Ok, Err}
+use Rattle.rules.specs.declared.refusal.Refusal.{Refusal}
+use Rattle.rules.specs.declared.refusal.Refusal.TheVariants.{Numbers}
+use Rattle.rules.specs.Refusals.{Row, Decided, number_of}
+use Rattle.rules.proofs.Refusals.{decided-early, refusal-one}
 use Rattle.session.specs.Data.{outside_numbers, too_short, too_long, bit_above, mark_wrong, data_rows}
 use Rattle.session.specs.Recording.{Recording}
 use Rattle.walk.specs.Input.{Input}
@@ -93,6 +96,27 @@ module _ (i : Input) where
   codes-fine u b = ⊎_elim (λ w. let g = u.in_group w.0 w.1 in w.2 g.0 g.1)
       (λ x. ⊎_elim (λ w. u.once w.0 w.1 w.2 w.3 w.4)
       (λ y. ⊎_elim (λ w. let g = b.in_group w.0 w.1 in w.2 g.0 g.1) (λ w. b.once w.0 w.1 w.2 w.3 w.4) y) x)
+
+-- ---- the first row of the data, by the number that they decide
+
+module _ (rec : Recording) where
+  pub one-outside : Decided (data_rows rec) 1 → (outside_numbers rec.sessions rec.propositions).given
+  unfolding Decided
+  one-outside (inl d) = d.0
+  one-outside (inr (f, inl d)) = absurd (omega (arith, d.1))
+  one-outside (inr (f, inr (g, inl d))) = absurd (omega (arith, d.1))
+  one-outside (inr (f, inr (g, inr (h, inl d)))) = absurd (omega (arith, d.1))
+  one-outside (inr (f, inr (g, inr (h, inr (l, inl d))))) = absurd (omega (arith, d.1))
+  one-outside (inr (f, inr (g, inr (h, inr (l, inr (o, e)))))) = absurd (omega arith)
+
+  pub inside-by : {k : ℕ} → Decided (data_rows rec) k → (k ≡ 1 → ⊥) → (outside_numbers rec.sessions rec.propositions).given → ⊥
+  unfolding Decided
+  inside-by d n g = ⊎_elim (λ t. n t.1) (λ t. t.0 g) d
+
+-- the number 1 is that of one refusal alone
+pub numbers-alone : (answer : Result (Unit {0}) Refusal) → number_of answer ≡ 1 → answer ≡ Err Numbers
+numbers-alone (Ok a) e = absurd (omega arith)
+numbers-alone (Err refusal) e = ap Err (refusal-one refusal Numbers e)
 
 -- ---- the search's rows
 

@@ -55,8 +55,9 @@ pub fn check(
         (input_of r m bound room constants marks.now lengths.now words.now unary.now binary.now)
         (cols codes.now lefts.now rights.now sizes.now matrices.now)) (number_of result) }
 {
-    if session::data::outside(r, m) {
-        return Err(Refusal::Numbers);
+    let data = session::data::test(r, m, marks, lengths, words);
+    if data == Err(Refusal::Numbers) {
+        return data;
     }
     if !settings::settings_good(bound, room, constants) {
         return Err(Refusal::Settings);
@@ -64,7 +65,7 @@ pub fn check(
     if !has_room(r, room, codes, lefts, rights, sizes, matrices) {
         return Err(Refusal::Room);
     }
-    session::data::test(r, m, marks, lengths, words)?;
+    data?;
     if !settings::codes_good(unary, true) {
         return Err(Refusal::Code);
     }
