@@ -12,6 +12,10 @@ pub(crate) fn compare_at(r: usize, place: Place, x: &[u64], rows: &[u64]) -> Com
     requires { (r ≤ most_sessions) × (r ≤ length x.now) × (r ≤ length rows.now) }
     ensures { ComparedAt r place.0 x.now rows.now result }
 {
+    // Most matrices differ in the first row already: looked at by itself, it keeps a search out of the loop.
+    if 0 < r && rows[0] != x[0] {
+        return Compared::Differs(Session(0));
+    }
     match (0..r).position(|j| rows[j] != x[j]) {
         Some(j) => Compared::Differs(Session(j as u8)),
         None => Compared::Equal(place),
@@ -23,12 +27,14 @@ pub(crate) fn first_equal(r: usize, matrices: &[u64], rows: &[u64], kept: usize)
     requires { KnownAsk r matrices.now rows.now kept }
     ensures { KnownAnswer r matrices.now rows.now kept result }
 {
+    // The place of the matrix runs on: as `p * r` it was multiplied out for each kept formula, in the innermost loop of a search.
+    let mut from: usize = 0;
     for p in 0..kept {
-        let from = p * r;
         let compared = compare_at(r, Place(p as u16), &matrices[from..], rows);
         if let Compared::Equal(place) = compared {
             return Some(place);
         }
+        from += r;
     }
     None
 }
