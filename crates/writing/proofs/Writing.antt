@@ -2,12 +2,13 @@
 -- Assumes nothing.
 use mathlib.Core.Path.{◌≡◌, refl, sym, ap, ◌∙◌}
 use mathlib.Core.List.{List, [], ◌∷◌, ◌++◌}
-use Prim.Native.Nat.{ℕ, suc, ◌+◌, ◌-◌, ◌≤◌, min}
+use Prim.Native.Nat.{ℕ, suc, ◌+◌, ◌-◌, ◌≤◌, ◌<◌}
 use native.Mathlib.Decide.{dec_le}
 use native.Mathlib.Nat.{lt_of_not-le}
 use native.Mathlib.Omega.{arith}
-use lib.ListN.{length, set, take, drop, length-append, take-append-drop, length-set}
-use lib.Seq.{paste, sets, sets-eq, set_out, length-sets, take_all, length-take-le}
+use native.Mathlib.Numerals.{add-one}
+use lib.ListN.{length, get_or, set, take, drop, length-append, take-append-drop, length-set}
+use lib.Seq.{sets, set_out, length-sets, take-suc, take_all, length-take-le}
 use Rattle.writing.specs.Writing.{Wrote}
 
 pub sets-both : (l : List ℕ) (k : ℕ) (u v : List ℕ) → sets l k (u ++ v) ≡ sets (sets l k u) (k + length u) v
@@ -51,56 +52,54 @@ wrote-whole {l} {m} {at} {a} u p h = let s = p.next in omega arith
 pub wrote-unique : {l m n : List ℕ} {at a b : ℕ} (u : List ℕ) → Wrote l at u m a → Wrote l at u n b → (a ≡ b) × (m ≡ n)
 wrote-unique u p q = (p.next ∙ sym q.next, p.holds ∙ sym q.holds)
 
--- ---- as many as fit
+-- ---- byte by byte: i bytes are written, and p is the next place
 
--- the first n are written, and p is the next place
-record Written (l : List ℕ) (at : ℕ) (u m : List ℕ) (n p : ℕ) : Type 0 where
-  pub upto : n ≤ length u
-  pub room : n ≤ length l - at
-  pub place : p ≡ at + n
-  pub is : m ≡ sets l at (take n u)
+pub record Written (l : List ℕ) (at : ℕ) (u m : List ℕ) (i p : ℕ) : Type 0 where
+  pub upto : i ≤ length u
+  pub room : i ≤ length l - at
+  pub place : p ≡ at + i
+  pub is : m ≡ sets l at (take i u)
 
 module _ (l : List ℕ) (at : ℕ) (u : List ℕ) where
-  front : (n : ℕ) → at + n ≤ length l → n ≤ length u → Written l at u (paste l at u n) n (at + n)
-  front n h k = record {
-    upto = k;
-    room = omega arith;
-    place = refl;
-    is = sym (sets-eq (take n u) l at (omega (arith, length-take-le n u k)) ∙ ap (λ (x : ℕ). (take at l ++ take n u) ++ drop (at + x) l) (length-take-le n u k));
-  }
+  pub none_written : Written l at u l 0 at
+  none_written = record { upto = omega arith; room = omega arith; place = omega arith; is = refl }
 
-  module _ {m : List ℕ} {n p : ℕ} (w : Written l at u m n p) where
-    all-written : length u ≤ n → Wrote l at u m p
+  module _ {m : List ℕ} {i p : ℕ} (w : Written l at u m i p) where
+    pub same-room : length m ≡ length l
+    same-room = ap length w.is ∙ length-sets l at (take i u)
+
+    pub one_written : i < length u → p < length m → Written l at u (set m p (get_or u i 0)) (i + 1) (p + 1)
+    one_written h g =
+        let k = same-room in
+        let q = w.place in
+        let x = get_or u i 0 in
+        let e : take (i + 1) u ≡ take i u ++ (x ∷ []) = ap (λ (n : ℕ). take n u) (add-one i) ∙ take-suc u i 0 h in
+        let j : p ≡ at + length (take i u) = omega (arith, length-take-le i u w.upto) in
+        record {
+          upto = omega arith;
+          room = omega arith;
+          place = omega arith;
+          is = ap (λ (r : List ℕ). set r p x) w.is ∙ ap (λ (n : ℕ). set (sets l at (take i u)) n x) j ∙ sym (sets-both l at (take i u) (x ∷ [])) ∙ ap (sets l at) (sym e);
+        }
+
+    pub all-written : length u ≤ i → Wrote l at u m p
     all-written h =
         let q = w.place in
         let r = w.upto in
         let s = w.room in
-        record { next = omega arith; holds = w.is ∙ ap (sets l at) (take_all n u h) }
+        record { next = omega arith; holds = w.is ∙ ap (sets l at) (take_all i u h) }
 
     -- the text is full: the rest is lost
-    cut_off : length m ≤ p → Wrote l at u m p
+    pub cut_off : length m ≤ p → Wrote l at u m p
     cut_off h =
-        let k = ap length w.is ∙ length-sets l at (take n u) in
+        let k = same-room in
         let q = w.place in
         let r = w.upto in
         let s = w.room in
-        let rest = drop n u in
-        let none : sets (sets l at (take n u)) (at + length (take n u)) rest ≡ sets l at (take n u) =
-        sets-past (sets l at (take n u)) (at + length (take n u)) rest (omega (arith, length-sets l at (take n u), length-take-le n u w.upto)) in
+        let rest = drop i u in
+        let none : sets (sets l at (take i u)) (at + length (take i u)) rest ≡ sets l at (take i u) =
+        sets-past (sets l at (take i u)) (at + length (take i u)) rest (omega (arith, length-sets l at (take i u), length-take-le i u w.upto)) in
         record {
           next = omega arith;
-          holds = w.is ∙ sym none ∙ sym (sets-both l at (take n u) rest) ∙ ap (sets l at) (take-append-drop n u);
+          holds = w.is ∙ sym none ∙ sym (sets-both l at (take i u) rest) ∙ ap (sets l at) (take-append-drop i u);
         }
-
-  -- all of them, or as many as there is room for
-  pub wrote-front : (n : ℕ) → at ≤ length l → n ≡ min (length u) (length l - at) → Wrote l at u (paste l at u n) (at + n)
-  wrote-front n h e =
-      let w = front n (omega (arith, e)) (omega (arith, e)) in
-      elim (dec_le (length u) n) [
-        | yes g ↦ all-written w g
-        | no g ↦ cut_off w (omega (arith, e, lt_of_not-le g, ap length w.is, length-sets l at (take n u)))
-      ]
-
-  -- past the end none
-  pub wrote-none : length l ≤ at → Wrote l at u l at
-  wrote-none h = record { next = omega arith; holds = sym (sets-past l at u h) }

@@ -9,12 +9,16 @@ ghost use Rattle.writing.specs.Writing.{Wrote, digit, digits, decimal};
 pub fn put(text: &mut [u8], at: usize, bytes: &[u8]) -> usize
     ensures { Wrote text.old at bytes.now text.new result }
 {
-    if text.len() <= at {
-        return at;
+    // Byte by byte: a `copy_from_slice` of a name into a lent text becomes a call of memmove, which the library for C doesn't ask for.
+    let mut p = at;
+    for i in 0..bytes.len() {
+        if text.len() <= p {
+            return p;
+        }
+        text[p] = bytes[i];
+        p += 1;
     }
-    let n = bytes.len().min(text.len() - at);
-    text[at..at + n].copy_from_slice(&bytes[..n]);
-    at + n
+    p
 }
 
 // One digit.
