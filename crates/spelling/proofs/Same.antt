@@ -1,16 +1,13 @@
 -- Equal bytes: two runs are the same where all their bytes are.
 -- Assumes nothing.
-use mathlib.Core.Path.{◌≡◌, refl, ap, ◌∙◌}
+use mathlib.Core.Path.{◌≡◌, refl, ap}
 use mathlib.Core.Bool.{Bool, true, ◌&&◌, ◌||◌}
 use mathlib.Core.List.{List, [], ◌∷◌}
 use Prim.Native.Nat.{ℕ}
 use borrow.Author.Tests.{eq-eqb, eqb-true}
 use lib.Pointwise.{pointwise}
-use Rattle.std.specs.List.{list_any}
-use Rattle.std.proofs.lemmas.Cmp.{nat_list_eq_equiv}
 use lib.Dec.{eqb}
 use Rattle.reading.proofs.Lists.{true-false, and_first, and_second, and_both}
-use Rattle.reading.specs.Reading.{is_in}
 use Rattle.spelling.specs.Spelling.{same_bytes}
 
 pub same_refl : (xs : List ℕ) → same_bytes xs xs ≡ true
@@ -32,10 +29,3 @@ equal_is [] [] = refl
 equal_is [] (y ∷ ys) = refl
 equal_is (x ∷ xs) [] = refl
 equal_is (x ∷ xs) (y ∷ ys) = ap (λ (b : Bool). eqb x y && b) (equal_is xs ys)
-
--- and so is its search for a name among words
-pub any_is_in : (name : List ℕ) (words : List (List ℕ)) → list_any (λ w. pointwise eqb w name) words ≡ is_in same_bytes name words
-any_is_in name [] = refl
-any_is_in name (w ∷ ws) =
-    ap (λ (b : Bool). b || list_any (λ w. pointwise eqb w name) ws) (nat_list_eq_equiv.symm w name ∙ equal_is name w)
-    ∙ ap (λ (b : Bool). same_bytes name w || b) (any_is_in name ws)

@@ -7,9 +7,9 @@ use spelling::letter::is_name_byte;
 // An infix operator: its level, the lowest level at its right, its end and its code.
 #[derive(Clone, Copy)]
 pub struct Infix {
+    pub next: usize,
     pub level: u8,
     pub right: u8,
-    pub next: usize,
     pub code: u8,
 }
 
@@ -57,8 +57,12 @@ pub fn operator(text: &[u8], at: usize) -> Result<Next, Stop>
     if text.len() <= at {
         return Ok(Next::Nothing(at));
     }
-    match text[at] {
-        b' ' => operator(text, at + 1),
+    // Spaces by a return of their own, and not by an arm of the match: so the arms' answers don't pass through one more copy.
+    let b = text[at];
+    if b == b' ' {
+        return operator(text, at + 1);
+    }
+    match b {
         b'&' => Ok(Next::Infix(Infix {
             level: 2,
             right: 3,

@@ -7,8 +7,8 @@ use Rattle.tokens.proofs.operator.+operator.Goals as goal
 pub returns-then-text-at : goal.returns-then-text-at
 returns-then-text-at t c = op-end _ c.args.at c.if-text-at.true
 
-pub returns-in-32 : goal.returns-in-32
-returns-in-32 t c = op-blank _ c.if-text-at.false c.operator.result c.in-32.is c.operator.ensures
+pub returns-then-b-eq32 : goal.returns-then-b-eq32
+returns-then-b-eq32 t c = op-blank _ c.if-text-at.false c.operator.result c.if-b-eq32.true c.operator.ensures
 
 pub returns-in-38 : goal.returns-in-38
 returns-in-38 t c = op-and _ c.if-text-at.false c.in-38.is
