@@ -18,6 +18,8 @@ const QUERY: usize = 72;
 
 const LINE: usize = 37;
 
+const LINES: usize = 256;
+
 const DIGITS: &[u8; 16] = b"0123456789abcdef";
 
 // The value of a lower-case hex digit.
@@ -97,20 +99,23 @@ fn write_line(line: &mut [u8; LINE], answer: Option<Result<CharSeq, Refusal>>) {
     line[36] = b'\n';
 }
 
-// Answers the queries of the text, the last one perhaps cut off, as many as there are lines for.
-fn answer_lines(text: &[u8], lines: &mut [[u8; LINE]]) {
+// Answers the queries of the text, the last one perhaps cut off, as many as there are lines for; answers how many there were.
+fn answer_lines(text: &[u8], lines: &mut [[u8; LINE]; LINES]) -> usize
+    ensures { result ≤ 256 }
+{
     for (line, query) in lines.iter_mut().zip(text.chunks(QUERY)) {
         write_line(line, answer(query));
     }
+    text.len().div_ceil(QUERY).min(LINES)
 }
 
 // Reads as many as 256 queries and answers them. Says whether there may be more.
 fn answer_some(from: &mut impl Read, to: &mut impl Write) -> io::Result<bool> {
-    let mut text = [0u8; 256 * QUERY];
-    let mut lines = [[0u8; LINE]; 256];
+    let mut text = [0u8; LINES * QUERY];
+    let mut lines = [[0u8; LINE]; LINES];
     let n = whole_input::fill(from, &mut text)?;
-    answer_lines(&text[..n], &mut lines);
-    to.write_all(lines[..n.div_ceil(QUERY)].as_flattened())?;
+    let answered = answer_lines(&text[..n], &mut lines);
+    to.write_all(lines[..answered].as_flattened())?;
     Ok(n == text.len())
 }
 
