@@ -36,7 +36,7 @@ impl From<End> for u64 {
 }
 
 // The size, the cursor before its next candidate and the counts: with the table it is all that the next call needs to go on. `root` is FOUND's root node. It
-// stands beside the end, since a state that a caller hands in may have one at any end, and what it hands in comes back as it was.
+// stands beside the end, since a state that a caller hands in may have one at any end, and one that has ended is handed back as it was.
 #[derive(Clone, Copy)]
 pub struct State {
     pub size: usize,
